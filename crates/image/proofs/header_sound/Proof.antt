@@ -1,0 +1,82 @@
+use borrow.Author.Needs.{needs}
+use native.Mathlib.Omega.{arith}
+use Rattle.xdr.proofs.Tests.{no}
+use Rattle.image.proofs.Laws.{header-facts, header-holds}
+use Rattle.image.proofs.header_sound.Statement.{statement}
+use Rattle.image.proofs.header_sound.Tie as tie
+use Rattle.image.proofs.header_sound.Reads as reads
+use Rattle.image.proofs.header_sound.Lts as lts
+use Rattle.image.proofs.field.Reads as field-reads
+
+returns : tie.Need-returns
+returns c = no _ (λ h. let f = header-facts _ h in omega arith)
+
+field-requires : tie.Need-field-requires
+field-requires c κs = search needs
+
+field-requires-2 : tie.Need-field-requires-2
+field-requires-2 c κs = search needs
+
+field-requires-3 : tie.Need-field-requires-3
+field-requires-3 c κs = search needs
+
+field-requires-4 : tie.Need-field-requires-4
+field-requires-4 c κs = search needs
+
+mul-body : tie.Need-mul-body
+mul-body c = search needs
+
+add-body : tie.Need-add-body
+add-body c = search needs
+
+returns-2 : tie.Need-returns-2
+returns-2 c = no _ (λ h. let f = header-facts _ h in omega arith)
+
+returns-3 : tie.Need-returns-3
+returns-3 c = no _ (λ h. let f = header-facts _ h in omega arith)
+
+returns-4 : tie.Need-returns-4
+returns-4 c = no _ (λ h. let f = header-facts _ h in omega arith)
+
+returns-5 : tie.Need-returns-5
+returns-5 c = no _ (λ h. let f = header-facts _ h in omega arith)
+
+sub-if6 : tie.Need-sub-if6
+sub-if6 c = search needs
+
+returns-6 : tie.Need-returns-6
+returns-6 c = no _ (λ h. let f = header-facts _ h in omega arith)
+
+returns-7 : tie.Need-returns-7
+returns-7 c = no _ (λ h. let f = header-facts _ h in omega arith)
+
+sub-if8 : tie.Need-sub-if8
+sub-if8 c = search needs
+
+returns-8 : tie.Need-returns-8
+returns-8 c = no _ (λ h. let f = header-facts _ h in omega arith)
+
+returns-9 : tie.Need-returns-9
+returns-9 c = header-holds _ (search needs)
+
+pub header-sound-spec : {M : Type 1} → statement M
+header-sound-spec =
+    tie.close
+    (tie.spec
+    returns
+    field-requires
+    field-requires-2
+    field-requires-3
+    field-requires-4
+    mul-body
+    add-body
+    returns-2
+    returns-3
+    returns-4
+    returns-5
+    sub-if6
+    returns-6
+    returns-7
+    sub-if8
+    returns-8
+    returns-9)
