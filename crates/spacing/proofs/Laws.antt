@@ -1,0 +1,97 @@
+-- The laws of spacing. Assumes nothing.
+use Prim.Native.Nat.{ℕ, zero, suc, _+_, _-_, _*_, _≤_, _<_}
+use mathlib.Core.List.{List}
+use mathlib.Core.Bool.{Bool, true, false}
+use mathlib.Core.Path.{_≡_, refl, sym, _∙_}
+use native.Mathlib.Omega.{arith}
+use lib.Dec.{eqb}
+use borrow.Author.Tests.{eq-eqb, ne-eqb}
+use Rattle.xdr.specs.Choose.{choose}
+use Rattle.image.specs.Image.{count, entryLen}
+use Rattle.image.specs.Sound.{Placed}
+use Rattle.spacing.specs.declared.Spaced.{Spaced}
+use Rattle.spacing.specs.Spacing.{ended, walk, spacing, aheadOf, passes, after, counted, stops, goesForward, countsMarks}
+
+-- a step stays within the table
+module _ (n i rest : ℕ) (some : rest ≡ 0 → ⊥) where
+  pub passes-below : (f : Bool) → i ≤ n → rest ≡ aheadOf f n i → passes f i < n
+  unfolding aheadOf passes after
+  passes-below true h e = omega arith
+  passes-below false h e = omega arith
+
+  pub after-within : (f : Bool) → i ≤ n → rest ≡ aheadOf f n i → after f i ≤ n
+  unfolding aheadOf passes after
+  after-within true h e = omega arith
+  after-within false h e = omega arith
+
+  pub after-ahead : (f : Bool) → i ≤ n → rest ≡ aheadOf f n i → rest - 1 ≡ aheadOf f n (after f i)
+  unfolding aheadOf passes after
+  after-ahead true h e = omega arith
+  after-ahead false h e = omega arith
+
+module _ (f marks : Bool) (l : List ℕ) where
+  pub walk-done : (k i left : ℕ) → left ≡ 0 → walk f marks l k i left ≡ ended 0 i 0
+  unfolding walk choose
+  walk-done zero i left h = rw (eq-eqb _ _ h)
+  walk-done (suc k) i left h = rw (eq-eqb _ _ h)
+
+  pub walk-end : (k i left : ℕ) → (left ≡ 0 → ⊥) → k ≡ 0 → walk f marks l k i left ≡ ended 13 i left
+  unfolding walk choose
+  walk-end k i left h e = rw (e, ne-eqb _ _ h)
+
+  pub walk-stop : (m i left : ℕ) → (left ≡ 0 → ⊥) → (m ≡ 0 → ⊥) → marks ≡ false → entryLen l (passes f i) ≡ 0 → walk f marks l m i left ≡ ended 12 (after f i) left
+  unfolding walk stops counted choose
+  walk-stop m i left some on by q =
+      let more : m ≡ suc (m - 1) = omega arith in
+      rw (more, ne-eqb _ _ some, eq-eqb _ _ q, by)
+
+  -- one entry ahead, and k after it
+  module _ (m k i left : ℕ) (some : left ≡ 0 → ⊥) (more : m ≡ suc k) where
+    pub walk-mark : marks ≡ true → entryLen l (passes f i) ≡ 0 → walk f marks l m i left ≡ walk f marks l k (after f i) (left - 1)
+    unfolding walk stops counted choose
+    walk-mark by q = rw (more, ne-eqb _ _ some, eq-eqb _ _ q, by)
+
+    pub walk-pass : marks ≡ true → (entryLen l (passes f i) ≡ 0 → ⊥) → walk f marks l m i left ≡ walk f marks l k (after f i) left
+    unfolding walk stops counted choose
+    walk-pass by q = rw (more, ne-eqb _ _ some, ne-eqb _ _ q, by)
+
+    pub walk-record : marks ≡ false → (entryLen l (passes f i) ≡ 0 → ⊥) → walk f marks l m i left ≡ walk f marks l k (after f i) (left - 1)
+    unfolding walk stops counted choose
+    walk-record by q = rw (more, ne-eqb _ _ some, ne-eqb _ _ q, by)
+
+-- ---- where a walk ends: within the table, and with no more left than was asked
+pub record Walked (n times : ℕ) (s : Spaced) : Type 0 where
+  pub within : s .position ≤ n
+  pub least : s .residue ≤ times
+
+either : {n times : ℕ} (b : Bool) (x y : Spaced) → Walked n times x → Walked n times y → Walked n times (choose b x y)
+unfolding choose
+either true x y p q = p
+either false x y p q = q
+
+counted-less : (marks mark : Bool) (left : ℕ) → counted marks mark left ≤ left
+unfolding counted
+counted-less true true left = omega arith
+counted-less true false left = omega arith
+counted-less false true left = omega arith
+counted-less false false left = omega arith
+
+module _ (f marks : Bool) (l : List ℕ) (n : ℕ) where
+  walked : (k i left : ℕ) → i ≤ n → k ≡ aheadOf f n i → Walked n left (walk f marks l k i left)
+  unfolding walk
+  walked zero i left h e = either (eqb left 0) (ended 0 i 0) (ended 13 i left) (record { within = h; least = omega arith }) (record { within = h; least = omega arith })
+  walked (suc k) i left h e =
+      let mark = eqb (entryLen l (passes f i)) 0 in
+      let some : suc k ≡ 0 → ⊥ = λ z. omega arith in
+      let step = after-within n i (suc k) some f h e in
+      let pred : suc k - 1 ≡ k = omega arith in
+      let ahead : k ≡ aheadOf f n (after f i) = sym pred ∙ after-ahead n i (suc k) some f h e in
+      let rest = walked k (after f i) (counted marks mark left) step ahead in
+      let less = counted-less marks mark left in
+      either (eqb left 0) (ended 0 i 0) _ (record { within = h; least = omega arith })
+      (either (stops marks mark) (ended 12 (after f i) left) _ (record { within = step; least = omega arith })
+      (record { within = rest .within; least = omega arith }))
+
+pub spaced-within : (l : List ℕ) (op p times : ℕ) → p ≤ count l → Walked (count l) times (spacing l op p times)
+unfolding spacing
+spaced-within l op p times h = walked (goesForward op) (countsMarks op) l (count l) _ p times h refl

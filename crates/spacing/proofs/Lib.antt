@@ -1,0 +1,2 @@
+-- The laws of spacing, for the loop and for the crates above.
+pub mod Laws
