@@ -101,9 +101,10 @@ pub fn is_faulty(image: &[u8], position: usize) -> bool
 }
 
 // The file and the block number of a position.
+#[repr(C)]
 pub struct Place {
-    pub file: usize,
-    pub block: usize,
+    pub file: u32,
+    pub block: u32,
 }
 
 // The marks before a position, and the records since the last of them.
@@ -111,8 +112,8 @@ pub fn place_of(image: &[u8], position: usize) -> Place
     requires { ⌜ Placed (now image) position ⌝ }
     ensures { λ r. ⌜ r ≡ placeAt (now (image .entry)) position ⌝ }
 {
-    let mut file: usize = 0;
-    let mut block: usize = 0;
+    let mut file: u32 = 0;
+    let mut block: u32 = 0;
     let mut i: usize = 0;
     while i < position {
         let len = field(image, 16 + i * 8);

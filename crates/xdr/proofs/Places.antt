@@ -6,7 +6,7 @@ use mathlib.Core.List.{List, [], _∷_, _++_, append-nil, append-assoc}
 use native.Mathlib.Omega.{arith}
 use native.Mathlib.Nat.{add-assoc, add-zero, div-add-mod', div-lt-iff-lt-mul}
 use lib.ListN.{length, take, drop, getD, length-append, length-take, length-drop, List·getD-append}
-use lib.Seq.{getD-take, getD-drop, getD-append-add, length-take-le, take-at, drop-at, take-append-seam}
+use lib.Seq.{ext-getD, getD-take, getD-drop, getD-append-add, length-take-le, take-at, drop-at, take-append-seam}
 use Rattle.xdr.specs.Xdr.{be32, be32s, be64, word, hyper, overlay}
 use Rattle.xdr.proofs.Laws.{length-be32, length-be32s, word-be32, word-drop}
 
@@ -72,6 +72,16 @@ module _ (at : ℕ) (b l : List ℕ) (fits : at ≤ length l) where
   pub part-back : take (length b) (drop at (overlay at b l)) ≡ b
   unfolding overlay
   part-back = rw (drop-at (take at l) (b ++ drop (at + length b) l) at front-length, take-append-seam)
+
+-- parts of two lists that agree there
+pub part-same : (a n : ℕ) (l m : List ℕ) → length m ≡ length l → ((i : ℕ) → a ≤ i → i < a + n → getD m i 0 ≡ getD l i 0) → take n (drop a m) ≡ take n (drop a l)
+part-same a n l m e f =
+    let len : length (take n (drop a m)) ≡ length (take n (drop a l)) = simp (length-take, length-drop) (rw e) in
+    ext-getD 0 (take n (drop a m)) (take n (drop a l)) len
+    (λ i h.
+    let b : i < n = omega (arith, simp (length-take, length-drop) at h) in
+    getD-take n (drop a m) i 0 b ∙ getD-drop a m i 0 ∙ f (a + i) (omega arith) (omega arith)
+    ∙ sym (getD-take n (drop a l) i 0 b ∙ getD-drop a l i 0))
 
 -- two words that were written one after another
 module _ (at a b : ℕ) (l : List ℕ) (fits : at ≤ length l) where

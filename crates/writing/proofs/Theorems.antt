@@ -1,0 +1,207 @@
+-- What a write leaves: the image is sound, what stands before the position stays, what was written is there. Assumes nothing.
+use Prim.Native.Nat.{ℕ, zero, suc, _+_, _-_, _*_, _≤_, _<_}
+use mathlib.Core.List.{List, [], _∷_}
+use mathlib.Core.Path.{_≡_, refl, sym, ap, _∙_}
+use native.Mathlib.Omega.{arith}
+use native.Mathlib.Nat.{add-zero}
+use lib.ListN.{length, take, drop, getD}
+use borrow.Author.Count.{below-more}
+use Rattle.xdr.specs.Xdr.{word, overlay}
+use Rattle.xdr.proofs.Laws.{length-overlay}
+use Rattle.xdr.proofs.Places.{word-before, byte-before, part-back, part-same}
+use Rattle.image.specs.Image.{capacity, count, used, entryLen, entryStart, entryBytes, bodyAt, bodyLen}
+use Rattle.image.specs.Sound.{Header, Entry, Sound, Placed, sumBefore}
+use Rattle.image.proofs.Laws.{sum-next, sum-mono, sum-same}
+use Rattle.writing.specs.Writing.{kept, Room, withEntry, written, withMarks}
+use Rattle.writing.proofs.Laws.{kept-end, kept-sum, kept-used}
+use Rattle.writing.proofs.Entries.{entry-length, entry-count, entry-used, entry-len, entry-start, entry-head, entry-table, entry-byte, mark-is}
+
+module _ (l : List ℕ) (p : ℕ) (b : List ℕ) (at : Placed l p) (small : length b ≤ 32768) (room : Room l p (length b)) where
+  table-fits : 24 + p * 8 ≤ length l
+  table-fits = let f = at .ok .header in omega arith
+
+  few : p < 4096
+  few = let f = at .ok .header in omega arith
+
+  bytes : kept l p + length b < 4294967296
+  bytes = let f = at .ok .header in omega arith
+
+  front-fits : bodyAt l + kept l p ≤ length (withEntry l p (kept l p) (length b))
+  front-fits =
+      let e = entry-length l p (kept l p) (length b) table-fits few bytes in
+      let f = at .ok .header in
+      omega arith
+
+  pub written-length : length (written l p b) ≡ length l
+  unfolding written
+  written-length =
+      let e = entry-length l p (kept l p) (length b) table-fits few bytes in
+      let f = at .ok .header in
+      length-overlay (bodyAt l + kept l p) b (withEntry l p (kept l p) (length b)) (omega arith) ∙ e
+
+  -- a word before the body
+  written-word : (i : ℕ) → i + 4 ≤ bodyAt l → word (written l p b) i ≡ word (withEntry l p (kept l p) (length b)) i
+  unfolding written
+  written-word i h = word-before (bodyAt l + kept l p) b (withEntry l p (kept l p) (length b)) front-fits i (omega arith)
+
+  pub written-count : count (written l p b) ≡ p + 1
+  written-count = written-word 8 (omega arith) ∙ entry-count l p (kept l p) (length b) table-fits few bytes
+
+  pub written-used : used (written l p b) ≡ kept l p + length b
+  written-used = written-word 12 (omega arith) ∙ entry-used l p (kept l p) (length b) table-fits few bytes
+
+  pub written-capacity : capacity (written l p b) ≡ capacity l
+  written-capacity = written-word 4 (omega arith) ∙ entry-head l p (kept l p) (length b) table-fits few bytes 4 (omega arith)
+
+  written-header : Header (written l p b)
+  written-header =
+      let f = at .ok .header in
+      let e0 = written-word 0 (omega arith) ∙ entry-head l p (kept l p) (length b) table-fits few bytes 0 (omega arith) in
+      let e1 = written-length in
+      let e2 = written-count in
+      let e3 = written-used in
+      let e4 = written-capacity in
+      record {
+        whole = omega arith;
+        first = omega arith;
+        some = omega arith;
+        few = omega arith;
+        table = omega arith;
+        body = omega arith;
+        entries = omega arith;
+        bytes = omega arith;
+      }
+
+  pub written-len : entryLen (written l p b) p ≡ length b
+  written-len = written-word (16 + p * 8) (omega arith) ∙ entry-len l p (kept l p) (length b) table-fits few bytes
+
+  pub written-start : entryStart (written l p b) p ≡ kept l p
+  written-start = written-word (20 + p * 8) (omega arith) ∙ entry-start l p (kept l p) (length b) table-fits few bytes
+
+  pub same-len : (i : ℕ) → i < p → entryLen (written l p b) i ≡ entryLen l i
+  same-len i h =
+      written-word (16 + i * 8) (omega arith) ∙ entry-table l p (kept l p) (length b) table-fits few bytes (16 + i * 8) (omega arith) (omega arith)
+
+  pub same-start : (i : ℕ) → i < p → entryStart (written l p b) i ≡ entryStart l i
+  same-start i h =
+      written-word (20 + i * 8) (omega arith) ∙ entry-table l p (kept l p) (length b) table-fits few bytes (20 + i * 8) (omega arith) (omega arith)
+
+  same-sum : (i : ℕ) → i ≤ p → sumBefore (written l p b) i ≡ sumBefore l i
+  same-sum i h = sum-same l (written l p b) i (λ j k. same-len j (omega arith))
+
+  old-entry : (i : ℕ) → i < p → Entry (written l p b) i
+  old-entry i h =
+      let n = at .within in
+      let f = at .ok .entry i (omega arith) in
+      let e = same-len i h in
+      record { short = omega arith; start = same-start i h ∙ f .start ∙ sym (same-sum i (omega arith)) }
+
+  new-entry : Entry (written l p b) p
+  new-entry =
+      let e = written-len in
+      record { short = omega arith; start = written-start ∙ kept-sum l p at ∙ sym (same-sum p (omega arith)) }
+
+  -- a record that is written to a sound image leaves it sound
+  pub written-sound : Sound (written l p b)
+  written-sound =
+      let n = written-count in
+      record {
+        header = written-header;
+        entry = λ i h. below-more (Entry (written l p b)) p old-entry new-entry i (omega arith);
+        total = written-used ∙ (let a = kept-sum l p at in let c = same-sum p (omega arith) in let d = written-len in let s = sum-next (written l p b) p in omega arith) ∙ ap (sumBefore (written l p b)) (sym n);
+      }
+
+  -- and the position after it is one of its tape
+  pub written-placed : Placed (written l p b) (p + 1)
+  written-placed = let n = written-count in record { ok = written-sound; within = omega arith }
+
+  -- the bytes of the record are there
+  body-back : take (length b) (drop (bodyAt l + kept l p) (written l p b)) ≡ b
+  unfolding written
+  body-back = part-back (bodyAt l + kept l p) b (withEntry l p (kept l p) (length b)) front-fits
+
+  -- what was written at a position stands there
+  pub written-there : entryBytes (written l p b) p ≡ b
+  unfolding entryBytes
+  written-there = rw (written-len, written-start, written-capacity) body-back
+
+  -- a byte of the body before the new record
+  same-byte : (i : ℕ) → bodyAt l ≤ i → i < bodyAt l + kept l p → getD (written l p b) i 0 ≡ getD l i 0
+  unfolding written
+  same-byte i h k =
+      let f = at .ok .header in
+      byte-before (bodyAt l + kept l p) b (withEntry l p (kept l p) (length b)) front-fits i k
+      ∙ entry-byte l p (kept l p) (length b) table-fits few bytes i (omega arith)
+
+  -- the records before the position keep their bytes
+  pub same-bytes : (i : ℕ) → i < p → entryBytes (written l p b) i ≡ entryBytes l i
+  unfolding entryBytes
+  same-bytes i h =
+      let n = at .within in
+      let f = at .ok .entry i (omega arith) in
+      let s = sum-next l i in
+      let g : i + 1 + (p - (i + 1)) ≡ p = omega arith in
+      let m : sumBefore l (i + 1) ≤ sumBefore l p = rw g at (sum-mono l (i + 1) (p - (i + 1))) in
+      let k = kept-sum l p at in
+      rw (same-len i h, same-start i h, written-capacity)
+      (part-same (bodyAt l + entryStart l i) (entryLen l i) l (written l p b) written-length (λ j a c. same-byte j (omega arith) (omega arith)))
+
+-- ---- marks
+-- while marks are written: `left` are to go, from position `at` on
+pub record Marking (l₀ : List ℕ) (p n keep : ℕ) (l : List ℕ) (at left : ℕ) : Type 0 where
+  pub here : Placed l at
+  pub slots : at + left ≤ capacity l
+  pub keeps : keep ≡ kept l at
+  pub fits : keep ≤ bodyLen l
+  pub long : length l ≡ length l₀
+  pub rest : withMarks l₀ p n ≡ withMarks l at left
+
+marks-more : (l : List ℕ) (at m k : ℕ) → m ≡ suc k → withMarks l at m ≡ withMarks (written l at []) (at + 1) k
+unfolding withMarks
+marks-more l at m k e = rw e
+
+pub marks-none : (l : List ℕ) (at left : ℕ) → left ≡ 0 → withMarks l at left ≡ l
+unfolding withMarks
+marks-none l at left e = rw e
+
+-- there is room for a mark at a position below C
+pub mark-room : (l : List ℕ) (p : ℕ) → Placed l p → p < capacity l → Room l p 0
+mark-room l p f h =
+    let u = kept-used l p f in
+    let b = f .ok .header .bytes in
+    record { slot = h; fits = omega arith }
+
+pub mark-step : (l₀ : List ℕ) (p n keep : ℕ) (l : List ℕ) (at left : ℕ) (l′ : List ℕ) → Marking l₀ p n keep l at left → 0 < left → l′ ≡ withEntry l at keep 0
+    → Marking l₀ p n keep l′ (at + 1) (left - 1)
+mark-step l₀ p n keep l at left l′ m some e =
+    let small : length {A = ℕ} [] ≤ 32768 = omega arith in
+    let s = m .slots in
+    let room = mark-room l at (m .here) (omega arith) in
+    let same : l′ ≡ written l at [] = rw (m .keeps) at e ∙ mark-is l at in
+    let c = written-count l at [] (m .here) small room in
+    let us = written-used l at [] (m .here) small room in
+    let cap = written-capacity l at [] (m .here) small room in
+    let len = written-length l at [] (m .here) small room in
+    let k = kept-end (written l at []) (at + 1) (omega arith) in
+    let q = m .keeps in
+    let f = m .fits in
+    rw same
+    (record {
+      here = written-placed l at [] (m .here) small room;
+      slots = omega arith;
+      keeps = omega arith;
+      fits = omega arith;
+      long = len ∙ m .long;
+      rest = m .rest ∙ marks-more l at left (left - 1) (omega arith);
+    })
+
+-- marks that are written to a sound image leave it sound, and the tape after them
+pub marks-placed : (k : ℕ) (l : List ℕ) (p : ℕ) → Placed l p → p + k ≤ capacity l → Placed (withMarks l p k) (p + k)
+unfolding withMarks
+marks-placed zero l p f h = rw (add-zero p) f
+marks-placed (suc k) l p f h =
+    let small : length {A = ℕ} [] ≤ 32768 = omega arith in
+    let room = mark-room l p f (omega arith) in
+    let cap = written-capacity l p [] f small room in
+    let g : p + suc k ≡ p + 1 + k = omega arith in
+    rw g (marks-placed k (written l p []) (p + 1) (written-placed l p [] f small room) (omega arith))
