@@ -1,0 +1,113 @@
+-- Which case of each definition of specs/Opaque.antt holds, by plain facts on numbers and on what the parts give; and one write
+-- after another. Assumes nothing.
+use Prim.Native.Nat.{ℕ, zero, suc, _+_, _-_, _*_, _/_, _%_, _≤_, _<_}
+use mathlib.Core.Path.{_≡_, refl, sym}
+use mathlib.Core.List.{List, _++_}
+use native.Mathlib.Omega.{arith}
+use native.Mathlib.Nat.{not-suc-le-zero}
+use lib.ListN.{length, replicate, length-append, length-replicate}
+use borrow.Author.Tests.{le-leb, lt-leb}
+use Rattle.xdr.specs.Choose.{choose}
+use Rattle.xdr.specs.Xdr.{be32, word, overlay}
+use Rattle.xdr.proofs.Laws.{more, length-be32}
+use Rattle.xdr_opaque.specs.Opaque.{wordAt, filled, opaqueAt, afterOpaque, andThen, pairAt, pairsAt, listAt}
+use Rattle.xdr_opaque.specs.Put.{Put, fill, opaque}
+use Rattle.xdr_opaque.specs.declared.Opaque.the-variants.{At, Bad}
+use Rattle.xdr_opaque.specs.declared.After.the-variants.{Next, Short}
+use Rattle.xdr_opaque.specs.declared.Word.the-variants as Found
+
+module _ (l : List ℕ) (at : ℕ) where
+  -- a word that may be missing
+  pub word-short : length l < at + 4 → Found.Short ≡ wordAt l at
+  unfolding wordAt choose
+  word-short h = rw (lt-leb (at + 4) (length l) h)
+
+  pub word-there : (v : ℕ) → at + 4 ≤ length l → v ≡ word l at → Found.Value v ≡ wordAt l at
+  unfolding wordAt choose
+  word-there v h e = rw (le-leb (at + 4) (length l) h, e)
+
+  -- opaque data
+  pub opaque-short : length l < at + 4 → Bad ≡ opaqueAt l at
+  unfolding opaqueAt choose
+  opaque-short h = rw (lt-leb (at + 4) (length l) h)
+
+  pub opaque-cut : (n : ℕ) → n ≡ word l at → at + 4 ≤ length l → length l < at + 4 + filled n → Bad ≡ opaqueAt l at
+  unfolding opaqueAt choose
+  opaque-cut n e h k = rw (le-leb (at + 4) (length l) h, ← e, lt-leb (at + 4 + filled n) (length l) k)
+
+  pub opaque-whole : (n : ℕ) → n ≡ word l at → at + 4 + filled n ≤ length l → At (at + 4) n (at + 4 + filled n) ≡ opaqueAt l at
+  unfolding opaqueAt choose
+  opaque-whole n e k =
+      let h : at + 4 ≤ length l = omega arith in
+      rw (le-leb (at + 4) (length l) h, ← e, le-leb (at + 4 + filled n) (length l) k)
+
+  -- a pair of strings
+  pub pair-first : Bad ≡ opaqueAt l at → Short ≡ pairAt l at
+  unfolding pairAt afterOpaque
+  pair-first e = rw (← e)
+
+  pub pair-second : (s n x : ℕ) → At s n x ≡ opaqueAt l at → Bad ≡ opaqueAt l x → Short ≡ pairAt l at
+  unfolding pairAt afterOpaque
+  pair-second s n x e f = rw (← e, ← f)
+
+  pub pair-whole : (s n x s′ n′ y : ℕ) → At s n x ≡ opaqueAt l at → At s′ n′ y ≡ opaqueAt l x → Next y ≡ pairAt l at
+  unfolding pairAt afterOpaque
+  pair-whole s n x s′ n′ y e f = rw (← e, ← f)
+
+  -- pairs one after another
+  pub pairs-none : (n : ℕ) → n ≤ 0 → Next at ≡ pairsAt n l at
+  unfolding pairsAt
+  pairs-none zero h = refl
+  pairs-none (suc n) h = absurd (not-suc-le-zero h)
+
+  pub pairs-short : (n : ℕ) → 0 < n → Short ≡ pairAt l at → Short ≡ pairsAt n l at
+  unfolding pairsAt andThen
+  pairs-short zero h e = absurd (not-suc-le-zero h)
+  pairs-short (suc n) h e = rw (← e)
+
+  pub pairs-more : (n x : ℕ) → 0 < n → Next x ≡ pairAt l at → pairsAt n l at ≡ pairsAt (n - 1) l x
+  unfolding pairsAt andThen
+  pairs-more zero x h e = absurd (not-suc-le-zero h)
+  pairs-more (suc n) x h e = let k : suc n - 1 ≡ n = omega arith in rw (k, ← e)
+
+  -- a counted list of pairs
+  pub list-short : (most : ℕ) → length l < at + 4 → Short ≡ listAt most l at
+  unfolding listAt choose
+  list-short most h = rw (lt-leb (at + 4) (length l) h)
+
+  pub list-long : (most n : ℕ) → n ≡ word l at → at + 4 ≤ length l → most < n → Short ≡ listAt most l at
+  unfolding listAt choose
+  list-long most n e h k = rw (le-leb (at + 4) (length l) h, ← e, lt-leb n most k)
+
+  pub list-whole : (most n : ℕ) → n ≡ word l at → at + 4 ≤ length l → n ≤ most → pairsAt n l (at + 4) ≡ listAt most l at
+  unfolding listAt choose
+  list-whole most n e h k = rw (le-leb (at + 4) (length l) h, ← e, le-leb n most k)
+
+-- a write, and a write where it ends, are one write
+pub then : {at next last : ℕ} {a b l m m′ : List ℕ} → Put at a l next m → Put next b m last m′ → Put at (a ++ b) l last m′
+then {at} {next} {last} {a} {b} {l} {m} {m′} p q =
+    record { end = simp length-append (omega (arith, p .end, q .end)); wrote = more at next a b l m m′ (p .wrote) (q .wrote) (sym (p .end)) }
+
+-- what a call that hands back no offset leaves
+pub put : {at : ℕ} {b l m : List ℕ} (next : ℕ) → m ≡ overlay at b l → next ≡ at + length b → Put at b l next m
+put next e f = record { end = f; wrote = e }
+
+pub length-opaque : (s : List ℕ) → length (opaque s) ≡ 4 + length s + fill (length s)
+unfolding opaque
+length-opaque s = simp (length-append, length-be32, length-replicate)
+
+-- the three writes of opaque data are one
+pub then-opaque : {at x y next : ℕ} {s l m m′ m″ : List ℕ} → Put at (be32 (length s)) l x m → Put x s m y m′ → Put y (replicate (fill (length s)) 0) m′ next m″
+    → Put at (opaque s) l next m″
+unfolding opaque
+then-opaque p q r = then (then p q) r
+
+-- bytes and their fill are what the reader asks for
+pub filled-fill : (n : ℕ) → n + fill n ≡ filled n
+filled-fill n = omega arith
+
+pub length-opaque-filled : (s : List ℕ) → length (opaque s) ≡ 4 + filled (length s)
+length-opaque-filled s =
+    let e = length-opaque s in
+    let f = filled-fill (length s) in
+    omega arith

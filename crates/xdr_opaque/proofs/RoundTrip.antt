@@ -1,0 +1,41 @@
+-- Opaque data that was written is read back. Assumes nothing.
+use Prim.Native.Nat.{ℕ, _+_, _^_, _≤_, _<_}
+use mathlib.Core.Path.{_≡_, refl, sym, ap, _∙_}
+use mathlib.Core.List.{List, _++_, append-assoc}
+use native.Mathlib.Omega.{arith}
+use lib.ListN.{length, take, drop, replicate, length-append}
+use lib.Seq.{drop-append-seam, drop-append-add, drop-at, take-append-seam}
+use Rattle.xdr.specs.Xdr.{be32, word}
+use Rattle.xdr.proofs.Laws.{length-be32, word-be32, word-drop}
+use Rattle.xdr_opaque.specs.Opaque.{filled, opaqueAt}
+use Rattle.xdr_opaque.specs.Put.{fill, opaque}
+use Rattle.xdr_opaque.specs.RoundTrip.{OpaqueBack, RoundTrip}
+use Rattle.xdr_opaque.specs.declared.Opaque.the-variants.{At}
+use Rattle.xdr_opaque.proofs.Laws.{opaque-whole, length-opaque-filled}
+
+module _ (p s q : List ℕ) where
+  -- what stands after the length word
+  tail : List ℕ
+  tail = s ++ (replicate (fill (length s)) 0 ++ q)
+
+  parts : opaque s ++ q ≡ be32 (length s) ++ tail
+  unfolding opaque tail
+  parts = simp append-assoc
+
+  length-back : length s < 2 ^ 32 → length s ≡ word (p ++ (opaque s ++ q)) (length p)
+  length-back h = sym (rw (word-drop (p ++ (opaque s ++ q)) (length p), drop-append-seam p (opaque s ++ q), parts) (word-be32 (length s) tail h))
+
+  within : length p + 4 + filled (length s) ≤ length (p ++ (opaque s ++ q))
+  within = let e = length-opaque-filled s in simp length-append (omega arith)
+
+  found : length s < 2 ^ 32 → At (length p + 4) (length s) (length p + length (opaque s)) ≡ opaqueAt (p ++ (opaque s ++ q)) (length p)
+  found h =
+      let e : length p + length (opaque s) ≡ length p + 4 + filled (length s) = omega (arith, length-opaque-filled s) in
+      rw e (opaque-whole (p ++ (opaque s ++ q)) (length p) (length s) (length-back h) within)
+
+  bytes : take (length s) (drop (length p + 4) (p ++ (opaque s ++ q))) ≡ s
+  unfolding tail
+  bytes = rw (drop-append-add p (opaque s ++ q) 4, parts, drop-at (be32 (length s)) tail 4 (length-be32 (length s))) (take-append-seam s (replicate (fill (length s)) 0 ++ q))
+
+pub opaque-back : RoundTrip
+opaque-back p s q h = record { found = found p s q h; bytes = bytes p s q }
