@@ -1,12 +1,14 @@
 -- Which case of each definition of specs/Opaque.antt holds, by plain facts on numbers and on what the parts give; and one write
 -- after another. Assumes nothing.
-use Prim.Native.Nat.{ℕ, zero, suc, _+_, _-_, _*_, _/_, _%_, _≤_, _<_}
+use Prim.Native.Nat.{ℕ, zero, suc, _+_, _-_, _≤_, _<_}
+use mathlib.Core.Bool.{Bool, true, false}
 use mathlib.Core.Path.{_≡_, refl, sym}
 use mathlib.Core.List.{List, _++_}
 use native.Mathlib.Omega.{arith}
 use native.Mathlib.Nat.{not-suc-le-zero}
+use lib.Dec.{leb}
 use lib.ListN.{length, replicate, length-append, length-replicate}
-use borrow.Author.Tests.{le-leb, lt-leb}
+use borrow.Author.Tests.{le-leb, lt-leb, leb-true}
 use Rattle.xdr.specs.Choose.{choose}
 use Rattle.xdr.specs.Xdr.{be32, word, overlay}
 use Rattle.xdr.proofs.Laws.{more, length-be32}
@@ -14,15 +16,28 @@ use Rattle.xdr_opaque.specs.Opaque.{wordAt, filled, opaqueAt, afterOpaqu
 use Rattle.xdr_opaque.specs.Put.{Put, fill, opaque}
 use Rattle.xdr_opaque.specs.declared.Opaque.the-variants.{At, Bad}
 use Rattle.xdr_opaque.specs.declared.After.the-variants.{Next, Short}
-use Rattle.xdr_opaque.specs.declared.Word.the-variants as Found
+use Rattle.xdr_opaque.specs.declared.Word.the-variants as Word
+
+-- what a choice that gave opaque data says
+record Chosen (b : Bool) (s n x s′ n′ x′ : ℕ) : Type 0 where
+  test : b ≡ true
+  start : s ≡ s′
+  len : n ≡ n′
+  next : x ≡ x′
+
+chosen : (a b : Bool) (s n x s′ n′ x′ : ℕ) → At s n x ≡ choose a (choose b (At s′ n′ x′) Bad) Bad → Chosen b s n x s′ n′ x′
+unfolding choose
+chosen true true s n x s′ n′ x′ e = record { test = refl; start = cc; len = cc; next = cc }
+chosen true false s n x s′ n′ x′ e = let z : _≡_ {A = ℕ} 0 1 = cc in absurd (omega arith)
+chosen false b s n x s′ n′ x′ e = let z : _≡_ {A = ℕ} 0 1 = cc in absurd (omega arith)
 
 module _ (l : List ℕ) (at : ℕ) where
   -- a word that may be missing
-  pub word-short : length l < at + 4 → Found.Short ≡ wordAt l at
+  pub word-short : length l < at + 4 → Word.Short ≡ wordAt l at
   unfolding wordAt choose
   word-short h = rw (lt-leb (at + 4) (length l) h)
 
-  pub word-there : (v : ℕ) → at + 4 ≤ length l → v ≡ word l at → Found.Value v ≡ wordAt l at
+  pub word-there : (v : ℕ) → at + 4 ≤ length l → v ≡ word l at → Word.Value v ≡ wordAt l at
   unfolding wordAt choose
   word-there v h e = rw (le-leb (at + 4) (length l) h, e)
 
@@ -40,6 +55,14 @@ module _ (l : List ℕ) (at : ℕ) where
   opaque-whole n e k =
       let h : at + 4 ≤ length l = omega arith in
       rw (le-leb (at + 4) (length l) h, ← e, le-leb (at + 4 + filled n) (length l) k)
+
+  -- where opaque data was found, its bytes and its fill are within the list
+  pub opaque-within : (s n x : ℕ) → At s n x ≡ opaqueAt l at → (s + n ≤ x) × (x ≤ length l)
+  unfolding opaqueAt
+  opaque-within s n x e =
+      let w = chosen (leb (at + 4) (length l)) (leb (at + 4 + filled (word l at)) (length l)) s n x (at + 4) (word l at) (at + 4 + filled (word l at)) e in
+      let k : at + 4 + filled (word l at) ≤ length l = leb-true _ _ (w .test) in
+      (omega (arith, w .start, w .len, w .next), omega (arith, w .next))
 
   -- a pair of strings
   pub pair-first : Bad ≡ opaqueAt l at → Short ≡ pairAt l at
@@ -96,11 +119,12 @@ pub length-opaque : (s : List ℕ) → length (opaque s) ≡ 4 + length s + fill
 unfolding opaque
 length-opaque s = simp (length-append, length-be32, length-replicate)
 
--- the three writes of opaque data are one
-pub then-opaque : {at x y next : ℕ} {s l m m′ m″ : List ℕ} → Put at (be32 (length s)) l x m → Put x s m y m′ → Put y (replicate (fill (length s)) 0) m′ next m″
-    → Put at (opaque s) l next m″
+-- the three writes of opaque data, by what each call ensures
+pub put-opaque : (at z next : ℕ) (s l m m′ m″ : List ℕ) → m ≡ overlay at (be32 (length s)) l → m′ ≡ overlay (at + 4) s m
+    → m″ ≡ overlay (at + 4 + length s) (replicate z 0) m′ → z ≡ fill (length s) → next ≡ at + 4 + length s + z → Put at (opaque s) l next m″
 unfolding opaque
-then-opaque p q r = then (then p q) r
+put-opaque at z next s l m m′ m″ p q r e f =
+    rw (← e) (then (then (put (at + 4) p (rw length-be32)) (put (at + 4 + length s) q refl)) (put next r (rw length-replicate f)))
 
 -- bytes and their fill are what the reader asks for
 pub filled-fill : (n : ℕ) → n + fill n ≡ filled n

@@ -1,6 +1,6 @@
 -- Opaque data that was written is read back. Assumes nothing.
 use Prim.Native.Nat.{ℕ, _+_, _^_, _≤_, _<_}
-use mathlib.Core.Path.{_≡_, refl, sym, ap, _∙_}
+use mathlib.Core.Path.{_≡_, sym}
 use mathlib.Core.List.{List, _++_, append-assoc}
 use native.Mathlib.Omega.{arith}
 use lib.ListN.{length, take, drop, replicate, length-append}
@@ -9,7 +9,7 @@ use Rattle.xdr.specs.Xdr.{be32, word}
 use Rattle.xdr.proofs.Laws.{length-be32, word-be32, word-drop}
 use Rattle.xdr_opaque.specs.Opaque.{filled, opaqueAt}
 use Rattle.xdr_opaque.specs.Put.{fill, opaque}
-use Rattle.xdr_opaque.specs.RoundTrip.{OpaqueBack, RoundTrip}
+use Rattle.xdr_opaque.specs.RoundTrip.{RoundTrip}
 use Rattle.xdr_opaque.specs.declared.Opaque.the-variants.{At}
 use Rattle.xdr_opaque.proofs.Laws.{opaque-whole, length-opaque-filled}
 

@@ -10,11 +10,11 @@ use Rattle.xdr_opaque.specs.declared.Opaque.the-variants.{At, Bad}
 use Rattle.xdr_opaque.specs.declared.After.{After}
 use Rattle.xdr_opaque.specs.declared.After.the-variants.{Next, Short}
 use Rattle.xdr_opaque.specs.declared.Word.{Word}
-use Rattle.xdr_opaque.specs.declared.Word.the-variants as Found
+use Rattle.xdr_opaque.specs.declared.Word.the-variants as Word
 
 -- the word at an offset (4.2), where the list reaches that far
 unfoldable pub wordAt : List ℕ → ℕ → Word
-wordAt l at = choose (leb (at + 4) (length l)) (Found.Value (word l at)) Found.Short
+wordAt l at = choose (leb (at + 4) (length l)) (Word.Value (word l at)) Word.Short
 
 -- a length filled up to whole words (section 3: items take a multiple of four bytes)
 abbrev pub filled : ℕ → ℕ
@@ -44,7 +44,7 @@ andThen Short f = Short
 unfoldable pub pairAt : List ℕ → ℕ → After
 pairAt l at = afterOpaque (opaqueAt l at) (λ x. afterOpaque (opaqueAt l x) (λ y. Next y))
 
--- the offset after n pairs
+-- the offset after n pairs, the elements of an array (4.13)
 unfoldable pub pairsAt : ℕ → List ℕ → ℕ → After
 pairsAt zero l at = Next at
 pairsAt (suc n) l at = andThen (pairAt l at) (λ x. pairsAt n l x)

@@ -22,7 +22,7 @@ read-word-requires : tie.Need-read-word-requires
 read-word-requires c κs = search needs
 
 returns-3 : tie.Need-returns-3
-returns-3 c = list-long _ _ _ _ (c .before .read-word .ensures) (omega arith) (c .if3 .taken)
+returns-3 c = list-long _ _ _ _ (c .before .read-word .ensures) (omega arith) (omega arith)
 
 add-pairs-at : tie.Need-add-pairs-at
 add-pairs-at c = search needs
@@ -34,7 +34,7 @@ pairs-at-requires : tie.Need-pairs-at-requires
 pairs-at-requires c κs = search needs
 
 returns-4 : tie.Need-returns-4
-returns-4 c = c .pairs-at .ensures ∙ list-whole _ _ _ _ (c .before .before .read-word .ensures) (omega arith) (c .before .if3 .left)
+returns-4 c = c .pairs-at .ensures ∙ list-whole _ _ _ _ (c .before .before .read-word .ensures) (omega arith) (omega arith)
 
 pub list-at-spec : {M : Type 1} → statement M
 list-at-spec =

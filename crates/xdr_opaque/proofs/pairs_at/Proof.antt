@@ -1,8 +1,6 @@
 use Rattle.xdr_opaque.proofs.Laws.{pairs-none, pairs-short, pairs-more}
-use Rattle.xdr_opaque.specs.Opaque.{pairAt, pairsAt}
-use native.Mathlib.Omega.{arith}
+use Rattle.xdr_opaque.specs.Opaque.{pairsAt}
 use mathlib.Core.Path.{_≡_, refl, sym, _∙_}
-use Prim.Native.Nat.{ℕ, suc, _-_}
 use borrow.Author.Needs.{needs}
 use Rattle.xdr_opaque.proofs.pairs_at.Statement.{statement}
 use Rattle.xdr_opaque.proofs.pairs_at.Tie as tie
