@@ -7,6 +7,7 @@ use native.Mathlib.Omega.{arith}
 use lib.Dec.{eqb}
 use borrow.Author.Tests.{eq-eqb, ne-eqb}
 use Rattle.xdr.specs.Choose.{choose}
+use Rattle.xdr.proofs.Tests.{by-test}
 use Rattle.image.specs.Image.{count, entryLen}
 use Rattle.image.specs.Sound.{Placed}
 use Rattle.spacing.specs.declared.Spaced.{Spaced}
@@ -64,11 +65,6 @@ pub record Walked (n times : ℕ) (s : Spaced) : Type 0 where
   pub within : s .position ≤ n
   pub least : s .residue ≤ times
 
-either : {n times : ℕ} (b : Bool) (x y : Spaced) → Walked n times x → Walked n times y → Walked n times (choose b x y)
-unfolding choose
-either true x y p q = p
-either false x y p q = q
-
 counted-less : (marks mark : Bool) (left : ℕ) → counted marks mark left ≤ left
 unfolding counted
 counted-less true true left = omega arith
@@ -79,7 +75,9 @@ counted-less false false left = omega arith
 module _ (f marks : Bool) (l : List ℕ) (n : ℕ) where
   walked : (k i left : ℕ) → i ≤ n → k ≡ aheadOf f n i → Walked n left (walk f marks l k i left)
   unfolding walk
-  walked zero i left h e = either (eqb left 0) (ended 0 i 0) (ended 13 i left) (record { within = h; least = omega arith }) (record { within = h; least = omega arith })
+  walked zero i left h e =
+      by-test (Walked n left) (eqb left 0) (ended 0 i 0) (ended 13 i left) (λ _. record { within = h; least = omega arith })
+      (λ _. record { within = h; least = omega arith })
   walked (suc k) i left h e =
       let mark = eqb (entryLen l (passes f i)) 0 in
       let some : suc k ≡ 0 → ⊥ = λ z. omega arith in
@@ -88,9 +86,9 @@ module _ (f marks : Bool) (l : List ℕ) (n : ℕ) where
       let ahead : k ≡ aheadOf f n (after f i) = sym pred ∙ after-ahead n i (suc k) some f h e in
       let rest = walked k (after f i) (counted marks mark left) step ahead in
       let less = counted-less marks mark left in
-      either (eqb left 0) (ended 0 i 0) _ (record { within = h; least = omega arith })
-      (either (stops marks mark) (ended 12 (after f i) left) _ (record { within = step; least = omega arith })
-      (record { within = rest .within; least = omega arith }))
+      by-test (Walked n left) (eqb left 0) (ended 0 i 0) _ (λ _. record { within = h; least = omega arith })
+      (λ _. by-test (Walked n left) (stops marks mark) (ended 12 (after f i) left) _ (λ _. record { within = step; least = omega arith })
+      (λ _. record { within = rest .within; least = omega arith }))
 
 pub spaced-within : (l : List ℕ) (op p times : ℕ) → p ≤ count l → Walked (count l) times (spacing l op p times)
 unfolding spacing

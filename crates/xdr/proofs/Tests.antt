@@ -76,6 +76,12 @@ pub pick-else : {A : Type 0} {b : Bool} {r y : A} (x : A) → b ≡ false → r 
 unfolding choose
 pick-else x h t = rw h t
 
+-- what holds of either choice, each where its test comes out so, holds of the choice
+pub by-test : {A : Type 0} (P : A → Type 0) (b : Bool) (x y : A) → (b ≡ true → P x) → (b ≡ false → P y) → P (choose b x y)
+unfolding choose
+by-test P true x y p q = p refl
+by-test P false x y p q = q refl
+
 pub ruleset tests = (ne-not, eq-not, no-not, yes-not, eqb-yes, eqb-no, ltb-yes, ltb-no, leb-yes, leb-no)
 
 -- a value that a chain of choices gives

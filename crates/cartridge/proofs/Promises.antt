@@ -1,0 +1,200 @@
+-- What holds of the tape operations. Assumes nothing.
+use Prim.Native.Nat.{ℕ, zero, suc, _+_, _-_, _*_, _≤_, _<_}
+use mathlib.Core.Bool.{Bool, true, false}
+use mathlib.Core.List.{List, [], _∷_}
+use mathlib.Core.Path.{_≡_, refl, sym, ap, _∙_}
+use native.Mathlib.Omega.{arith}
+use lib.ListN.{length, take, drop, length-take}
+use lib.Seq.{take-take, take-all, take-length}
+use lib.Dec.{ltb, eqb}
+use borrow.Author.Tests.{ltb-true, ltb-false, eqb-true, eqb-false, eq-eqb, ne-eqb, lt-ltb, le-ltb}
+use Rattle.xdr.specs.Choose.{choose}
+use Rattle.xdr.proofs.Tests.{by-test}
+use Rattle.image.specs.Image.{capacity, count, entryLen, entryStart, entryBytes, bodyAt, faulty}
+use Rattle.image.specs.Sound.{Sound, Placed}
+use Rattle.image.proofs.Laws.{placed, no-fault}
+use Rattle.spacing.specs.declared.Spaced.{Spaced}
+use Rattle.spacing.specs.Spacing.{ended, spacing}
+use Rattle.spacing.proofs.Laws.{spaced-within}
+use Rattle.writing.specs.Writing.{Room, roomFor, kept, written, withMarks}
+use Rattle.writing.proofs.Laws.{room-facts}
+use Rattle.writing.proofs.Theorems.{written-placed, written-count, written-len, written-start, written-capacity, written-there, same-bytes, marks-placed}
+use Rattle.cartridge.specs.declared.Wrote.{Wrote}
+use Rattle.cartridge.specs.declared.Part.{Part}
+use Rattle.cartridge.specs.Step.{Step, keeping}
+use Rattle.cartridge.specs.Operations.{wrote, part, least, writeStep, readPart, entryPart, markStep, mtioStep}
+use Rattle.cartridge.specs.Promises.{bytesOf, StaySound, Leave, ReadBack, FirstBytes, Promises}
+
+-- ---- a sound image stays sound
+Kept : Step Wrote → Type 0
+Kept s = Placed (s .image) (s .gives .position)
+
+Spaces : Step Spaced → Type 0
+Spaces s = Placed (s .image) (s .gives .position)
+
+module _ (l : List ℕ) (p : ℕ) (at : Placed l p) where
+  write-kept : (b : List ℕ) → Kept (writeStep l p b)
+  unfolding writeStep Kept
+  write-kept b =
+      by-test Kept (ltb 32768 (length b)) _ _ (λ _. at)
+      (λ s. by-test Kept (faulty l p) _ _ (λ _. at)
+      (λ f. by-test Kept (eqb (length b) 0) _ _ (λ _. at)
+      (λ n. by-test Kept (roomFor l p (length b)) _ _
+      (λ r. written-placed l p b at (ltb-false 32768 (length b) s) (room-facts l p (length b) r))
+      (λ _. at))))
+
+  mark-kept : (times : ℕ) → Spaces (markStep l p times)
+  unfolding markStep Spaces
+  mark-kept times =
+      by-test Spaces (ltb (capacity l) (p + times)) _ _ (λ _. at) (λ h. marks-placed times l p at (ltb-false (capacity l) (p + times) h))
+
+  rewound : Placed l 0
+  rewound = record { ok = at .ok; within = omega arith }
+
+  mtio-kept : (op times : ℕ) → Spaces (mtioStep l op p times)
+  unfolding mtioStep Spaces
+  mtio-kept op times =
+      by-test Spaces (ltb 6 op) _ _ (λ _. at)
+      (λ _. by-test Spaces (eqb op 6) _ _ (λ _. at)
+      (λ _. by-test Spaces (faulty l p) _ _ (λ _. at)
+      (λ _. by-test Spaces (eqb op 5) _ _ (λ _. mark-kept times)
+      (λ _. by-test Spaces (eqb op 4) _ _ (λ _. rewound)
+      (λ _. record { ok = at .ok; within = spaced-within l op p times (at .within) .within })))))
+
+  InTape : Part → Type 0
+  InTape r = Placed l (r .position)
+
+  passed : (p ≡ count l → ⊥) → Placed l (p + 1)
+  passed h = let w = at .within in record { ok = at .ok; within = omega arith }
+
+  read-kept : (times : ℕ) → InTape (readPart l p times)
+  unfolding readPart entryPart InTape
+  read-kept times =
+      by-test InTape (ltb 32768 times) _ _ (λ _. at)
+      (λ _. by-test InTape (faulty l p) _ _ (λ _. at)
+      (λ _. by-test InTape (eqb times 0) _ _ (λ _. at)
+      (λ _. by-test InTape (eqb p (count l)) _ _ (λ _. at)
+      (λ h. by-test InTape (eqb (entryLen l p) 0) _ _ (λ _. passed (eqb-false p (count l) h)) (λ _. passed (eqb-false p (count l) h))))))
+
+-- ---- a refusal leaves the image
+nonzero : {A : Type 0} → (_≡_ {A = ℕ} 0 0 → ⊥) → A
+nonzero h = absurd (h refl)
+
+module _ (l : List ℕ) where
+  Writes : Step Wrote → Type 0
+  Writes s = (s .gives .error ≡ 0 → ⊥) → s .image ≡ l
+
+  Moves : Step Spaced → Type 0
+  Moves s = (s .gives .error ≡ 0 → ⊥) → s .image ≡ l
+
+  write-leaves : (p : ℕ) (b : List ℕ) → Writes (writeStep l p b)
+  unfolding writeStep Writes
+  write-leaves p b =
+      by-test Writes (ltb 32768 (length b)) _ _ (λ _ _. refl)
+      (λ _. by-test Writes (faulty l p) _ _ (λ _ _. refl)
+      (λ _. by-test Writes (eqb (length b) 0) _ _ (λ _ _. refl)
+      (λ _. by-test Writes (roomFor l p (length b)) _ _ (λ _ h. nonzero h) (λ _ _. refl))))
+
+  mark-leaves : (p times : ℕ) → Moves (markStep l p times)
+  unfolding markStep Moves
+  mark-leaves p times = by-test Moves (ltb (capacity l) (p + times)) _ _ (λ _ _. refl) (λ _ h. nonzero h)
+
+  mtio-leaves : (op p times : ℕ) → Moves (mtioStep l op p times)
+  unfolding mtioStep Moves
+  mtio-leaves op p times =
+      by-test Moves (ltb 6 op) _ _ (λ _ _. refl)
+      (λ _. by-test Moves (eqb op 6) _ _ (λ _ _. refl)
+      (λ _. by-test Moves (faulty l p) _ _ (λ _ _. refl)
+      (λ _. by-test Moves (eqb op 5) _ _ (λ _. mark-leaves p times)
+      (λ _. by-test Moves (eqb op 4) _ _ (λ _ _. refl) (λ _ _. refl)))))
+
+  Same : Step Spaced → Type 0
+  Same s = s .image ≡ l
+
+  spacing-leaves : (op p times : ℕ) → op < 5 → Same (mtioStep l op p times)
+  unfolding mtioStep Same
+  spacing-leaves op p times h =
+      by-test Same (ltb 6 op) _ _ (λ _. refl)
+      (λ _. by-test Same (eqb op 6) _ _ (λ _. refl)
+      (λ _. by-test Same (faulty l p) _ _ (λ _. refl)
+      (λ _. by-test Same (eqb op 5) _ _ (λ e. let z : op ≡ 5 = eqb-true op 5 e in absurd (omega arith))
+      (λ _. by-test Same (eqb op 4) _ _ (λ _. refl) (λ _. refl)))))
+
+-- ---- what a read hands out
+least-take : (a b : ℕ) (l : List ℕ) → take (least a b) l ≡ take a (take b l)
+unfolding least
+least-take a b l =
+    by-test (λ (k : ℕ). take k l ≡ take a (take b l)) (ltb a b) a b
+    (λ h. let k : a ≤ b = (let z = ltb-true a b h in omega arith) in sym (take-take a b l k))
+    (λ h. let k : b ≤ a = ltb-false a b h in sym (take-all a (take b l) (rw length-take (omega arith))))
+
+module _ (l : List ℕ) (p times : ℕ) (some : 0 < times) where
+  First : Part → Type 0
+  First r = r .error ≡ 0 → take (r .len) (drop (r .start) l) ≡ take times (entryBytes l p)
+
+  wrong : (k : ℕ) {A : Type 0} → suc k ≡ 0 → A
+  wrong k h = absurd (omega arith)
+
+  read-first : First (readPart l p times)
+  unfolding readPart entryPart First entryBytes
+  read-first =
+      by-test First (ltb 32768 times) _ _ (λ _ h. wrong 8 h)
+      (λ _. by-test First (faulty l p) _ _ (λ _ h. wrong 6 h)
+      (λ _. by-test First (eqb times 0) _ _ (λ e h. let z : times ≡ 0 = eqb-true times 0 e in absurd (omega arith))
+      (λ _. by-test First (eqb p (count l)) _ _ (λ _ h. wrong 12 h)
+      (λ _. by-test First (eqb (entryLen l p) 0) _ _ (λ _ h. wrong 11 h)
+      (λ _ h. least-take times (entryLen l p) (drop (bodyAt l + entryStart l p) l))))))
+
+-- a read of some bytes at a record
+read-record : (m : List ℕ) (p times : ℕ) → Placed m p → times ≤ 32768 → 0 < times → p < count m → (entryLen m p ≡ 0 → ⊥)
+    → readPart m p times ≡ part 0 (p + 1) (bodyAt m + entryStart m p) (least times (entryLen m p))
+unfolding readPart entryPart choose
+read-record m p times at small some below long =
+    let t : times ≡ 0 → ⊥ = λ e. omega arith in
+    let q : p ≡ count m → ⊥ = λ e. omega arith in
+    rw (le-ltb 32768 times small, ← no-fault m p at, ne-eqb times 0 t, ne-eqb p (count m) q, ne-eqb (entryLen m p) 0 long)
+
+module _ (l : List ℕ) (p : ℕ) (b : List ℕ) (at : Placed l p) (some : 0 < length b) where
+  pub record Back (m : List ℕ) : Type 0 where
+    pub error : readPart m p (length b) .error ≡ 0
+    pub bytes : bytesOf m p (length b) ≡ b
+    pub before : (i : ℕ) → i < p → entryBytes m i ≡ entryBytes l i
+
+  written-back : length b ≤ 32768 → Room l p (length b) → Back (written l p b)
+  unfolding First
+  written-back small room =
+      let m : List ℕ = written l p b in
+      let n = written-count l p b at small room in
+      let w = written-placed l p b at small room in
+      let len = written-len l p b at small room in
+      let here : Placed m p = record { ok = w .ok; within = omega arith } in
+      let e : readPart m p (length b) .error ≡ 0 =
+      ap (λ (r : Part). r .error) (read-record m p (length b) here small some (omega arith) (λ z. omega arith)) in
+      record {
+        error = e;
+        bytes = read-first m p (length b) some e ∙ ap (take (length b)) (written-there l p b at small room) ∙ take-length b;
+        before = same-bytes l p b at small room;
+      }
+
+  Returned : Step Wrote → Type 0
+  Returned s = s .gives .error ≡ 0 → Back (s .image)
+
+  write-back : Returned (writeStep l p b)
+  unfolding writeStep Returned
+  write-back =
+      by-test Returned (ltb 32768 (length b)) _ _ (λ _ h. absurd (omega arith))
+      (λ s. by-test Returned (faulty l p) _ _ (λ _ h. absurd (omega arith))
+      (λ _. by-test Returned (eqb (length b) 0) _ _ (λ e h. let z : length b ≡ 0 = eqb-true (length b) 0 e in absurd (omega arith))
+      (λ _. by-test Returned (roomFor l p (length b)) _ _
+      (λ r _. written-back (ltb-false 32768 (length b) s) (room-facts l p (length b) r))
+      (λ _ h. absurd (omega arith)))))
+
+pub promises : Promises
+unfolding Kept Spaces InTape Writes Moves Same First Returned
+promises =
+    record {
+      sound = λ l p at. record { write = write-kept l p at; mtio = mtio-kept l p at; read = read-kept l p at };
+      leave = λ l p. record { write = write-leaves l p; mtio = λ op times. mtio-leaves l op p times; spacing = λ op times. spacing-leaves l op p times };
+      first = λ l p times some. read-first l p times some;
+      back = λ l p b at some e. let r = write-back l p b at some e in record { error = r .error; bytes = r .bytes; before = r .before };
+    }

@@ -1,0 +1,11 @@
+use Rattle.cartridge.proofs.Promises.{promises}
+use Rattle.cartridge.proofs.promises_hold.Statement.{statement}
+use Rattle.cartridge.proofs.promises_hold.Tie as tie
+use Rattle.cartridge.proofs.promises_hold.Reads as reads
+use Rattle.cartridge.proofs.promises_hold.Lts as lts
+
+returns : tie.Need-returns
+returns c = promises
+
+pub promises-hold-spec : {M : Type 1} → statement M
+promises-hold-spec = tie.close (tie.spec returns)

@@ -1,0 +1,41 @@
+-- What holds of the tape operations, for every image.
+use Prim.Native.Nat.{ℕ, _+_, _≤_, _<_}
+use mathlib.Core.List.{List}
+use mathlib.Core.Path.{_≡_}
+use lib.ListN.{length, take, drop}
+use Rattle.image.specs.Image.{entryBytes, entryLen}
+use Rattle.image.specs.Sound.{Placed}
+use Rattle.cartridge.specs.Step.{Step}
+use Rattle.cartridge.specs.Operations.{writeStep, readPart, mtioStep, part}
+
+-- the bytes that a read hands out
+abbrev pub bytesOf : List ℕ → ℕ → ℕ → List ℕ
+bytesOf l p times = take (readPart l p times .len) (drop (readPart l p times .start) l)
+
+-- a sound image stays sound, and the position stays one of its tape
+pub record StaySound (l : List ℕ) (p : ℕ) : Type 0 where
+  pub write : (b : List ℕ) → Placed (writeStep l p b .image) (writeStep l p b .gives .position)
+  pub mtio : (op times : ℕ) → Placed (mtioStep l op p times .image) (mtioStep l op p times .gives .position)
+  pub read : (times : ℕ) → Placed l (readPart l p times .position)
+
+-- what an operation refuses leaves the image as it was; reads and spacing never change it
+pub record Leave (l : List ℕ) (p : ℕ) : Type 0 where
+  pub write : (b : List ℕ) → (writeStep l p b .gives .error ≡ 0 → ⊥) → writeStep l p b .image ≡ l
+  pub mtio : (op times : ℕ) → (mtioStep l op p times .gives .error ≡ 0 → ⊥) → mtioStep l op p times .image ≡ l
+  pub spacing : (op times : ℕ) → op < 5 → mtioStep l op p times .image ≡ l
+
+-- a record of some bytes that was written at p is what a read at p gives, and what was read before p stays the same
+pub record ReadBack (l : List ℕ) (p : ℕ) (b : List ℕ) : Type 0 where
+  pub error : readPart (writeStep l p b .image) p (length b) .error ≡ 0
+  pub bytes : bytesOf (writeStep l p b .image) p (length b) ≡ b
+  pub before : (i : ℕ) → i < p → entryBytes (writeStep l p b .image) i ≡ entryBytes l i
+
+-- "a record gives its first count bytes": a read that is answered 0 hands out the start of the entry at p
+abbrev pub FirstBytes : List ℕ → ℕ → Type 0
+FirstBytes l p = (times : ℕ) → 0 < times → readPart l p times .error ≡ 0 → bytesOf l p times ≡ take times (entryBytes l p)
+
+pub record Promises : Type 0 where
+  pub sound : (l : List ℕ) (p : ℕ) → Placed l p → StaySound l p
+  pub leave : (l : List ℕ) (p : ℕ) → Leave l p
+  pub first : (l : List ℕ) (p : ℕ) → FirstBytes l p
+  pub back : (l : List ℕ) (p : ℕ) (b : List ℕ) → Placed l p → 0 < length b → writeStep l p b .gives .error ≡ 0 → ReadBack l p b

@@ -1,0 +1,225 @@
+// The tape operations on a cartridge image, for any image and any position: what a session calls. An unsound image or a position
+// above the number of entries is an answer, 7.
+ghost use mathlib.Core.Path.{_≡_};
+ghost use lib.ListN.{length};
+ghost use Rattle.image.specs.Sound.{Placed};
+ghost use Rattle.cartridge.specs.Step.{Told};
+ghost use Rattle.cartridge.specs.Operations.{writeStep, readPart, markStep, mtioStep, entryPart, standingAt, least};
+ghost use Rattle.cartridge.specs.Promises.{Promises};
+use spacing::Spaced;
+
+// What a write gives: the error, the bytes written and the next position.
+#[repr(C)]
+pub struct Wrote {
+    pub error: u32,
+    pub count: u32,
+    pub position: usize,
+}
+
+// What a read gives: the error, the next position, and where the bytes lie in the image.
+#[repr(C)]
+pub struct Part {
+    pub error: u32,
+    pub position: usize,
+    pub start: usize,
+    pub len: usize,
+}
+
+// What get state gives: the error, the file and the block number.
+#[repr(C)]
+pub struct Standing {
+    pub error: u32,
+    pub file: u32,
+    pub block: u32,
+}
+
+// Writes a record at a position.
+pub fn write(image: &mut [u8], position: usize, bytes: &[u8]) -> Wrote
+    ensures { λ r. ⌜ Told (writeStep (now (image .entry)) position (now (bytes .entry))) r (now (image .exit)) ⌝ }
+{
+    let n = bytes.len();
+    if 32768 < n {
+        return Wrote {
+            error: 9,
+            count: 0,
+            position,
+        };
+    }
+    if image::is_faulty(image, position) {
+        return Wrote {
+            error: 7,
+            count: 0,
+            position,
+        };
+    }
+    if n == 0 {
+        return Wrote {
+            error: 0,
+            count: 0,
+            position,
+        };
+    }
+    if writing::write_filled(image, position, bytes, n) {
+        return Wrote {
+            error: 0,
+            count: n as u32,
+            position: position + 1,
+        };
+    }
+    Wrote {
+        error: 13,
+        count: 0,
+        position,
+    }
+}
+
+fn lesser(a: usize, b: usize) -> usize
+    ensures { λ r. ⌜ r ≡ least a b ⌝ }
+{
+    if a < b { a } else { b }
+}
+
+// What stands at a position that is not above the number of entries.
+fn entry_part(image: &[u8], position: usize, times: u32) -> Part
+    requires { ⌜ Placed (now image) position ⌝ }
+    ensures { λ r. ⌜ r ≡ entryPart (now (image .entry)) position times ⌝ }
+{
+    if position == image::field(image, 8) {
+        return Part {
+            error: 13,
+            position,
+            start: 0,
+            len: 0,
+        };
+    }
+    let len = image::field(image, 16 + position * 8);
+    if len == 0 {
+        return Part {
+            error: 12,
+            position: position + 1,
+            start: 0,
+            len: 0,
+        };
+    }
+    let body = 16 + image::field(image, 4) * 8;
+    Part {
+        error: 0,
+        position: position + 1,
+        start: body + image::field(image, 20 + position * 8),
+        len: lesser(times as usize, len),
+    }
+}
+
+// Reads the record at a position, up to a number of bytes.
+pub fn read(image: &[u8], position: usize, times: u32) -> Part
+    ensures { λ r. ⌜ r ≡ readPart (now (image .entry)) position times ⌝ }
+{
+    if 32768 < times {
+        return Part {
+            error: 9,
+            position,
+            start: 0,
+            len: 0,
+        };
+    }
+    if image::is_faulty(image, position) {
+        return Part {
+            error: 7,
+            position,
+            start: 0,
+            len: 0,
+        };
+    }
+    if times == 0 {
+        return Part {
+            error: 0,
+            position,
+            start: 0,
+            len: 0,
+        };
+    }
+    entry_part(image, position, times)
+}
+
+// Writes marks at a position: all of them, or none where they do not fit.
+fn marks(image: &mut [u8], position: usize, times: u32) -> Spaced
+    requires { ⌜ Placed (now image) position ⌝ }
+    ensures { λ r. ⌜ Told (markStep (now (image .entry)) position times) r (now (image .exit)) ⌝ }
+{
+    let n = times as usize;
+    if image::field(image, 4) < position + n {
+        return Spaced {
+            error: 13,
+            position,
+            residue: times,
+        };
+    }
+    writing::write_marks(image, position, n);
+    Spaced {
+        error: 0,
+        position: position + n,
+        residue: 0,
+    }
+}
+
+// MTIO: 0 FSF, 1 BSF, 2 FSR, 3 BSR, 4 REW, 5 write marks.
+pub fn mtio(image: &mut [u8], op: u32, position: usize, times: u32) -> Spaced
+    ensures { λ r. ⌜ Told (mtioStep (now (image .entry)) op position times) r (now (image .exit)) ⌝ }
+{
+    if 6 < op {
+        return Spaced {
+            error: 9,
+            position,
+            residue: 0,
+        };
+    }
+    if op == 6 {
+        return Spaced {
+            error: 1,
+            position,
+            residue: 0,
+        };
+    }
+    if image::is_faulty(image, position) {
+        return Spaced {
+            error: 7,
+            position,
+            residue: 0,
+        };
+    }
+    if op == 5 {
+        return marks(image, position, times);
+    }
+    if op == 4 {
+        return Spaced {
+            error: 0,
+            position: 0,
+            residue: 0,
+        };
+    }
+    spacing::space(image, op, position, times)
+}
+
+// The file and the block number of a position.
+pub fn state(image: &[u8], position: usize) -> Standing
+    ensures { λ r. ⌜ r ≡ standingAt (now (image .entry)) position ⌝ }
+{
+    if image::is_faulty(image, position) {
+        return Standing {
+            error: 7,
+            file: 0,
+            block: 0,
+        };
+    }
+    let place = image::place_of(image, position);
+    Standing {
+        error: 0,
+        file: place.file,
+        block: place.block,
+    }
+}
+
+// No work: its contract is the promises on the operations, so that the crate is proved only with them.
+pub fn promises_hold()
+    ensures { λ r. ⌜ Promises ⌝ }
+{}
