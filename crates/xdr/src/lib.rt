@@ -2,7 +2,7 @@
 ghost use mathlib.Core.Path.{_≡_};
 ghost use Prim.Native.Nat.{_+_, _*_, _≤_, _<_};
 ghost use lib.ListN.{length, replicate};
-ghost use Rattle.xdr.specs.Xdr.{be32, be32s, word, be64, hyper, overlay};
+ghost use Rattle.xdr.specs.Xdr.{be32, be32s, word, be64, hyper, overlay, sameBytes};
 
 fn wide(x: u8) -> u32
     ensures { λ r. ⌜ (r ≡ x) × (r < 256) ⌝ }
@@ -71,10 +71,10 @@ pub fn copy_bytes(out: &mut [u8], at: usize, src: &[u8])
 }
 
 fn copy_block(out: &mut [u8], at: usize, src: &[u8])
-    requires { ⌜ (at + 1024 ≤ length (now out)) × (length (now src) ≡ 1024) ⌝ }
+    requires { ⌜ (at + 8192 ≤ length (now out)) × (length (now src) ≡ 8192) ⌝ }
     ensures { λ _. ⌜ now (out .exit) ≡ overlay at (now (src .entry)) (now (out .entry)) ⌝ }
 {
-    let mut block: [u8; 1024] = [0; 1024];
+    let mut block: [u8; 8192] = [0; 8192];
     copy_bytes(&mut block, 0, src);
     copy_bytes(out, at, &block);
 }
@@ -86,9 +86,9 @@ pub fn copy_blocks(out: &mut [u8], at: usize, src: &[u8])
     ensures { λ _. ⌜ now (out .exit) ≡ overlay at (now (src .entry)) (now (out .entry)) ⌝ }
 {
     let mut i: usize = 0;
-    while 1024 <= src.len() - i {
-        copy_block(out, at + i, &src[i..i + 1024]);
-        i += 1024;
+    while 8192 <= src.len() - i {
+        copy_block(out, at + i, &src[i..i + 8192]);
+        i += 8192;
     }
     copy_bytes(out, at + i, &src[i..]);
 }
@@ -103,4 +103,21 @@ pub fn zero_fill(out: &mut [u8], at: usize, n: usize)
         out[at + i] = 0;
         i += 1;
     }
+}
+
+// Whether two slices hold the same bytes.
+pub fn same(a: &[u8], b: &[u8]) -> bool
+    ensures { λ r. ⌜ r ≡ sameBytes (now (a .entry)) (now (b .entry)) ⌝ }
+{
+    if a.len() != b.len() {
+        return false;
+    }
+    let mut i: usize = 0;
+    while i < a.len() {
+        if a[i] != b[i] {
+            return false;
+        }
+        i += 1;
+    }
+    true
 }
