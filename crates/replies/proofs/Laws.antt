@@ -1,0 +1,184 @@
+-- Bodies and records by the writes that make them, and how long they are. Assumes nothing.
+use Prim.Native.Nat.{ℕ, _+_, _-_, _*_, _≤_}
+use Prim.{tt}
+use mathlib.Core.Bool.{Bool, true, false}
+use mathlib.Core.Path.{_≡_, refl, sym, _∙_}
+use mathlib.Core.List.{List, [], _∷_, _++_}
+use native.Mathlib.Omega.{arith}
+use native.Mathlib.Nat.{add-zero}
+use lib.ListN.{length, take, drop, length-append, length-take, length-drop}
+use lib.Seq.{length-take-le}
+use lib.Dec.{eqb}
+use types.Run.{OneOf, miss}
+use denote.Enum.Declared.{tagOf}
+use Rattle.replies.proofs.Reply.{the-type}
+use Rattle.xdr.specs.Choose.{choose}
+use Rattle.xdr.specs.Xdr.{be32s, overlay}
+use Rattle.xdr.proofs.Laws.{length-be32s, overlay-none, overlay-front}
+use Rattle.xdr.proofs.Tests.{by-test}
+use Rattle.xdr_opaque.specs.Put.{Put, opaque}
+use Rattle.xdr_opaque.proofs.Laws.{then, length-opaque-filled}
+use Rattle.frame.specs.Frame.{recordBytes}
+use Rattle.frame.proofs.Laws.{length-record}
+use Rattle.replies.specs.declared.Reply.{Reply}
+use Rattle.replies.specs.declared.Reply.the-variants.{Header, Plain, Listening, ConnectionTypes, ServerInfo, ScsiState, Cdb, Sense, Check, TapeState, Mtio, Wrote, Read, DataState, MoverState}
+use Rattle.replies.specs.declared.Notice.{Notice}
+use Rattle.replies.specs.declared.Notice.the-variants.{DataHalted, Connected, MoverHalted, MoverPaused}
+use Rattle.replies.specs.Replies.{Body, opaques, bodyBytes, wordsOnly, sense, serverTexts, shapeOf, headerError, replyBytes, noticeWords, noticeNumber, noticeBytes}
+use Rattle.replies.specs.Fit.{Sendable, Sent, AnswersFit}
+
+-- ---- a body by its writes
+none : {at : ℕ} {l : List ℕ} → Put at [] l at l
+none {at} {l} = record { end = sym (add-zero at); wrote = overlay-none at l }
+
+pub no-words : {at : ℕ} {l : List ℕ} → Put at (be32s []) l at l
+unfolding be32s
+no-words = none
+
+pub no-texts : {at : ℕ} {l : List ℕ} → Put at (opaques []) l at l
+unfolding opaques
+no-texts = none
+
+pub text : {at next last : ℕ} {l m m′ : List ℕ} (t : List ℕ) (ts : List (List ℕ)) → Put at (opaque t) l next m → Put next (opaques ts) m last m′
+    → Put at (opaques (t ∷ ts)) l last m′
+unfolding opaques
+text t ts p q = then p q
+
+pub whole : {at next last end : ℕ} {l m m′ m″ : List ℕ} (b : Body) → Put at (be32s (b .words)) l next m → Put next (opaques (b .texts)) m last m′
+    → Put last (be32s (b .tail)) m′ end m″ → Put at (bodyBytes b) l end m″
+unfolding bodyBytes
+whole b p q r = then p (then q r)
+
+pub no-body : {at : ℕ} {l : List ℕ} → Put at (bodyBytes (wordsOnly [])) l at l
+no-body = whole (wordsOnly []) no-words no-texts no-words
+
+-- ---- what a reply that can be sent copies
+pub sense-within : (r : Reply) (image : List ℕ) (n : ℕ) (pending : Bool) → Sendable r image → r ≡ Sense n pending → n ≤ 18
+unfolding Sendable
+sense-within r image n pending s e = rw e at s
+
+pub read-within : (r : Reply) (image : List ℕ) (e start len : ℕ) → Sendable r image → r ≡ Read e start len → (start + len ≤ length image) × (len ≤ 32768)
+unfolding Sendable
+read-within r image e start len s f = rw f at s
+
+length-sense : (pending : Bool) → length (sense pending) ≡ 18
+unfolding sense
+length-sense pending = refl
+
+-- the first bytes of the sense
+pub sense-length : (n : ℕ) (pending : Bool) (l : List ℕ) → l ≡ sense pending → n ≤ 18 → length (take n l) ≡ n
+sense-length n pending l e h =
+    let k : n ≤ length (sense pending) = omega (arith, length-sense pending) in
+    rw (e, length-take-le n (sense pending) k)
+
+-- a part of the image, as a slice of it is told
+pub part : (start len : ℕ) (l : List ℕ) → take (start + len - start) (drop start l) ≡ take len (drop start l)
+part start len l = let e : start + len - start ≡ len = omega arith in rw e
+
+-- ---- the error in the header: none in a reply of any kind but the first
+abbrev others : List ℕ
+others = 1 ∷ 2 ∷ 3 ∷ 4 ∷ 5 ∷ 6 ∷ 7 ∷ 8 ∷ 9 ∷ 10 ∷ 11 ∷ 12 ∷ 13 ∷ 14 ∷ []
+
+pub no-header : (r : Reply) → OneOf others (tagOf the-type r) → 0 ≡ headerError r
+unfolding headerError
+no-header (Header e) h = absurd (miss others 0 tt h)
+no-header (Plain e) h = refl
+no-header (Listening e) h = refl
+no-header (ConnectionTypes e) h = refl
+no-header (ServerInfo known) h = refl
+no-header (ScsiState e) h = refl
+no-header (Cdb e) h = refl
+no-header (Sense n pending) h = refl
+no-header Check h = refl
+no-header (TapeState e file block) h = refl
+no-header (Mtio e residue) h = refl
+no-header (Wrote e count) h = refl
+no-header (Read e start len) h = refl
+no-header (DataState e v) h = refl
+no-header (MoverState e v) h = refl
+
+-- ---- how long a body is
+length-body : (b : Body) → length (bodyBytes b) ≡ 4 * length (b .words) + (length (opaques (b .texts)) + 4 * length (b .tail))
+unfolding bodyBytes
+length-body b = simp (length-append, length-be32s)
+
+-- words alone
+few : (ws : List ℕ) → length ws ≤ 18 → length (bodyBytes (wordsOnly ws)) ≤ 32776
+unfolding opaques
+few ws h = rw length-body (omega arith)
+
+-- words and one text, or two short ones
+one-text : (ws t : List ℕ) → length ws ≤ 1 → length t ≤ 32768 → length (bodyBytes (record { words = ws; texts = t ∷ []; tail = [] })) ≤ 32776
+unfolding opaques
+one-text ws t h k = simp (length-body, length-append, length-opaque-filled) (omega arith)
+
+two-texts : (ws t u : List ℕ) → length ws ≤ 3 → length t ≤ 18 → length u ≤ 18 → length (bodyBytes (record { words = ws; texts = t ∷ u ∷ []; tail = [] })) ≤ 32776
+unfolding opaques
+two-texts ws t u h j k = simp (length-body, length-append, length-opaque-filled) (omega arith)
+
+server-small : (known : Bool) → length (bodyBytes (record { words = 0 ∷ []; texts = serverTexts known; tail = 1 ∷ 1 ∷ [] })) ≤ 32776
+unfolding serverTexts opaques
+server-small true = simp (length-body, length-append, length-opaque-filled) (omega arith)
+server-small false = simp (length-body, length-append, length-opaque-filled) (omega arith)
+
+pub body-small : (r : Reply) (image : List ℕ) → Sendable r image → length (bodyBytes (shapeOf r image)) ≤ 32776
+unfolding shapeOf Sendable
+body-small (Header e) image s = few _ (omega arith)
+body-small (Plain e) image s = few _ (omega arith)
+body-small (Listening e) image s = few _ (omega arith)
+body-small (ConnectionTypes e) image s = few _ (by-test (λ (ws : List ℕ). length ws ≤ 18) (eqb e 0) _ _ (λ _. omega arith) (λ _. omega arith))
+body-small (ServerInfo known) image s = server-small known
+body-small (ScsiState e) image s = few _ (omega arith)
+body-small (Cdb e) image s = two-texts _ [] [] (omega arith) (omega arith) (omega arith)
+body-small (Sense n pending) image s = two-texts _ _ [] (omega arith) (simp length-take (omega (arith, s))) (omega arith)
+body-small Check image s = two-texts _ [] _ (omega arith) (omega arith) (omega (arith, length-sense true))
+body-small (TapeState e file block) image s = few _ (omega arith)
+body-small (Mtio e residue) image s = few _ (omega arith)
+body-small (Wrote e count) image s = few _ (omega arith)
+body-small (Read e start len) image s = one-text _ _ (omega arith) (simp length-take (omega (arith, s .1)))
+body-small (DataState e v) image s = few _ (omega arith)
+body-small (MoverState e v) image s = few _ (omega arith)
+
+-- ---- a record: the mark and the header, written in front of a body
+pub seal : (at next n s t k m e err : ℕ) (b l x y : List ℕ) → Put (at + 28) b l next x → at + 28 ≤ length l → n ≡ length b
+    → y ≡ overlay at (be32s ((0x8000_0000 + (24 + n)) ∷ s ∷ t ∷ k ∷ m ∷ e ∷ err ∷ [])) x → Put at (recordBytes s t k m e err b) l next y
+unfolding recordBytes
+seal at next n s t k m e err b l x y p h f w =
+    record {
+      end = simp (length-append, length-be32s) (omega (arith, p .end));
+      wrote = w ∙ rw (f, p .wrote) (overlay-front at (at + 28) (be32s ((0x8000_0000 + (24 + length b)) ∷ s ∷ t ∷ k ∷ m ∷ e ∷ err ∷ [])) b l (rw length-be32s) h);
+    }
+
+pub reply-sent : (next n s t m e err : ℕ) (r : Reply) (image l x y : List ℕ) → Put 28 (bodyBytes (shapeOf r image)) l next x → Sendable r image → 28 ≤ length l
+    → n ≡ next - 28 → err ≡ headerError r → y ≡ overlay 0 (be32s ((0x8000_0000 + (24 + n)) ∷ s ∷ t ∷ 1 ∷ m ∷ e ∷ err ∷ [])) x
+    → Sent 32804 0 (replyBytes s t m e r image) l next y
+unfolding replyBytes
+reply-sent next n s t m e err r image l x y p c h f g w =
+    record {
+      put = seal 0 next n s t 1 m e (headerError r) (bodyBytes (shapeOf r image)) l x y p h (omega (arith, p .end)) (rw (← g) w);
+      small = omega (arith, p .end, body-small r image c);
+    }
+
+pub notice-sent : (at next s t m : ℕ) (ws l x y : List ℕ) → Put (at + 28) (be32s ws) l next x → at + 40 ≤ length l → length ws ≤ 3
+    → y ≡ overlay at (be32s ((0x8000_0000 + (24 + 4 * length ws)) ∷ s ∷ t ∷ 0 ∷ m ∷ 0 ∷ 0 ∷ [])) x → Sent (at + 40) at (recordBytes s t 0 m 0 0 (be32s ws)) l next y
+notice-sent at next s t m ws l x y p h k w =
+    record {
+      put = seal at next (4 * length ws) s t 0 m 0 0 (be32s ws) l x y p (omega arith) (omega (arith, length-be32s ws)) w;
+      small = omega (arith, p .end, length-be32s ws);
+    }
+
+-- ---- the largest answer with two notices
+notice-small : (s t : ℕ) (a : Notice) → length (noticeBytes s t a) ≤ 40
+unfolding noticeBytes noticeWords
+notice-small s t (DataHalted reason) = simp (length-record, length-be32s) (omega arith)
+notice-small s t Connected = simp (length-record, length-be32s) (omega arith)
+notice-small s t (MoverHalted reason) = simp (length-record, length-be32s) (omega arith)
+notice-small s t (MoverPaused reason seek) = simp (length-record, length-be32s) (omega arith)
+
+reply-small : (s t m e : ℕ) (r : Reply) (image : List ℕ) → Sendable r image → length (replyBytes s t m e r image) ≤ 32804
+unfolding replyBytes
+reply-small s t m e r image h = rw length-record (omega (arith, body-small r image h))
+
+pub fit : AnswersFit
+fit s t m e s′ t′ s″ t″ r image a b h =
+    simp length-append (omega (arith, reply-small s t m e r image h, notice-small s′ t′ a, notice-small s″ t″ b))

@@ -1,0 +1,2 @@
+-- The laws of bodies, records and their lengths.
+pub mod Laws

@@ -1,0 +1,11 @@
+use Rattle.replies.proofs.Laws.{fit}
+use Rattle.replies.proofs.answers_fit.Statement.{statement}
+use Rattle.replies.proofs.answers_fit.Tie as tie
+use Rattle.replies.proofs.answers_fit.Reads as reads
+use Rattle.replies.proofs.answers_fit.Lts as lts
+
+returns : tie.Need-returns
+returns c = fit
+
+pub answers-fit-spec : {M : Type 1} → statement M
+answers-fit-spec = tie.close (tie.spec returns)

@@ -1,0 +1,120 @@
+-- What is sent: replies and notices (004, Appendix C, and paper 01's narrowings), from their values to their bytes.
+use Prim.Native.Nat.{ℕ, _+_, _*_, _/_, _%_}
+use mathlib.Core.Bool.{Bool, true, false}
+use mathlib.Core.List.{List, [], _∷_, _++_}
+use lib.ListN.{length, take, drop}
+use lib.Dec.{eqb}
+use Rattle.xdr.specs.Choose.{choose}
+use Rattle.xdr.specs.Xdr.{be32s}
+use Rattle.xdr_opaque.specs.Put.{opaque}
+use Rattle.frame.specs.Frame.{recordBytes}
+use Rattle.replies.specs.declared.DataView.{DataView}
+use Rattle.replies.specs.declared.MoverView.{MoverView}
+use Rattle.replies.specs.declared.Reply.{Reply}
+use Rattle.replies.specs.declared.Reply.the-variants.{Header, Plain, Listening, ConnectionTypes, ServerInfo, ScsiState, Cdb, Sense, Check, TapeState, Mtio, Wrote, Read, DataState, MoverState}
+use Rattle.replies.specs.declared.Notice.{Notice}
+use Rattle.replies.specs.declared.Notice.the-variants.{DataHalted, Connected, MoverHalted, MoverPaused}
+
+-- a body: words, then texts (opaque data or strings, each with its length and fill), then words
+pub record Body : Type 0 where
+  pub words : List ℕ
+  pub texts : List (List ℕ)
+  pub tail : List ℕ
+
+abbrev pub wordsOnly : List ℕ → Body
+wordsOnly ws = record { words = ws; texts = []; tail = [] }
+
+unfoldable pub opaques : List (List ℕ) → List ℕ
+opaques [] = []
+opaques (t ∷ ts) = opaque t ++ opaques ts
+
+unfoldable pub bodyBytes : Body → List ℕ
+bodyBytes b = be32s (b .words) ++ (opaques (b .texts) ++ be32s (b .tail))
+
+-- a hyper as its two words
+abbrev pub high : ℕ → ℕ
+high v = v / 4294967296
+
+abbrev pub low : ℕ → ℕ
+low v = v % 4294967296
+
+-- "the sense 70 00 05 00 00 00 00 0A 00 00 00 00 20 00 00 00 00 00 .. With none pending, bytes 2 and 12 are 0."
+unfoldable pub sense : Bool → List ℕ
+sense pending =
+    0x70 ∷ 0 ∷ choose pending 5 0 ∷ 0 ∷ 0 ∷ 0 ∷ 0 ∷ 0x0A ∷ 0 ∷ 0 ∷ 0 ∷ 0 ∷ choose pending 0x20 0 ∷ 0 ∷ 0 ∷ 0 ∷ 0 ∷ 0 ∷ []
+
+-- "Server info gives empty strings before auth, then `vault`, `tape`, `1`"
+unfoldable pub serverTexts : Bool → List (List ℕ)
+serverTexts true = (0x76 ∷ 0x61 ∷ 0x75 ∷ 0x6C ∷ 0x74 ∷ []) ∷ (0x74 ∷ 0x61 ∷ 0x70 ∷ 0x65 ∷ []) ∷ (0x31 ∷ []) ∷ []
+serverTexts false = [] ∷ [] ∷ [] ∷ []
+
+-- The body of each reply, in 004's order. "other reply fields are zero or empty"; what is not kept is zero. An address is the one
+-- word 0 (LOCAL). Of a read, the bytes lie in the image.
+unfoldable pub shapeOf : Reply → List ℕ → Body
+shapeOf (Header e) image = wordsOnly []
+shapeOf (Plain e) image = wordsOnly (e ∷ [])
+shapeOf (Listening e) image = wordsOnly (e ∷ 0 ∷ [])
+-- "Connection types: LOCAL 0": a list of one type, and an empty one where it is refused
+shapeOf (ConnectionTypes e) image = wordsOnly (choose (eqb e 0) (0 ∷ 1 ∷ 0 ∷ []) (e ∷ 0 ∷ []))
+-- "its auth list is type 1"
+shapeOf (ServerInfo known) image = record { words = 0 ∷ []; texts = serverTexts known; tail = 1 ∷ 1 ∷ [] }
+shapeOf (ScsiState e) image = wordsOnly (e ∷ 0 ∷ 0 ∷ 0 ∷ [])
+-- execute CDB: error, status, data-out length, data in, extended sense
+shapeOf (Cdb e) image = record { words = e ∷ 0 ∷ 0 ∷ []; texts = [] ∷ [] ∷ []; tail = [] }
+shapeOf (Sense n pending) image = record { words = 0 ∷ 0 ∷ 0 ∷ []; texts = take n (sense pending) ∷ [] ∷ []; tail = [] }
+shapeOf Check image = record { words = 0 ∷ 2 ∷ 0 ∷ []; texts = [] ∷ sense true ∷ []; tail = [] }
+-- unsupported, error, flags, file, soft errors, block size, block, total space, space remaining
+shapeOf (TapeState e file block) image = wordsOnly (0 ∷ e ∷ 0 ∷ file ∷ 0 ∷ 0 ∷ block ∷ 0 ∷ 0 ∷ 0 ∷ 0 ∷ [])
+shapeOf (Mtio e residue) image = wordsOnly (e ∷ residue ∷ [])
+shapeOf (Wrote e count) image = wordsOnly (e ∷ count ∷ [])
+shapeOf (Read e start len) image = record { words = e ∷ []; texts = take len (drop start image) ∷ []; tail = [] }
+-- unsupported ("DATA's two estimates are marked unsupported"), error, operation, state, reason, processed, estimated bytes and time,
+-- address, read offset and length
+shapeOf (DataState e v) image =
+    wordsOnly
+    (choose (eqb e 0) 3 0 ∷ e ∷ v .operation ∷ v .state ∷ v .reason ∷ high (v .processed) ∷ low (v .processed) ∷ 0 ∷ 0 ∷ 0 ∷ 0 ∷ 0 ∷ 0 ∷ 0 ∷ 0 ∷ [])
+-- error, mode, state, pause and halt reason, record size and number, moved, seek position, bytes left, window, address
+shapeOf (MoverState e v) image =
+    wordsOnly
+    (e ∷ v .mode ∷ v .state ∷ v .pause ∷ v .halt ∷ v .size ∷ v .number ∷ high (v .moved) ∷ low (v .moved) ∷ high (v .seek) ∷ low (v .seek)
+    ∷ high (v .left) ∷ low (v .left) ∷ high (v .offset) ∷ low (v .offset) ∷ high (v .length) ∷ low (v .length) ∷ 0 ∷ [])
+
+-- "An unknown message's 1, and 18, stand in the header with no body; all others in the body, header error 0"
+unfoldable pub headerError : Reply → ℕ
+headerError (Header e) = e
+headerError (Plain e) = 0
+headerError (Listening e) = 0
+headerError (ConnectionTypes e) = 0
+headerError (ServerInfo known) = 0
+headerError (ScsiState e) = 0
+headerError (Cdb e) = 0
+headerError (Sense n pending) = 0
+headerError Check = 0
+headerError (TapeState e file block) = 0
+headerError (Mtio e residue) = 0
+headerError (Wrote e count) = 0
+headerError (Read e start len) = 0
+headerError (DataState e v) = 0
+headerError (MoverState e v) = 0
+
+-- a reply as it is sent: type 1, the request's message and sequence number
+unfoldable pub replyBytes : ℕ → ℕ → ℕ → ℕ → Reply → List ℕ → List ℕ
+replyBytes sequence time message echo r image = recordBytes sequence time 1 message echo (headerError r) (bodyBytes (shapeOf r image))
+
+-- ---- "Sent unasked: data halted, connection status, mover halted, mover paused."
+unfoldable pub noticeNumber : Notice → ℕ
+noticeNumber (DataHalted reason) = 0x501
+noticeNumber Connected = 0x502
+noticeNumber (MoverHalted reason) = 0x503
+noticeNumber (MoverPaused reason seek) = 0x504
+
+-- "connection status (connected 0, version 4, empty text)"; "mover paused carries the kept seek position"
+unfoldable pub noticeWords : Notice → List ℕ
+noticeWords (DataHalted reason) = reason ∷ []
+noticeWords Connected = 0 ∷ 4 ∷ 0 ∷ []
+noticeWords (MoverHalted reason) = reason ∷ []
+noticeWords (MoverPaused reason seek) = reason ∷ high seek ∷ low seek ∷ []
+
+-- "A notice is type 0 with reply sequence 0."
+unfoldable pub noticeBytes : ℕ → ℕ → Notice → List ℕ
+noticeBytes sequence time n = recordBytes sequence time 0 (noticeNumber n) 0 0 (be32s (noticeWords n))

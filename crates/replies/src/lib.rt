@@ -1,0 +1,356 @@
+// Replies and notices, written into a caller's output.
+ghost use mathlib.Core.Path.{_≡_};
+ghost use mathlib.Core.List.{[], _∷_};
+ghost use Prim.Native.Nat.{_+_, _*_, _≤_, _<_};
+ghost use lib.ListN.{length};
+ghost use lib.Dec.{eqb};
+ghost use Rattle.xdr.specs.Choose.{choose};
+ghost use Rattle.xdr.specs.Xdr.{be32s, overlay};
+ghost use Rattle.xdr_opaque.specs.Put.{Put};
+ghost use Rattle.frame.specs.Frame.{recordBytes};
+ghost use Rattle.replies.specs.Replies.{wordsOnly, sense, shapeOf, bodyBytes, headerError, replyBytes, noticeBytes};
+ghost use Rattle.replies.specs.Fit.{Sendable, Sent, AnswersFit};
+
+// What get state tells of the data end.
+#[repr(C)]
+pub struct DataView {
+    pub operation: u32,
+    pub state: u32,
+    pub reason: u32,
+    pub processed: u64,
+}
+
+// What get state tells of the mover.
+#[repr(C)]
+pub struct MoverView {
+    pub mode: u32,
+    pub state: u32,
+    pub pause: u32,
+    pub halt: u32,
+    pub size: u32,
+    pub number: u32,
+    pub moved: u64,
+    pub seek: u64,
+    pub left: u64,
+    pub offset: u64,
+    pub length: u64,
+}
+
+// A reply by its layout, with its error and what it tells. Header is an error in the header with no body; Plain an error alone. Cdb is
+// an execute CDB that hands over nothing, Sense one that hands over the first bytes of the sense (pending or not) as data in, Check
+// one that ends with status 2 and the extended sense. Read is the error and where the bytes lie in the image.
+pub enum Reply {
+    Header(u32),
+    Plain(u32),
+    Listening(u32),
+    ConnectionTypes(u32),
+    ServerInfo(bool),
+    ScsiState(u32),
+    Cdb(u32),
+    Sense(u32, bool),
+    Check,
+    TapeState(u32, u32, u32),
+    Mtio(u32, u32),
+    Wrote(u32, u32),
+    Read(u32, usize, usize),
+    DataState(u32, DataView),
+    MoverState(u32, MoverView),
+}
+
+// What is sent unasked; a pause carries the kept seek position.
+pub enum Notice {
+    DataHalted(u32),
+    Connected,
+    MoverHalted(u32),
+    MoverPaused(u32, u64),
+}
+
+// Writes a body of words alone; returns the offset after it.
+fn put_body(out: &mut [u8], at: usize, ws: &[u32]) -> usize
+    requires { ⌜ at + 4 * length (now ws) ≤ length (now out) ⌝ }
+    ensures { λ r. ⌜ Put at (bodyBytes (wordsOnly (now (ws .entry)))) (now (out .entry)) r (now (out .exit)) ⌝ }
+{
+    xdr_opaque::put_words(out, at, ws)
+}
+
+// Writes the connection types: LOCAL, or none where they are refused.
+fn put_connection_types(out: &mut [u8], at: usize, error: u32) -> usize
+    requires { ⌜ at + 12 ≤ length (now out) ⌝ }
+    ensures { λ r. ⌜ Put at (bodyBytes (shapeOf (Reply.ConnectionTypes error) [])) (now (out .entry)) r (now (out .exit)) ⌝ }
+{
+    if error == 0 {
+        put_body(out, at, &[0, 1, 0])
+    } else {
+        put_body(out, at, &[error, 0])
+    }
+}
+
+// Writes server info with its three texts.
+fn put_server_texts(
+    out: &mut [u8],
+    at: usize,
+    vendor: &[u8],
+    product: &[u8],
+    revision: &[u8],
+) -> usize
+    requires { ⌜ (at + 60 ≤ length (now out)) × (length (now vendor) ≤ 5) × (length (now product) ≤ 5) × (length (now revision) ≤ 5) ⌝ }
+    ensures { λ r. ⌜ Put at (bodyBytes (record { words = 0 ∷ []; texts = now (vendor .entry) ∷ now (product .entry) ∷ now (revision .entry) ∷ []; tail = 1 ∷ 1 ∷ [] })) (now (out .entry)) r (now (out .exit)) ⌝ }
+{
+    let first = xdr_opaque::put_words(out, at, &[0]);
+    let second = xdr_opaque::put_opaque(out, first, vendor);
+    let third = xdr_opaque::put_opaque(out, second, product);
+    let end = xdr_opaque::put_opaque(out, third, revision);
+    xdr_opaque::put_words(out, end, &[1, 1])
+}
+
+fn put_server_info(out: &mut [u8], at: usize, known: bool) -> usize
+    requires { ⌜ at + 60 ≤ length (now out) ⌝ }
+    ensures { λ r. ⌜ Put at (bodyBytes (shapeOf (Reply.ServerInfo known) [])) (now (out .entry)) r (now (out .exit)) ⌝ }
+{
+    if known {
+        put_server_texts(out, at, b"vault", b"tape", b"1")
+    } else {
+        put_server_texts(out, at, b"", b"", b"")
+    }
+}
+
+// Writes the reply to execute CDB: no data out is told.
+fn put_cdb(
+    out: &mut [u8],
+    at: usize,
+    error: u32,
+    status: u32,
+    data_in: &[u8],
+    sense: &[u8],
+) -> usize
+    requires { ⌜ (at + 64 ≤ length (now out)) × (length (now data_in) ≤ 18) × (length (now sense) ≤ 18) ⌝ }
+    ensures { λ r. ⌜ Put at (bodyBytes (record { words = error ∷ status ∷ 0 ∷ []; texts = now (data_in .entry) ∷ now (sense .entry) ∷ []; tail = [] })) (now (out .entry)) r (now (out .exit)) ⌝ }
+{
+    let first = xdr_opaque::put_words(out, at, &[error, status, 0]);
+    let second = xdr_opaque::put_opaque(out, first, data_in);
+    xdr_opaque::put_opaque(out, second, sense)
+}
+
+// The 18 sense bytes.
+fn sense_bytes(pending: bool) -> [u8; 18]
+    ensures { λ r. ⌜ r ≡ sense pending ⌝ }
+{
+    if pending {
+        *b"\x70\x00\x05\x00\x00\x00\x00\x0A\x00\x00\x00\x00\x20\x00\x00\x00\x00\x00"
+    } else {
+        *b"\x70\x00\x00\x00\x00\x00\x00\x0A\x00\x00\x00\x00\x00\x00\x00\x00\x00\x00"
+    }
+}
+
+fn put_sense(out: &mut [u8], at: usize, n: u32, pending: bool) -> usize
+    requires { ⌜ (at + 64 ≤ length (now out)) × (n ≤ 18) ⌝ }
+    ensures { λ r. ⌜ Put at (bodyBytes (shapeOf (Reply.Sense n pending) [])) (now (out .entry)) r (now (out .exit)) ⌝ }
+{
+    let bytes = sense_bytes(pending);
+    let end = n as usize;
+    put_cdb(out, at, 0, 0, &bytes[..end], b"")
+}
+
+fn put_check(out: &mut [u8], at: usize) -> usize
+    requires { ⌜ at + 64 ≤ length (now out) ⌝ }
+    ensures { λ r. ⌜ Put at (bodyBytes (shapeOf Reply.Check [])) (now (out .entry)) r (now (out .exit)) ⌝ }
+{
+    let bytes = sense_bytes(true);
+    put_cdb(out, at, 0, 2, b"", &bytes)
+}
+
+fn put_read(out: &mut [u8], at: usize, error: u32, bytes: &[u8]) -> usize
+    requires { ⌜ (at + length (now bytes) + 12 ≤ length (now out)) × (length (now bytes) ≤ 65536) ⌝ }
+    ensures { λ r. ⌜ Put at (bodyBytes (record { words = error ∷ []; texts = now (bytes .entry) ∷ []; tail = [] })) (now (out .entry)) r (now (out .exit)) ⌝ }
+{
+    let first = xdr_opaque::put_words(out, at, &[error]);
+    xdr_opaque::put_opaque(out, first, bytes)
+}
+
+// The word that marks DATA's two estimates unsupported.
+fn unsupported(error: u32) -> u32
+    ensures { λ r. ⌜ r ≡ choose (eqb error 0) 3 0 ⌝ }
+{
+    if error == 0 { 3 } else { 0 }
+}
+
+fn put_data_state(out: &mut [u8], at: usize, error: u32, v: DataView) -> usize
+    requires { ⌜ at + 60 ≤ length (now out) ⌝ }
+    ensures { λ r. ⌜ Put at (bodyBytes (shapeOf (Reply.DataState error v) [])) (now (out .entry)) r (now (out .exit)) ⌝ }
+{
+    let mask = unsupported(error);
+    let high = (v.processed / 4294967296) as u32;
+    let low = (v.processed % 4294967296) as u32;
+    put_body(
+        out,
+        at,
+        &[
+            mask,
+            error,
+            v.operation,
+            v.state,
+            v.reason,
+            high,
+            low,
+            0,
+            0,
+            0,
+            0,
+            0,
+            0,
+            0,
+            0,
+        ],
+    )
+}
+
+fn put_mover_state(out: &mut [u8], at: usize, error: u32, v: MoverView) -> usize
+    requires { ⌜ at + 72 ≤ length (now out) ⌝ }
+    ensures { λ r. ⌜ Put at (bodyBytes (shapeOf (Reply.MoverState error v) [])) (now (out .entry)) r (now (out .exit)) ⌝ }
+{
+    put_body(
+        out,
+        at,
+        &[
+            error,
+            v.mode,
+            v.state,
+            v.pause,
+            v.halt,
+            v.size,
+            v.number,
+            (v.moved / 4294967296) as u32,
+            (v.moved % 4294967296) as u32,
+            (v.seek / 4294967296) as u32,
+            (v.seek % 4294967296) as u32,
+            (v.left / 4294967296) as u32,
+            (v.left % 4294967296) as u32,
+            (v.offset / 4294967296) as u32,
+            (v.offset % 4294967296) as u32,
+            (v.length / 4294967296) as u32,
+            (v.length % 4294967296) as u32,
+            0,
+        ],
+    )
+}
+
+// Writes a reply's body at an offset; returns the offset after it. The bytes of a read lie in the image.
+pub fn write_body(out: &mut [u8], at: usize, reply: Reply, image: &[u8]) -> usize
+    requires { ⌜ (at + 32800 ≤ length (now out)) × Sendable reply (now image) ⌝ }
+    ensures { λ r. ⌜ Put at (bodyBytes (shapeOf reply (now (image .entry)))) (now (out .entry)) r (now (out .exit)) ⌝ }
+{
+    match reply {
+        Reply::Header(_) => at,
+        Reply::Plain(error) => put_body(out, at, &[error]),
+        Reply::Listening(error) => put_body(out, at, &[error, 0]),
+        Reply::ConnectionTypes(error) => put_connection_types(out, at, error),
+        Reply::ServerInfo(known) => put_server_info(out, at, known),
+        Reply::ScsiState(error) => put_body(out, at, &[error, 0, 0, 0]),
+        Reply::Cdb(error) => put_cdb(out, at, error, 0, b"", b""),
+        Reply::Sense(n, pending) => put_sense(out, at, n, pending),
+        Reply::Check => put_check(out, at),
+        Reply::TapeState(error, file, block) => put_body(
+            out,
+            at,
+            &[0, error, 0, file, 0, 0, block, 0, 0, 0, 0],
+        ),
+        Reply::Mtio(error, residue) => put_body(out, at, &[error, residue]),
+        Reply::Wrote(error, count) => put_body(out, at, &[error, count]),
+        Reply::Read(error, start, len) => put_read(out, at, error, &image[start..start + len]),
+        Reply::DataState(error, view) => put_data_state(out, at, error, view),
+        Reply::MoverState(error, view) => put_mover_state(out, at, error, view),
+    }
+}
+
+// The error that stands in a reply's header.
+pub fn header_error(reply: Reply) -> u32
+    ensures { λ r. ⌜ r ≡ headerError reply ⌝ }
+{
+    let Reply::Header(error) = reply else {
+        return 0;
+    };
+    error
+}
+
+// Writes the mark and the header in front of a body of len bytes.
+fn write_header(
+    out: &mut [u8],
+    at: usize,
+    len: usize,
+    sequence: u32,
+    time: u32,
+    kind: u32,
+    message: u32,
+    echo: u32,
+    error: u32,
+)
+    requires { ⌜ (at + 28 ≤ length (now out)) × (len ≤ 36840) ⌝ }
+    ensures { λ _. ⌜ now (out .exit) ≡ overlay at (be32s ((0x8000_0000 + (24 + len)) ∷ sequence ∷ time ∷ kind ∷ message ∷ echo ∷ error ∷ [])) (now (out .entry)) ⌝ }
+{
+    let mark = 0x8000_0000 + (24 + len) as u32;
+    xdr::write_words(out, at, &[mark, sequence, time, kind, message, echo, error]);
+}
+
+// Writes a reply at the front of the output; returns its length.
+pub fn write_reply(
+    out: &mut [u8],
+    sequence: u32,
+    time: u32,
+    message: u32,
+    echo: u32,
+    reply: Reply,
+    image: &[u8],
+) -> usize
+    requires { ⌜ (36864 ≤ length (now out)) × Sendable reply (now image) ⌝ }
+    ensures { λ r. ⌜ Sent 32804 0 (replyBytes sequence time message echo reply (now (image .entry))) (now (out .entry)) r (now (out .exit)) ⌝ }
+{
+    let end = write_body(out, 28, reply, image);
+    let error = header_error(reply);
+    write_header(out, 0, end - 28, sequence, time, 1, message, echo, error);
+    end
+}
+
+fn put_notice(
+    out: &mut [u8],
+    at: usize,
+    sequence: u32,
+    time: u32,
+    message: u32,
+    ws: &[u32],
+) -> usize
+    requires { ⌜ (at + 40 ≤ length (now out)) × (length (now ws) ≤ 3) ⌝ }
+    ensures { λ r. ⌜ Sent (at + 40) at (recordBytes sequence time 0 message 0 0 (be32s (now (ws .entry)))) (now (out .entry)) r (now (out .exit)) ⌝ }
+{
+    let end = xdr_opaque::put_words(out, at + 28, ws);
+    write_header(out, at, 4 * ws.len(), sequence, time, 0, message, 0, 0);
+    end
+}
+
+// Writes a notice at an offset; returns the offset after it.
+pub fn write_notice(out: &mut [u8], at: usize, sequence: u32, time: u32, notice: Notice) -> usize
+    requires { ⌜ at + 40 ≤ length (now out) ⌝ }
+    ensures { λ r. ⌜ Sent (at + 40) at (noticeBytes sequence time notice) (now (out .entry)) r (now (out .exit)) ⌝ }
+{
+    match notice {
+        Notice::DataHalted(reason) => put_notice(out, at, sequence, time, 0x501, &[reason]),
+        Notice::Connected => put_notice(out, at, sequence, time, 0x502, &[0, 4, 0]),
+        Notice::MoverHalted(reason) => put_notice(out, at, sequence, time, 0x503, &[reason]),
+        Notice::MoverPaused(reason, seek) => put_notice(
+            out,
+            at,
+            sequence,
+            time,
+            0x504,
+            &[
+                reason,
+                (seek / 4294967296) as u32,
+                (seek % 4294967296) as u32,
+            ],
+        ),
+    }
+}
+
+// No work: its contract is that the largest answer with two notices fits the output, so that the crate is proved only with it.
+pub fn answers_fit()
+    ensures { λ r. ⌜ AnswersFit ⌝ }
+{}
