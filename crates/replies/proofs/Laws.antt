@@ -3,16 +3,15 @@ use Prim.Native.Nat.{ℕ, _+_, _-_, _*_, _≤_}
 use Prim.{tt}
 use mathlib.Core.Bool.{Bool, true, false}
 use mathlib.Core.Path.{_≡_, refl, sym, _∙_}
-use mathlib.Core.List.{List, [], _∷_, _++_}
+use mathlib.Core.List.{List, [], _∷_}
 use native.Mathlib.Omega.{arith}
 use native.Mathlib.Nat.{add-zero}
-use lib.ListN.{length, take, drop, length-append, length-take, length-drop}
+use lib.ListN.{length, take, drop, length-append, length-take}
 use lib.Seq.{length-take-le}
 use lib.Dec.{eqb}
 use types.Run.{OneOf, miss}
 use denote.Enum.Declared.{tagOf}
 use Rattle.replies.proofs.Reply.{the-type}
-use Rattle.xdr.specs.Choose.{choose}
 use Rattle.xdr.specs.Xdr.{be32s, overlay}
 use Rattle.xdr.proofs.Laws.{length-be32s, overlay-none, overlay-front}
 use Rattle.xdr.proofs.Tests.{by-test}
@@ -24,7 +23,7 @@ use Rattle.replies.specs.declared.Reply.{Reply}
 use Rattle.replies.specs.declared.Reply.the-variants.{Header, Plain, Listening, ConnectionTypes, ServerInfo, ScsiState, Cdb, Sense, Check, TapeState, Mtio, Wrote, Read, DataState, MoverState}
 use Rattle.replies.specs.declared.Notice.{Notice}
 use Rattle.replies.specs.declared.Notice.the-variants.{DataHalted, Connected, MoverHalted, MoverPaused}
-use Rattle.replies.specs.Replies.{Body, opaques, bodyBytes, wordsOnly, sense, serverTexts, shapeOf, headerError, replyBytes, noticeWords, noticeNumber, noticeBytes}
+use Rattle.replies.specs.Replies.{Body, opaques, bodyBytes, wordsOnly, sense, serverTexts, shapeOf, headerError, replyBytes, noticeWords, noticeBytes}
 use Rattle.replies.specs.Fit.{Sendable, Sent, AnswersFit}
 
 -- ---- a body by its writes
@@ -98,7 +97,7 @@ no-header (DataState e v) h = refl
 no-header (MoverState e v) h = refl
 
 -- ---- how long a body is
-length-body : (b : Body) → length (bodyBytes b) ≡ 4 * length (b .words) + (length (opaques (b .texts)) + 4 * length (b .tail))
+pub length-body : (b : Body) → length (bodyBytes b) ≡ 4 * length (b .words) + (length (opaques (b .texts)) + 4 * length (b .tail))
 unfolding bodyBytes
 length-body b = simp (length-append, length-be32s)
 
@@ -168,12 +167,16 @@ notice-sent at next s t m ws l x y p h k w =
     }
 
 -- ---- the largest answer with two notices
+pub notice-short : (a : Notice) → length (noticeWords a) ≤ 3
+unfolding noticeWords
+notice-short (DataHalted reason) = omega arith
+notice-short Connected = omega arith
+notice-short (MoverHalted reason) = omega arith
+notice-short (MoverPaused reason seek) = omega arith
+
 notice-small : (s t : ℕ) (a : Notice) → length (noticeBytes s t a) ≤ 40
-unfolding noticeBytes noticeWords
-notice-small s t (DataHalted reason) = simp (length-record, length-be32s) (omega arith)
-notice-small s t Connected = simp (length-record, length-be32s) (omega arith)
-notice-small s t (MoverHalted reason) = simp (length-record, length-be32s) (omega arith)
-notice-small s t (MoverPaused reason seek) = simp (length-record, length-be32s) (omega arith)
+unfolding noticeBytes
+notice-small s t a = simp (length-record, length-be32s) (omega (arith, notice-short a))
 
 reply-small : (s t m e : ℕ) (r : Reply) (image : List ℕ) → Sendable r image → length (replyBytes s t m e r image) ≤ 32804
 unfolding replyBytes

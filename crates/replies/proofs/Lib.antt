@@ -1,2 +1,3 @@
--- The laws of bodies, records and their lengths.
+-- `Laws` has bodies and records by their writes, and how long they are; `RoundTrip` that what is sent is read back.
 pub mod Laws
+pub mod RoundTrip

@@ -1,7 +1,7 @@
 // Replies and notices, written into a caller's output.
 ghost use mathlib.Core.Path.{_≡_};
 ghost use mathlib.Core.List.{[], _∷_};
-ghost use Prim.Native.Nat.{_+_, _*_, _≤_, _<_};
+ghost use Prim.Native.Nat.{_+_, _*_, _≤_};
 ghost use lib.ListN.{length};
 ghost use lib.Dec.{eqb};
 ghost use Rattle.xdr.specs.Choose.{choose};
@@ -10,6 +10,7 @@ ghost use Rattle.xdr_opaque.specs.Put.{Put};
 ghost use Rattle.frame.specs.Frame.{recordBytes};
 ghost use Rattle.replies.specs.Replies.{wordsOnly, sense, shapeOf, bodyBytes, headerError, replyBytes, noticeBytes};
 ghost use Rattle.replies.specs.Fit.{Sendable, Sent, AnswersFit};
+ghost use Rattle.replies.specs.RoundTrip.{RepliesBack};
 
 // What get state tells of the data end.
 #[repr(C)]
@@ -85,7 +86,7 @@ fn put_connection_types(out: &mut [u8], at: usize, error: u32) -> usize
     }
 }
 
-// Writes server info with its three texts.
+// Writes server info with these texts; the auth list is type 1.
 fn put_server_texts(
     out: &mut [u8],
     at: usize,
@@ -103,6 +104,7 @@ fn put_server_texts(
     xdr_opaque::put_words(out, end, &[1, 1])
 }
 
+// Writes server info; its texts are empty before auth.
 fn put_server_info(out: &mut [u8], at: usize, known: bool) -> usize
     requires { ⌜ at + 60 ≤ length (now out) ⌝ }
     ensures { λ r. ⌜ Put at (bodyBytes (shapeOf (Reply.ServerInfo known) [])) (now (out .entry)) r (now (out .exit)) ⌝ }
@@ -131,7 +133,7 @@ fn put_cdb(
     xdr_opaque::put_opaque(out, second, sense)
 }
 
-// The 18 sense bytes.
+// The 18 sense bytes; with none pending, bytes 2 and 12 are 0.
 fn sense_bytes(pending: bool) -> [u8; 18]
     ensures { λ r. ⌜ r ≡ sense pending ⌝ }
 {
@@ -142,6 +144,7 @@ fn sense_bytes(pending: bool) -> [u8; 18]
     }
 }
 
+// Writes the first n bytes of the sense as data in.
 fn put_sense(out: &mut [u8], at: usize, n: u32, pending: bool) -> usize
     requires { ⌜ (at + 64 ≤ length (now out)) × (n ≤ 18) ⌝ }
     ensures { λ r. ⌜ Put at (bodyBytes (shapeOf (Reply.Sense n pending) [])) (now (out .entry)) r (now (out .exit)) ⌝ }
@@ -151,6 +154,7 @@ fn put_sense(out: &mut [u8], at: usize, n: u32, pending: bool) -> usize
     put_cdb(out, at, 0, 0, &bytes[..end], b"")
 }
 
+// Writes status 2 with the extended sense.
 fn put_check(out: &mut [u8], at: usize) -> usize
     requires { ⌜ at + 64 ≤ length (now out) ⌝ }
     ensures { λ r. ⌜ Put at (bodyBytes (shapeOf Reply.Check [])) (now (out .entry)) r (now (out .exit)) ⌝ }
@@ -159,6 +163,7 @@ fn put_check(out: &mut [u8], at: usize) -> usize
     put_cdb(out, at, 0, 2, b"", &bytes)
 }
 
+// Writes an error and the bytes of a read.
 fn put_read(out: &mut [u8], at: usize, error: u32, bytes: &[u8]) -> usize
     requires { ⌜ (at + length (now bytes) + 12 ≤ length (now out)) × (length (now bytes) ≤ 65536) ⌝ }
     ensures { λ r. ⌜ Put at (bodyBytes (record { words = error ∷ []; texts = now (bytes .entry) ∷ []; tail = [] })) (now (out .entry)) r (now (out .exit)) ⌝ }
@@ -167,13 +172,14 @@ fn put_read(out: &mut [u8], at: usize, error: u32, bytes: &[u8]) -> usize
     xdr_opaque::put_opaque(out, first, bytes)
 }
 
-// The word that marks DATA's two estimates unsupported.
+// The word that marks DATA's two estimates unsupported; zero where the request is refused.
 fn unsupported(error: u32) -> u32
     ensures { λ r. ⌜ r ≡ choose (eqb error 0) 3 0 ⌝ }
 {
     if error == 0 { 3 } else { 0 }
 }
 
+// Writes the data end; what is not kept is zero.
 fn put_data_state(out: &mut [u8], at: usize, error: u32, v: DataView) -> usize
     requires { ⌜ at + 60 ≤ length (now out) ⌝ }
     ensures { λ r. ⌜ Put at (bodyBytes (shapeOf (Reply.DataState error v) [])) (now (out .entry)) r (now (out .exit)) ⌝ }
@@ -204,6 +210,7 @@ fn put_data_state(out: &mut [u8], at: usize, error: u32, v: DataView) -> usize
     )
 }
 
+// Writes the mover; a hyper is its two words.
 fn put_mover_state(out: &mut [u8], at: usize, error: u32, v: MoverView) -> usize
     requires { ⌜ at + 72 ≤ length (now out) ⌝ }
     ensures { λ r. ⌜ Put at (bodyBytes (shapeOf (Reply.MoverState error v) [])) (now (out .entry)) r (now (out .exit)) ⌝ }
@@ -310,6 +317,7 @@ pub fn write_reply(
     end
 }
 
+// Writes a notice of these words: type 0, reply sequence 0, error 0.
 fn put_notice(
     out: &mut [u8],
     at: usize,
@@ -353,4 +361,9 @@ pub fn write_notice(out: &mut [u8], at: usize, sequence: u32, time: u32, notice:
 // No work: its contract is that the largest answer with two notices fits the output, so that the crate is proved only with it.
 pub fn answers_fit()
     ensures { λ r. ⌜ AnswersFit ⌝ }
+{}
+
+// The same, of what is sent being read back.
+pub fn replies_round_trip()
+    ensures { λ r. ⌜ RepliesBack ⌝ }
 {}

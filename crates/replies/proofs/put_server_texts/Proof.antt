@@ -1,7 +1,7 @@
 use native.Mathlib.Omega.{arith}
 use Rattle.xdr.specs.Xdr.{be32, be32s}
 use Rattle.xdr_opaque.proofs.Laws.{length-opaque}
-use Rattle.replies.proofs.Laws.{whole, text, no-texts, no-words}
+use Rattle.replies.proofs.Laws.{whole, text, no-texts}
 use borrow.Author.Needs.{needs}
 use Rattle.replies.proofs.put_server_texts.Statement.{statement}
 use Rattle.replies.proofs.put_server_texts.Tie as tie
