@@ -24,7 +24,8 @@ use Rattle.replies.specs.declared.Reply.the-variants.{Header, Plain, Lis
 use Rattle.replies.specs.declared.Notice.{Notice}
 use Rattle.replies.specs.declared.Notice.the-variants.{DataHalted, Connected, MoverHalted, MoverPaused}
 use Rattle.replies.specs.Replies.{Body, opaques, bodyBytes, wordsOnly, sense, serverTexts, shapeOf, headerError, replyBytes, noticeWords, noticeBytes}
-use Rattle.replies.specs.Fit.{Sendable, Sent, AnswersFit}
+use Rattle.replies.specs.Fit.{Sendable, AnswersFit}
+use Rattle.replies.specs.Sent.{Sent, headerWords}
 
 -- ---- a body by its writes
 none : {at : ℕ} {l : List ℕ} → Put at [] l at l
@@ -140,16 +141,16 @@ body-small (MoverState e v) image s = few _ (omega arith)
 
 -- ---- a record: the mark and the header, written in front of a body
 pub seal : (at next n s t k m e err : ℕ) (b l x y : List ℕ) → Put (at + 28) b l next x → at + 28 ≤ length l → n ≡ length b
-    → y ≡ overlay at (be32s ((0x8000_0000 + (24 + n)) ∷ s ∷ t ∷ k ∷ m ∷ e ∷ err ∷ [])) x → Put at (recordBytes s t k m e err b) l next y
+    → y ≡ overlay at (be32s (headerWords n s t k m e err)) x → Put at (recordBytes s t k m e err b) l next y
 unfolding recordBytes
 seal at next n s t k m e err b l x y p h f w =
     record {
       end = simp (length-append, length-be32s) (omega (arith, p .end));
-      wrote = w ∙ rw (f, p .wrote) (overlay-front at (at + 28) (be32s ((0x8000_0000 + (24 + length b)) ∷ s ∷ t ∷ k ∷ m ∷ e ∷ err ∷ [])) b l (rw length-be32s) h);
+      wrote = w ∙ rw (f, p .wrote) (overlay-front at (at + 28) (be32s (headerWords (length b) s t k m e err)) b l (rw length-be32s) h);
     }
 
 pub reply-sent : (next n s t m e err : ℕ) (r : Reply) (image l x y : List ℕ) → Put 28 (bodyBytes (shapeOf r image)) l next x → Sendable r image → 28 ≤ length l
-    → n ≡ next - 28 → err ≡ headerError r → y ≡ overlay 0 (be32s ((0x8000_0000 + (24 + n)) ∷ s ∷ t ∷ 1 ∷ m ∷ e ∷ err ∷ [])) x
+    → n ≡ next - 28 → err ≡ headerError r → y ≡ overlay 0 (be32s (headerWords n s t 1 m e err)) x
     → Sent 32804 0 (replyBytes s t m e r image) l next y
 unfolding replyBytes
 reply-sent next n s t m e err r image l x y p c h f g w =
@@ -159,7 +160,7 @@ reply-sent next n s t m e err r image l x y p c h f g w =
     }
 
 pub notice-sent : (at next s t m : ℕ) (ws l x y : List ℕ) → Put (at + 28) (be32s ws) l next x → at + 40 ≤ length l → length ws ≤ 3
-    → y ≡ overlay at (be32s ((0x8000_0000 + (24 + 4 * length ws)) ∷ s ∷ t ∷ 0 ∷ m ∷ 0 ∷ 0 ∷ [])) x → Sent (at + 40) at (recordBytes s t 0 m 0 0 (be32s ws)) l next y
+    → y ≡ overlay at (be32s (headerWords (4 * length ws) s t 0 m 0 0)) x → Sent (at + 40) at (recordBytes s t 0 m 0 0 (be32s ws)) l next y
 notice-sent at next s t m ws l x y p h k w =
     record {
       put = seal at next (4 * length ws) s t 0 m 0 0 (be32s ws) l x y p (omega arith) (omega (arith, length-be32s ws)) w;

@@ -17,6 +17,7 @@ use Rattle.frame.proofs.Laws.{well, length-record}
 use Rattle.replies.specs.declared.Notice.{Notice}
 use Rattle.replies.specs.declared.Notice.the-variants.{DataHalted, Connected, MoverHalted, MoverPaused}
 use Rattle.replies.specs.Replies.{Body, opaques, bodyBytes, shapeOf, headerError, replyBytes, noticeNumber, noticeWords, noticeBytes}
+use Rattle.replies.specs.Sent.{headerWords}
 use Rattle.replies.specs.RoundTrip.{Words32, Texts32, WordsAt, TextAt, TextsAt, BodyAt, RecordAt, RepliesBack}
 use Rattle.replies.proofs.Laws.{body-small, length-body, notice-short}
 
@@ -57,26 +58,24 @@ body-at b h j k =
     }
 
 -- ---- a record
-module _ (s t k m e err : ℕ) (body : List ℕ) where
-  header : List ℕ
-  header = (0x8000_0000 + (24 + length body)) ∷ s ∷ t ∷ k ∷ m ∷ e ∷ err ∷ []
-
-  record-at : Words32 (s ∷ t ∷ k ∷ m ∷ e ∷ err ∷ []) → length body ≤ 36840 → RecordAt (recordBytes s t k m e err body) s t k m e err body
-  unfolding recordBytes Words32 header
-  record-at h n =
-      let w : WordsAt (be32s header ++ body) 0 header = words-at [] header body (omega arith, h) in
-      let mark : word (be32s header ++ body) 0 ≡ 0x8000_0000 + (24 + length body) = w 0 (omega arith) in
-      let size : length (be32s header ++ body) ≡ 28 + length body = length-record s t k m e err body in
-      record {
-        framed = sym (well _ (record { long = omega arith; low = omega arith; high = omega arith; size = omega arith }));
-        sequence-back = w 1 (omega arith);
-        time-back = w 2 (omega arith);
-        kind-back = w 3 (omega arith);
-        message-back = w 4 (omega arith);
-        echo-back = w 5 (omega arith);
-        error-back = w 6 (omega arith);
-        body-back = drop-at (be32s header) body 28 (length-be32s header);
-      }
+record-at : (s t k m e err : ℕ) (body : List ℕ) → Words32 (s ∷ t ∷ k ∷ m ∷ e ∷ err ∷ []) → length body ≤ 36840
+    → RecordAt (recordBytes s t k m e err body) s t k m e err body
+unfolding recordBytes Words32
+record-at s t k m e err body h n =
+    let header : List ℕ = headerWords (length body) s t k m e err in
+    let w : WordsAt (be32s header ++ body) 0 header = words-at [] header body (omega arith, h) in
+    let mark : word (be32s header ++ body) 0 ≡ 0x8000_0000 + (24 + length body) = w 0 (omega arith) in
+    let size : length (be32s header ++ body) ≡ 28 + length body = length-record s t k m e err body in
+    record {
+      framed = sym (well _ (record { long = omega arith; low = omega arith; high = omega arith; size = omega arith }));
+      sequence-back = w 1 (omega arith);
+      time-back = w 2 (omega arith);
+      kind-back = w 3 (omega arith);
+      message-back = w 4 (omega arith);
+      echo-back = w 5 (omega arith);
+      error-back = w 6 (omega arith);
+      body-back = drop-at (be32s header) body 28 (length-be32s header);
+    }
 
 -- ---- replies and notices
 number-fits : (n : Notice) → noticeNumber n < 2 ^ 32

@@ -4,7 +4,6 @@ use mathlib.Core.Bool.{Bool}
 use mathlib.Core.List.{List, [], _∷_, _++_}
 use mathlib.Core.Path.{_≡_}
 use lib.ListN.{length}
-use Rattle.xdr_opaque.specs.Put.{Put}
 use Rattle.replies.specs.declared.Reply.{Reply}
 use Rattle.replies.specs.declared.Reply.the-variants.{Header, Plain, Listening, ConnectionTypes, ServerInfo, ScsiState, Cdb, Sense, Check, TapeState, Mtio, Wrote, Read, DataState, MoverState}
 use Rattle.replies.specs.declared.Notice.{Notice}
@@ -27,11 +26,6 @@ Sendable (Wrote e count) image = Unit
 Sendable (Read e start len) image = (start + len ≤ length image) × (len ≤ 32768)
 Sendable (DataState e v) image = Unit
 Sendable (MoverState e v) image = Unit
-
--- a write that ends at or before an offset
-pub record Sent (most at : ℕ) (b l : List ℕ) (next : ℕ) (m : List ℕ) : Type 0 where
-  pub put : Put at b l next m
-  pub small : next ≤ most
 
 -- the largest answer with two notices fits an output of 36,864 bytes
 abbrev pub AnswersFit : Type 0

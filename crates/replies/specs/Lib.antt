@@ -1,3 +1,4 @@
 pub mod Replies
 pub mod Fit
+pub mod Sent
 pub mod RoundTrip

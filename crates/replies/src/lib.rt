@@ -9,7 +9,8 @@ ghost use Rattle.xdr.specs.Xdr.{be32s, overlay};
 ghost use Rattle.xdr_opaque.specs.Put.{Put};
 ghost use Rattle.frame.specs.Frame.{recordBytes};
 ghost use Rattle.replies.specs.Replies.{wordsOnly, sense, shapeOf, bodyBytes, headerError, replyBytes, noticeBytes};
-ghost use Rattle.replies.specs.Fit.{Sendable, Sent, AnswersFit};
+ghost use Rattle.replies.specs.Fit.{Sendable, AnswersFit};
+ghost use Rattle.replies.specs.Sent.{Sent, headerWords};
 ghost use Rattle.replies.specs.RoundTrip.{RepliesBack};
 
 // What get state tells of the data end.
@@ -292,7 +293,7 @@ fn write_header(
     error: u32,
 )
     requires { ⌜ (at + 28 ≤ length (now out)) × (len ≤ 36840) ⌝ }
-    ensures { λ _. ⌜ now (out .exit) ≡ overlay at (be32s ((0x8000_0000 + (24 + len)) ∷ sequence ∷ time ∷ kind ∷ message ∷ echo ∷ error ∷ [])) (now (out .entry)) ⌝ }
+    ensures { λ _. ⌜ now (out .exit) ≡ overlay at (be32s (headerWords len sequence time kind message echo error)) (now (out .entry)) ⌝ }
 {
     let mark = 0x8000_0000 + (24 + len) as u32;
     xdr::write_words(out, at, &[mark, sequence, time, kind, message, echo, error]);
