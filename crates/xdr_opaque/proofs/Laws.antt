@@ -12,9 +12,10 @@ use borrow.Author.Tests.{le-leb, lt-leb, leb-true}
 use Rattle.xdr.specs.Choose.{choose}
 use Rattle.xdr.specs.Xdr.{be32, word, overlay}
 use Rattle.xdr.proofs.Laws.{more, length-be32}
-use Rattle.xdr_opaque.specs.Opaque.{wordAt, filled, opaqueAt, afterOpaque, andThen, pairAt, pairsAt, listAt}
+use Rattle.xdr_opaque.specs.Opaque.{wordAt, filled, opaqueAt, afterOpaque, andThen, pairAt, timesAt, countedAt}
 use Rattle.xdr_opaque.specs.Put.{Put, fill, opaque}
 use Rattle.xdr_opaque.specs.declared.Opaque.the-variants.{At, Bad}
+use Rattle.xdr_opaque.specs.declared.After.{After}
 use Rattle.xdr_opaque.specs.declared.After.the-variants.{Next, Short}
 use Rattle.xdr_opaque.specs.declared.Word.the-variants as Word
 
@@ -77,34 +78,34 @@ module _ (l : List ℕ) (at : ℕ) where
   unfolding pairAt afterOpaque
   pair-whole s n x s′ n′ y e f = rw (← e, ← f)
 
-  -- pairs one after another
-  pub pairs-none : (n : ℕ) → n ≤ 0 → Next at ≡ pairsAt n l at
-  unfolding pairsAt
-  pairs-none zero h = refl
-  pairs-none (suc n) h = absurd (not-suc-le-zero h)
+-- elements one after another, and counted lists of them, by any reader
+module _ (f : List ℕ → ℕ → After) (l : List ℕ) (at : ℕ) where
+  pub times-none : (n : ℕ) → n ≤ 0 → Next at ≡ timesAt f n l at
+  unfolding timesAt
+  times-none zero h = refl
+  times-none (suc n) h = absurd (not-suc-le-zero h)
 
-  pub pairs-short : (n : ℕ) → 0 < n → Short ≡ pairAt l at → Short ≡ pairsAt n l at
-  unfolding pairsAt andThen
-  pairs-short zero h e = absurd (not-suc-le-zero h)
-  pairs-short (suc n) h e = rw (← e)
+  pub times-short : (n : ℕ) → 0 < n → Short ≡ f l at → Short ≡ timesAt f n l at
+  unfolding timesAt andThen
+  times-short zero h e = absurd (not-suc-le-zero h)
+  times-short (suc n) h e = rw (← e)
 
-  pub pairs-more : (n x : ℕ) → 0 < n → Next x ≡ pairAt l at → pairsAt n l at ≡ pairsAt (n - 1) l x
-  unfolding pairsAt andThen
-  pairs-more zero x h e = absurd (not-suc-le-zero h)
-  pairs-more (suc n) x h e = let k : suc n - 1 ≡ n = omega arith in rw (k, ← e)
+  pub times-more : (n x : ℕ) → 0 < n → Next x ≡ f l at → timesAt f n l at ≡ timesAt f (n - 1) l x
+  unfolding timesAt andThen
+  times-more zero x h e = absurd (not-suc-le-zero h)
+  times-more (suc n) x h e = let k : suc n - 1 ≡ n = omega arith in rw (k, ← e)
 
-  -- a counted list of pairs
-  pub list-short : (most : ℕ) → length l < at + 4 → Short ≡ listAt most l at
-  unfolding listAt choose
-  list-short most h = rw (lt-leb (at + 4) (length l) h)
+  pub counted-short : (most : ℕ) → length l < at + 4 → Short ≡ countedAt f most l at
+  unfolding countedAt choose
+  counted-short most h = rw (lt-leb (at + 4) (length l) h)
 
-  pub list-long : (most n : ℕ) → n ≡ word l at → at + 4 ≤ length l → most < n → Short ≡ listAt most l at
-  unfolding listAt choose
-  list-long most n e h k = rw (le-leb (at + 4) (length l) h, ← e, lt-leb n most k)
+  pub counted-long : (most n : ℕ) → n ≡ word l at → at + 4 ≤ length l → most < n → Short ≡ countedAt f most l at
+  unfolding countedAt choose
+  counted-long most n e h k = rw (le-leb (at + 4) (length l) h, ← e, lt-leb n most k)
 
-  pub list-whole : (most n : ℕ) → n ≡ word l at → at + 4 ≤ length l → n ≤ most → pairsAt n l (at + 4) ≡ listAt most l at
-  unfolding listAt choose
-  list-whole most n e h k = rw (le-leb (at + 4) (length l) h, ← e, le-leb n most k)
+  pub counted-whole : (most n : ℕ) → n ≡ word l at → at + 4 ≤ length l → n ≤ most → timesAt f n l (at + 4) ≡ countedAt f most l at
+  unfolding countedAt choose
+  counted-whole most n e h k = rw (le-leb (at + 4) (length l) h, ← e, le-leb n most k)
 
 -- a write, and a write where it ends, are one write
 pub then : {at next last : ℕ} {a b l m m′ : List ℕ} → Put at a l next m → Put next b m last m′ → Put at (a ++ b) l last m′

@@ -1,4 +1,5 @@
--- Reading XDR (RFC 4506): variable-length opaque data and strings, counted lists of pairs of strings, and a word that may be missing.
+-- Reading XDR (RFC 4506): variable-length opaque data and strings, pairs of strings, counted lists of elements of any kind, and a word
+-- that may be missing.
 use Prim.Native.Nat.{ℕ, zero, suc, _+_, _*_, _/_}
 use mathlib.Core.List.{List}
 use lib.ListN.{length}
@@ -44,15 +45,15 @@ andThen Short f = Short
 unfoldable pub pairAt : List ℕ → ℕ → After
 pairAt l at = afterOpaque (opaqueAt l at) (λ x. afterOpaque (opaqueAt l x) (λ y. Next y))
 
--- the offset after n pairs, the elements of an array (4.13)
-unfoldable pub pairsAt : ℕ → List ℕ → ℕ → After
-pairsAt zero l at = Next at
-pairsAt (suc n) l at = andThen (pairAt l at) (λ x. pairsAt n l x)
+-- the offset after n elements of an array (4.13), each of which the reader f passes over
+unfoldable pub timesAt : (List ℕ → ℕ → After) → ℕ → List ℕ → ℕ → After
+timesAt f zero l at = Next at
+timesAt f (suc n) l at = andThen (f l at) (λ x. timesAt f n l x)
 
--- the offset after a variable-length array (4.13) of at most `most` pairs: a count word, and that many pairs.
--- A count above `most` is refused before any pair is read.
-unfoldable pub listAt : ℕ → List ℕ → ℕ → After
-listAt most l at =
+-- the offset after a variable-length array (4.13) of at most `most` elements: a count word, and that many elements.
+-- A count above `most` is refused before any element is read.
+unfoldable pub countedAt : (List ℕ → ℕ → After) → ℕ → List ℕ → ℕ → After
+countedAt f most l at =
     choose (leb (at + 4) (length l))
-    (choose (leb (word l at) most) (pairsAt (word l at) l (at + 4)) Short)
+    (choose (leb (word l at) most) (timesAt f (word l at) l (at + 4)) Short)
     Short

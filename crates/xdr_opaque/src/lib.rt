@@ -4,7 +4,7 @@ ghost use mathlib.Core.Path.{_≡_};
 ghost use Prim.Native.Nat.{_+_, _*_, _≤_, _<_};
 ghost use lib.ListN.{length};
 ghost use Rattle.xdr.specs.Xdr.{be32s};
-ghost use Rattle.xdr_opaque.specs.Opaque.{wordAt, opaqueAt, pairAt, pairsAt, listAt};
+ghost use Rattle.xdr_opaque.specs.Opaque.{wordAt, opaqueAt, pairAt, timesAt, countedAt};
 ghost use Rattle.xdr_opaque.specs.Put.{Put, opaque};
 ghost use Rattle.xdr_opaque.specs.RoundTrip.{RoundTrip};
 
@@ -91,7 +91,7 @@ fn pair_at(s: &[u8], at: usize) -> After
 
 // Passes over count pairs of strings.
 pub fn pairs_at(s: &[u8], at: usize, count: usize) -> After
-    ensures { λ r. ⌜ r ≡ pairsAt count (now (s .entry)) at ⌝ }
+    ensures { λ r. ⌜ r ≡ timesAt pairAt count (now (s .entry)) at ⌝ }
 {
     let mut left = count;
     let mut pos = at;
@@ -107,7 +107,7 @@ pub fn pairs_at(s: &[u8], at: usize, count: usize) -> After
 
 // Passes over a counted list of at most `most` pairs of strings.
 pub fn list_at(s: &[u8], at: usize, most: u32) -> After
-    ensures { λ r. ⌜ r ≡ listAt most (now (s .entry)) at ⌝ }
+    ensures { λ r. ⌜ r ≡ countedAt pairAt most (now (s .entry)) at ⌝ }
 {
     if s.len() < 4 {
         return After::Short;
