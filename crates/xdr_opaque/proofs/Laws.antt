@@ -8,7 +8,7 @@ use native.Mathlib.Omega.{arith}
 use native.Mathlib.Nat.{not-suc-le-zero}
 use lib.Dec.{leb}
 use lib.ListN.{length, replicate, length-append, length-replicate}
-use borrow.Author.Tests.{le-leb, lt-leb, leb-true}
+use borrow.Author.Tests.{le-leb, lt-leb, leb-true, leb-false}
 use Rattle.xdr.specs.Choose.{choose}
 use Rattle.xdr.specs.Xdr.{be32, word, overlay}
 use Rattle.xdr.proofs.Laws.{more, length-be32}
@@ -32,6 +32,17 @@ chosen true true s n x s′ n′ x′ e = record { test = refl; start = cc; len 
 chosen true false s n x s′ n′ x′ e = let z : _≡_ {A = ℕ} 0 1 = cc in absurd (omega arith)
 chosen false b s n x s′ n′ x′ e = let z : _≡_ {A = ℕ} 0 1 = cc in absurd (omega arith)
 
+-- what a choice that gave a word says
+word-chosen : (a : Bool) (v v′ : ℕ) → Word.Value v ≡ choose a (Word.Value v′) Word.Short → (a ≡ true) × (v ≡ v′)
+unfolding choose
+word-chosen true v v′ e = (refl, cc)
+word-chosen false v v′ e = let z : _≡_ {A = ℕ} 0 1 = cc in absurd (omega arith)
+
+none-chosen : (a : Bool) (v : ℕ) → Word.Short ≡ choose a (Word.Value v) Word.Short → a ≡ false
+unfolding choose
+none-chosen true v e = let z : _≡_ {A = ℕ} 0 1 = cc in absurd (omega arith)
+none-chosen false v e = refl
+
 module _ (l : List ℕ) (at : ℕ) where
   -- a word that may be missing
   pub word-short : length l < at + 4 → Word.Short ≡ wordAt l at
@@ -41,6 +52,15 @@ module _ (l : List ℕ) (at : ℕ) where
   pub word-there : (v : ℕ) → at + 4 ≤ length l → v ≡ word l at → Word.Value v ≡ wordAt l at
   unfolding wordAt choose
   word-there v h e = rw (le-leb (at + 4) (length l) h, e)
+
+  -- where a word was found, it is within the list
+  pub word-within : (v : ℕ) → Word.Value v ≡ wordAt l at → (at + 4 ≤ length l) × (v ≡ word l at)
+  unfolding wordAt
+  word-within v e = let w = word-chosen (leb (at + 4) (length l)) v (word l at) e in (leb-true _ _ (w .0), w .1)
+
+  pub word-missing : Word.Short ≡ wordAt l at → length l < at + 4
+  unfolding wordAt
+  word-missing e = leb-false _ _ (none-chosen (leb (at + 4) (length l)) (word l at) e)
 
   -- opaque data
   pub opaque-short : length l < at + 4 → Bad ≡ opaqueAt l at

@@ -1,0 +1,4 @@
+-- `Laws` says which case of each definition of specs/Bodies.antt holds, by plain facts; `Within` that the texts of a decoded request
+-- lie within its body. They serve the crates above too.
+pub mod Laws
+pub mod Within
