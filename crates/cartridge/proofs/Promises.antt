@@ -15,7 +15,7 @@ use Rattle.image.specs.Sound.{Sound, Placed}
 use Rattle.image.proofs.Laws.{placed, no-fault}
 use Rattle.spacing.specs.declared.Spaced.{Spaced}
 use Rattle.spacing.specs.Spacing.{ended, spacing}
-use Rattle.spacing.proofs.Laws.{spaced-within}
+use Rattle.spacing.proofs.Laws.{spaced-within, spaced-error}
 use Rattle.writing.specs.Writing.{Room, roomFor, kept, written, withMarks}
 use Rattle.writing.proofs.Laws.{room-facts}
 use Rattle.writing.proofs.Theorems.{written-placed, written-count, written-len, written-start, written-capacity, written-there, same-bytes, marks-placed}
@@ -23,7 +23,7 @@ use Rattle.cartridge.specs.declared.Wrote.{Wrote}
 use Rattle.cartridge.specs.declared.Part.{Part}
 use Rattle.cartridge.specs.Step.{Step, keeping}
 use Rattle.cartridge.specs.Operations.{wrote, part, least, writeStep, readPart, entryPart, markStep, mtioStep}
-use Rattle.cartridge.specs.Promises.{bytesOf, StaySound, Leave, ReadBack, FirstBytes, Promises}
+use Rattle.cartridge.specs.Promises.{bytesOf, StaySound, Refused, Stand, Leave, ReadBack, FirstBytes, Promises}
 
 -- ---- a sound image stays sound
 Kept : Step Wrote → Type 0
@@ -120,6 +120,47 @@ module _ (l : List ℕ) where
       (λ _. by-test Same (eqb op 5) _ _ (λ e. let z : op ≡ 5 = eqb-true op 5 e in absurd (omega arith))
       (λ _. by-test Same (eqb op 4) _ _ (λ _. refl) (λ _. refl)))))
 
+-- ---- a refusal leaves the position
+module _ (l : List ℕ) (p : ℕ) where
+  WriteStands : Step Wrote → Type 0
+  WriteStands s = Refused (s .gives .error) → s .gives .position ≡ p
+
+  MtioStands : Step Spaced → Type 0
+  MtioStands s = Refused (s .gives .error) → s .gives .position ≡ p
+
+  ReadStands : Part → Type 0
+  ReadStands r = Refused (r .error) → r .position ≡ p
+
+  write-stands : (b : List ℕ) → WriteStands (writeStep l p b)
+  unfolding writeStep WriteStands
+  write-stands b =
+      by-test WriteStands (ltb 32768 (length b)) _ _ (λ _ _. refl)
+      (λ _. by-test WriteStands (faulty l p) _ _ (λ _ _. refl)
+      (λ _. by-test WriteStands (eqb (length b) 0) _ _ (λ _ _. refl)
+      (λ _. by-test WriteStands (roomFor l p (length b)) _ _ (λ _ o. absurd (o .0 refl)) (λ _ _. refl))))
+
+  mark-stands : (times : ℕ) → MtioStands (markStep l p times)
+  unfolding markStep MtioStands
+  mark-stands times = by-test MtioStands (ltb (capacity l) (p + times)) _ _ (λ _ _. refl) (λ _ o. absurd (o .0 refl))
+
+  mtio-stands : (op times : ℕ) → MtioStands (mtioStep l op p times)
+  unfolding mtioStep MtioStands
+  mtio-stands op times =
+      by-test MtioStands (ltb 6 op) _ _ (λ _ _. refl)
+      (λ _. by-test MtioStands (eqb op 6) _ _ (λ _ _. refl)
+      (λ _. by-test MtioStands (faulty l p) _ _ (λ _ _. refl)
+      (λ _. by-test MtioStands (eqb op 5) _ _ (λ _. mark-stands times)
+      (λ _. by-test MtioStands (eqb op 4) _ _ (λ _ o. absurd (o .0 refl)) (λ _ o. absurd (spaced-error l op p times o))))))
+
+  read-stands : (times : ℕ) → ReadStands (readPart l p times)
+  unfolding readPart entryPart ReadStands
+  read-stands times =
+      by-test ReadStands (ltb 32768 times) _ _ (λ _ _. refl)
+      (λ _. by-test ReadStands (faulty l p) _ _ (λ _ _. refl)
+      (λ _. by-test ReadStands (eqb times 0) _ _ (λ _ _. refl)
+      (λ _. by-test ReadStands (eqb p (count l)) _ _ (λ _ _. refl)
+      (λ _. by-test ReadStands (eqb (entryLen l p) 0) _ _ (λ _ o. absurd (o .1 refl)) (λ _ o. absurd (o .0 refl))))))
+
 -- ---- what a read hands out
 least-take : (a b : ℕ) (l : List ℕ) → take (least a b) l ≡ take a (take b l)
 unfolding least
@@ -190,11 +231,12 @@ module _ (l : List ℕ) (p : ℕ) (b : List ℕ) (at : Placed l p) (some : 0 < l
       (λ _ h. absurd (omega arith)))))
 
 pub promises : Promises
-unfolding Kept Spaces InTape Writes Moves Same First Returned
+unfolding Kept Spaces InTape Writes Moves Same WriteStands MtioStands ReadStands First Returned
 promises =
     record {
       sound = λ l p at. record { write = write-kept l p at; mtio = mtio-kept l p at; read = read-kept l p at };
       leave = λ l p. record { write = write-leaves l p; mtio = λ op times. mtio-leaves l op p times; spacing = λ op times. spacing-leaves l op p times };
+      stand = λ l p. record { write = write-stands l p; mtio = mtio-stands l p; read = read-stands l p };
       first = λ l p times some. read-first l p times some;
       back = λ l p b at some e. let r = write-back l p b at some e in record { error = r .error; bytes = r .bytes; before = r .before };
     }

@@ -18,6 +18,16 @@ pub record StaySound (l : List ℕ) (p : ℕ) : Type 0 where
   pub mtio : (op times : ℕ) → Placed (mtioStep l op p times .image) (mtioStep l op p times .gives .position)
   pub read : (times : ℕ) → Placed l (readPart l p times .position)
 
+-- a refusal: an error that is no outcome of the tape
+abbrev pub Refused : ℕ → Type 0
+Refused e = (e ≡ 0 → ⊥) × (e ≡ 12 → ⊥) × (e ≡ 13 → ⊥)
+
+-- a refusal leaves the position too
+pub record Stand (l : List ℕ) (p : ℕ) : Type 0 where
+  pub write : (b : List ℕ) → Refused (writeStep l p b .gives .error) → writeStep l p b .gives .position ≡ p
+  pub mtio : (op times : ℕ) → Refused (mtioStep l op p times .gives .error) → mtioStep l op p times .gives .position ≡ p
+  pub read : (times : ℕ) → Refused (readPart l p times .error) → readPart l p times .position ≡ p
+
 -- what an operation refuses leaves the image as it was; reads and spacing never change it
 pub record Leave (l : List ℕ) (p : ℕ) : Type 0 where
   pub write : (b : List ℕ) → (writeStep l p b .gives .error ≡ 0 → ⊥) → writeStep l p b .image ≡ l
@@ -37,5 +47,6 @@ FirstBytes l p = (times : ℕ) → 0 < times → readPart l p times .error ≡ 0
 pub record Promises : Type 0 where
   pub sound : (l : List ℕ) (p : ℕ) → Placed l p → StaySound l p
   pub leave : (l : List ℕ) (p : ℕ) → Leave l p
+  pub stand : (l : List ℕ) (p : ℕ) → Stand l p
   pub first : (l : List ℕ) (p : ℕ) → FirstBytes l p
   pub back : (l : List ℕ) (p : ℕ) (b : List ℕ) → Placed l p → 0 < length b → writeStep l p b .gives .error ≡ 0 → ReadBack l p b

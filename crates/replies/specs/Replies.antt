@@ -79,6 +79,24 @@ shapeOf (MoverState e v) image =
     (e ∷ v .mode ∷ v .state ∷ v .pause ∷ v .halt ∷ v .size ∷ v .number ∷ high (v .moved) ∷ low (v .moved) ∷ high (v .seek) ∷ low (v .seek)
     ∷ high (v .left) ∷ low (v .left) ∷ high (v .offset) ∷ low (v .offset) ∷ high (v .length) ∷ low (v .length) ∷ 0 ∷ [])
 
+-- paper 01's number of each reply: 0 where the request is accepted
+unfoldable pub numberOf : Reply → ℕ
+numberOf (Header e) = e
+numberOf (Plain e) = e
+numberOf (Listening e) = e
+numberOf (ConnectionTypes e) = e
+numberOf (ServerInfo known) = 0
+numberOf (ScsiState e) = e
+numberOf (Cdb e) = e
+numberOf (Sense n pending) = 0
+numberOf Check = 0
+numberOf (TapeState e file block) = e
+numberOf (Mtio e residue) = e
+numberOf (Wrote e count) = e
+numberOf (Read e start len) = e
+numberOf (DataState e v) = e
+numberOf (MoverState e v) = e
+
 -- "An unknown message's 1, and 18, stand in the header with no body; all others in the body, header error 0"
 unfoldable pub headerError : Reply → ℕ
 headerError (Header e) = e

@@ -93,3 +93,22 @@ module _ (f marks : Bool) (l : List ℕ) (n : ℕ) where
 pub spaced-within : (l : List ℕ) (op p times : ℕ) → p ≤ count l → Walked (count l) times (spacing l op p times)
 unfolding spacing
 spaced-within l op p times h = walked (goesForward op) (countsMarks op) l (count l) _ p times h refl
+
+-- a walk ends with 0, 12 or 13
+abbrev pub Other : ℕ → Type 0
+Other e = (e ≡ 0 → ⊥) × (e ≡ 12 → ⊥) × (e ≡ 13 → ⊥)
+
+module _ (f marks : Bool) (l : List ℕ) where
+  no-other : (k i left : ℕ) → Other (walk f marks l k i left .error) → ⊥
+  unfolding walk
+  no-other zero i left =
+      by-test (λ (s : Spaced). Other (s .error) → ⊥) (eqb left 0) (ended 0 i 0) (ended 13 i left) (λ _ o. o .0 refl) (λ _ o. o .2 refl)
+  no-other (suc k) i left =
+      let mark = eqb (entryLen l (passes f i)) 0 in
+      by-test (λ (s : Spaced). Other (s .error) → ⊥) (eqb left 0) (ended 0 i 0) _ (λ _ o. o .0 refl)
+      (λ _. by-test (λ (s : Spaced). Other (s .error) → ⊥) (stops marks mark) (ended 12 (after f i) left) _ (λ _ o. o .1 refl)
+      (λ _. no-other k (after f i) (counted marks mark left)))
+
+pub spaced-error : (l : List ℕ) (op p times : ℕ) → Other (spacing l op p times .error) → ⊥
+unfolding spacing
+spaced-error l op p times = no-other (goesForward op) (countsMarks op) l _ p times

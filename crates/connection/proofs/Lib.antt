@@ -1,0 +1,2 @@
+-- The law of a text login.
+pub mod Login

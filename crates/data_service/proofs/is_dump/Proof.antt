@@ -1,0 +1,45 @@
+use denote.Ref.{now}
+use Rattle.session.proofs.Serving.{named}
+use lib.ListN.{length, take, drop}
+use native.Mathlib.Omega.{arith}
+use Rattle.session.specs.DataService.{textOf, dump}
+use borrow.Author.Needs.{needs}
+use Rattle.data_service.proofs.is_dump.Statement.{statement}
+use Rattle.data_service.proofs.is_dump.Tie as tie
+use Rattle.data_service.proofs.is_dump.Reads as reads
+use Rattle.data_service.proofs.is_dump.Lts as lts
+use Rattle.xdr.proofs.same.Reads as same-reads
+
+add-end : tie.Need-add-end
+add-end c = search needs
+
+sub-same : tie.Need-sub-same
+sub-same c = search needs
+
+part-same-start : tie.Need-part-same-start
+part-same-start c = search needs
+
+part-same-end : tie.Need-part-same-end
+part-same-end c = search needs
+
+slice-aggregate-same : tie.Need-slice-aggregate-same
+slice-aggregate-same c = search needs
+
+same-requires : tie.Need-same-requires
+same-requires c κs = search needs
+
+returns : tie.Need-returns
+unfolding dump
+returns c = named _ _ _ _ (c .same .ensures)
+
+pub is-dump-spec : {M : Type 1} → statement M
+is-dump-spec =
+    tie.close
+    (tie.spec
+    add-end
+    sub-same
+    part-same-start
+    part-same-end
+    slice-aggregate-same
+    same-requires
+    returns)

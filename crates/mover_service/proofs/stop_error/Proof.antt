@@ -1,0 +1,21 @@
+use Rattle.xdr.proofs.Tests.{picking}
+use Rattle.session.specs.Judge.{first}
+use Rattle.mover_service.proofs.stop_error.Statement.{statement}
+use Rattle.mover_service.proofs.stop_error.Tie as tie
+use Rattle.mover_service.proofs.stop_error.Reads as reads
+use Rattle.mover_service.proofs.stop_error.Lts as lts
+
+returns : tie.Need-returns
+unfolding first
+returns c = search picking depth 8
+
+returns-2 : tie.Need-returns-2
+unfolding first
+returns-2 c = search picking depth 8
+
+returns-3 : tie.Need-returns-3
+unfolding first
+returns-3 c = search picking depth 10
+
+pub stop-error-spec : {M : Type 1} → statement M
+stop-error-spec = tie.close (tie.spec returns returns-2 returns-3)

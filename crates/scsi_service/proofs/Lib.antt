@@ -1,0 +1,2 @@
+-- The laws of execute CDB.
+pub mod Running

@@ -1,0 +1,440 @@
+-- Every request keeps the relation: one law for each service, and one for the joint requests. Assumes nothing.
+use Prim.Native.Nat.{ℕ, zero, suc, _+_, _-_, _%_, _≤_, _<_}
+use mathlib.Core.Bool.{Bool, true, false, not}
+use mathlib.Core.List.{List, [], _∷_}
+use mathlib.Core.Path.{_≡_, refl, sym, ap, _∙_}
+use native.Mathlib.Omega.{arith}
+use lib.ListN.{length}
+use lib.Dec.{eqb, ltb}
+use borrow.Author.Tests.{eq-eqb, ne-eqb, lt-ltb, le-ltb, ltb-true, ltb-false, eqb-true, eqb-false}
+use Rattle.xdr.specs.Choose.{choose}
+use Rattle.xdr.specs.Xdr.{sameBytes}
+use Rattle.xdr.proofs.Tests.{by-test, when, unless, none-of, none, if-not, if-so, is, isnt, yes, eq-not, yes-not}
+use Rattle.cartridge.specs.Operations.{writeStep, readPart, mtioStep, standingAt}
+use Rattle.image.specs.Image.{isSound}
+use Rattle.requests.specs.declared.DataRequest.{DataRequest}
+use Rattle.requests.specs.declared.DataRequest.the-variants as DataRequest
+use Rattle.requests.specs.declared.MoverRequest.{MoverRequest}
+use Rattle.requests.specs.declared.MoverRequest.the-variants as MoverRequest
+use Rattle.requests.specs.declared.TapeRequest.{TapeRequest}
+use Rattle.requests.specs.declared.TapeRequest.the-variants as TapeRequest
+use Rattle.requests.specs.declared.JointRequest.{JointRequest}
+use Rattle.requests.specs.declared.JointRequest.the-variants as JointRequest
+use Rattle.session.specs.declared.types.Data.{Data}
+use Rattle.session.specs.declared.types.Mover.{Mover}
+use Rattle.session.specs.declared.types.Tape.{Tape}
+use Rattle.session.specs.Judge.{Test, test, first, Served, served}
+use Rattle.session.specs.Parts.{top, restData, restMover, closedTape, dataTo, dataStarts, dataHalts, moverListens, moverRuns, moverWindow, moverSize, moverSeeks, moverHalts, dataJoined, moverJoined, holdsTape, unwritable}
+use Rattle.session.specs.DataService.{knownTests, dataState, dataListenTests, dataListen, startTests, dataStart, dataStopTests, dataStop, dataStep, textOf, dump}
+use Rattle.session.specs.MoverService.{moverState, offsetWrong, joinOf, moverListen, continueTests, moverContinue, moverStopTests, moverStop, busy, elsewhere, pastTop, windowTests, setWindow, moverReadTests, moverRead, sizeTests, setSize, moverStep}
+use Rattle.session.specs.TapeService.{Loaded, loaded, movedTo, tapeOpenTests, tapeOpen, tapeTests, tapeClose, tapeState, protects, tapeMtio, tapeWrite, tapeRead, deviceStep, TapePart, onTape, onMover, tapeStep, moverPartStep, tape0}
+use Rattle.session.specs.Joint.{Ends, ends, dataConnectTests, dataConnect, moverConnect, atRest, abortTests, dataAborted, dataAbort, moverAborted, moverAbort, closeTests, moverClose, jointStep}
+use Rattle.session.specs.Relation.{dataWrong, moverWrong, sameFlag, Legal, Held, Within, MoverKept}
+use Rattle.session.specs.Promises.{Keeps, JointKeeps, dataSide, partWrong, partSide}
+use Rattle.session.proofs.JudgeLaws.{flagAt, numbered, clear}
+use Rattle.session.proofs.Kept.{mover-kept, kept-mover, past-top, writes}
+
+module _ {A : Type 0} (wrong side : A → Bool) (p : A) where
+  pub stays : Keeps wrong side p p
+  stays = record { good = λ h. h; sides = refl }
+
+  -- a request that is judged by tests: what is kept where none applies
+  pub judged : (ts : List Test) (next : A) → numbered ts ≡ true → (((k : ℕ) → flagAt ts k ≡ false) → Keeps wrong side p next)
+      → Keeps wrong side p (choose (eqb (first ts) 0) next p)
+  judged ts next n f = by-test (Keeps wrong side p) (eqb (first ts) 0) next p (λ e. f (clear ts n (eqb-true (first ts) 0 e))) (λ _. stays)
+
+-- ---- the data end
+abbrev pub DataKeeps : Data → Data → Type 0
+DataKeeps d next = Keeps dataWrong dataSide d next
+
+-- a change of state, from one that a test has found
+data-moves : (d next : Data) (k n : ℕ) → d .state ≡ k → next .state ≡ n → n ≤ 4 → dataJoined n ≡ dataJoined k → DataKeeps d next
+unfolding dataWrong
+data-moves d next k n e f h j =
+    record { good = λ _. le-ltb 4 (next .state) (omega arith); sides = ap dataJoined f ∙ j ∙ ap dataJoined (sym e) }
+
+pub data-keeps : (known : Bool) (d : Data) (q : DataRequest) (body : List ℕ) → DataKeeps d (dataStep known d q body .part)
+unfolding dataStep dataState dataListen dataStart dataStop dataJoined choose
+data-keeps known d DataRequest.State body = judged dataWrong dataSide d (knownTests known) d refl (λ _. stays dataWrong dataSide d)
+data-keeps known d (DataRequest.Backup name) body =
+    judged dataWrong dataSide d (startTests known (d .state) (sameBytes (textOf body name) dump)) (dataStarts 1 d) refl
+    (λ g. data-moves d (dataStarts 1 d) 4 1 (is (g 1)) refl (omega arith) refl)
+data-keeps known d (DataRequest.Recover name) body =
+    judged dataWrong dataSide d (startTests known (d .state) (sameBytes (textOf body name) dump)) (dataStarts 2 d) refl
+    (λ g. data-moves d (dataStarts 2 d) 4 1 (is (g 1)) refl (omega arith) refl)
+data-keeps known d DataRequest.Stop body =
+    judged dataWrong dataSide d (dataStopTests known (d .state)) restData refl (λ g. data-moves d restData 2 0 (is (g 1)) refl (omega arith) refl)
+data-keeps known d (DataRequest.Listen address) body =
+    judged dataWrong dataSide d (dataListenTests known (d .state) address) (dataTo 3 d) refl
+    (λ g. data-moves d (dataTo 3 d) 0 3 (is (g 1)) refl (omega arith) refl)
+
+-- ---- the mover and the tape
+abbrev pub PartKeeps : TapePart → TapePart → Type 0
+PartKeeps p next = Keeps partWrong partSide p next
+
+-- by the facts
+by-facts : (p next : TapePart) → (MoverKept (p .mover) (p .tape) → MoverKept (next .mover) (next .tape)) → moverJoined (next .mover .state) ≡ moverJoined (p .mover .state)
+    → PartKeeps p next
+by-facts p next f s = record { good = λ h. kept-mover (next .mover) (next .tape) (f (mover-kept (p .mover) (p .tape) h)); sides = s }
+
+clash : {A : Type 0} (b : Bool) → b ≡ false → b ≡ true → A
+clash b h e = absurd (let z : _≡_ {A = ℕ} 0 1 = cc in omega arith)
+
+active-holds : (state : ℕ) → state ≡ 2 → holdsTape state ≡ true
+unfolding holdsTape choose
+active-holds state e = rw e refl
+
+-- the tape or the position may change while the mover does not hold the tape
+tape-free : (m : Mover) (t u : Tape) → (holdsTape (m .state) ≡ true → ⊥) → MoverKept m t → MoverKept m u
+tape-free m t u free k =
+    record {
+      states = k .states;
+      sizes = k .sizes;
+      seeks = k .seeks;
+      window = k .window;
+      start = k .start;
+      hold = λ e. absurd (free e);
+      listens = k .listens;
+      runs = k .runs;
+      resumes = k .resumes;
+      origins = λ e. absurd (free (active-holds (m .state) e));
+    }
+
+listen-holds : (state : ℕ) → state ≡ 1 → holdsTape state ≡ true
+unfolding holdsTape choose
+listen-holds state e = rw e refl
+
+none-holds : (state : ℕ) → (state ≡ 1 → ⊥) → (state ≡ 2 → ⊥) → holdsTape state ≡ false
+unfolding holdsTape choose
+none-holds state a b = rw (ne-eqb state 1 a) (ne-eqb state 2 b)
+
+offset-zero : (mode offset : ℕ) → offsetWrong mode offset ≡ false → mode ≡ 0 → offset ≡ 0
+unfolding offsetWrong
+offset-zero mode offset h e = is (when (eqb mode 0) _ h (eq-eqb mode 0 e))
+
+-- IDLE to LISTEN
+listen-kept : (m : Mover) (t : Tape) (mode : ℕ) → m .state ≡ 0 → t .opened ≡ true → unwritable mode (t .writable) ≡ false → (m .length ≡ 0 → ⊥)
+    → offsetWrong mode (m .offset) ≡ false → MoverKept m t → MoverKept (moverListens mode m) t
+listen-kept m t mode s o w n z k =
+    record {
+      states = omega arith;
+      sizes = k .sizes;
+      seeks = k .seeks;
+      window = k .window;
+      start = λ _. k .start (omega arith);
+      hold = λ _. record { window = n; opened = o; writes = writes mode (t .writable) w };
+      listens = λ e _. offset-zero mode (m .offset) z e;
+      runs = λ _ e. absurd (omega arith);
+      resumes = λ _ e. absurd (omega arith);
+      origins = λ e. absurd (omega arith);
+    }
+
+-- at the window's start
+at-start : (size offset length moved : ℕ) → offset ≡ moved → Legal size offset length → Within size offset length moved
+at-start size offset length moved e l =
+    let r : moved % size ≡ 0 = rw e at (l .offsets) in
+    record { some = l .some; from = omega arith; to = omega arith; records = r }
+
+-- to ACTIVE
+runs-kept : (m : Mover) (t : Tape) (mode : ℕ) → t .opened ≡ true → (mode ≡ 0 → t .writable ≡ true) → (m .length ≡ 0 → ⊥)
+    → (mode ≡ 0 → m .offset ≡ m .moved) → MoverKept m t → MoverKept (moverRuns mode (t .position) m) t
+runs-kept m t mode o w n z k =
+    record {
+      states = omega arith;
+      sizes = k .sizes;
+      seeks = k .seeks;
+      window = k .window;
+      start = λ e. absurd (omega arith);
+      hold = λ _. record { window = n; opened = o; writes = w };
+      listens = λ _ e. absurd (omega arith);
+      runs = λ e _. at-start (m .size) (m .offset) (m .length) (m .moved) (z e) (k .window n);
+      resumes = λ _ e. absurd (omega arith);
+      origins = λ _. omega arith;
+    }
+
+-- a mover at a state that holds no tape and is not LISTEN, ACTIVE or PAUSED, with a legal window or none
+pub halts-kept : (m : Mover) (t : Tape) (why : ℕ) → MoverKept m t → MoverKept (moverHalts why m) t
+unfolding holdsTape choose
+halts-kept m t why k =
+    record {
+      states = omega arith;
+      sizes = k .sizes;
+      seeks = k .seeks;
+      window = k .window;
+      start = λ e. absurd (omega arith);
+      hold = λ e. clash false refl e;
+      listens = λ _ e. absurd (omega arith);
+      runs = λ _ e. absurd (omega arith);
+      resumes = λ _ e. absurd (omega arith);
+      origins = λ e. absurd (omega arith);
+    }
+
+pub rest-kept : (size : ℕ) (t : Tape) → size ≤ 32768 → MoverKept (restMover size) t
+unfolding holdsTape choose
+rest-kept size t h =
+    record {
+      states = omega arith;
+      sizes = h;
+      seeks = omega arith;
+      window = λ n. absurd (n refl);
+      start = λ _. refl;
+      hold = λ e. clash false refl e;
+      listens = λ e _. absurd (omega arith);
+      runs = λ e _. absurd (omega arith);
+      resumes = λ e _. absurd (omega arith);
+      origins = λ e. absurd (omega arith);
+    }
+
+-- neither LISTEN nor ACTIVE where a window may be set
+not-busy : (state k : ℕ) → busy state ≡ false → state ≡ k → busy k ≡ false
+not-busy state k h e = rw e at h
+
+window-kept : (m : Mover) (t : Tape) (offset length : ℕ) → busy (m .state) ≡ false → (holdsTape (m .state) ≡ true → ⊥) → Legal (m .size) offset length
+    → elsewhere (m .state) (m .mode) (m .moved) offset ≡ false → MoverKept m t → MoverKept (moverWindow offset length m) t
+unfolding busy elsewhere choose
+window-kept m t offset length b free l z k =
+    record {
+      states = k .states;
+      sizes = k .sizes;
+      seeks = k .seeks;
+      window = λ _. l;
+      start = k .start;
+      hold = λ e. absurd (free e);
+      listens = λ _ e. absurd (free (listen-holds (m .state) e));
+      runs = λ _ e. absurd (free (active-holds (m .state) e));
+      resumes = λ e s _. is (rw (eq-eqb (m .state) 3 s, eq-eqb (m .mode) 0 e) at z);
+      origins = λ e. absurd (free (active-holds (m .state) e));
+    }
+
+size-kept : (m : Mover) (t : Tape) (size : ℕ) → m .state ≡ 0 → (holdsTape (m .state) ≡ true → ⊥) → size ≤ 32768 → MoverKept m t → MoverKept (moverSize size m) t
+size-kept m t size s free h k =
+    record {
+      states = k .states;
+      sizes = h;
+      seeks = k .seeks;
+      window = λ n. absurd (n refl);
+      start = k .start;
+      hold = λ e. absurd (free e);
+      listens = λ _ e. absurd (omega arith);
+      runs = λ _ e. absurd (omega arith);
+      resumes = λ _ e. absurd (omega arith);
+      origins = λ e. absurd (omega arith);
+    }
+
+seek-kept : (m : Mover) (t : Tape) (seek left : ℕ) → seek + left ≤ top → MoverKept m t → MoverKept (moverSeeks seek left m) t
+seek-kept m t seek left h k =
+    record {
+      states = k .states;
+      sizes = k .sizes;
+      seeks = h;
+      window = k .window;
+      start = k .start;
+      hold = λ e. let g = k .hold e in record { window = g .window; opened = g .opened; writes = g .writes };
+      listens = k .listens;
+      runs = k .runs;
+      resumes = k .resumes;
+      origins = k .origins;
+    }
+
+-- free of the tape: IDLE, and where a window may be set
+idle-free : (state : ℕ) → state ≡ 0 → holdsTape state ≡ true → ⊥
+unfolding holdsTape choose
+idle-free state e h = clash false refl (rw e at h)
+
+module _ (state : ℕ) (h : busy state ≡ false) where
+  not-listening : state ≡ 1 → ⊥
+  unfolding busy choose
+  not-listening e = clash true (not-busy state 1 h e) refl
+
+  not-active : state ≡ 2 → ⊥
+  unfolding busy choose
+  not-active e = clash true (not-busy state 2 h e) refl
+
+  busy-free : holdsTape state ≡ true → ⊥
+  unfolding holdsTape
+  busy-free e =
+      let z : holdsTape state ≡ false = none-holds state not-listening not-active in
+      clash (holdsTape state) z e
+
+-- ---- the mover's requests
+module _ (known : Bool) (m : Mover) (t : Tape) (l : List ℕ) where
+  there : Mover → TapePart
+  there n = record { mover = n; tape = t; image = l }
+
+  -- a request of the mover that is judged by tests
+  mover-judged : (ts : List Test) (next : Mover) → numbered ts ≡ true
+      → (((k : ℕ) → flagAt ts k ≡ false) → MoverKept m t → MoverKept next t)
+      → (((k : ℕ) → flagAt ts k ≡ false) → moverJoined (next .state) ≡ moverJoined (m .state))
+      → PartKeeps (there m) (there (choose (eqb (first ts) 0) next m))
+  unfolding there
+  mover-judged ts next n f s =
+      by-test (λ (x : Mover). PartKeeps (there m) (there x)) (eqb (first ts) 0) next m
+      (λ e. let g = clear ts n (eqb-true (first ts) 0 e) in by-facts (there m) (there next) (f g) (s g))
+      (λ _. stays partWrong partSide (there m))
+
+  joined-at : (a b : ℕ) → m .state ≡ b → moverJoined a ≡ moverJoined b → moverJoined a ≡ moverJoined (m .state)
+  joined-at a b e j = j ∙ ap moverJoined (sym e)
+
+  mover-keeps : (q : MoverRequest) → PartKeeps (there m) (there (moverStep known m t q .part))
+  unfolding moverStep moverState moverListen moverContinue moverStop setWindow moverRead setSize moverJoined choose
+  mover-keeps MoverRequest.State = mover-judged (knownTests known) m refl (λ _ k. k) (λ _. refl)
+  mover-keeps (MoverRequest.Listen mode address) =
+      mover-judged (joinOf known m t mode address false) (moverListens mode m) refl
+      (λ g. listen-kept m t mode (is (g 2)) (yes (g 1)) (g 3) (isnt (g 5)) (g 6))
+      (λ g. joined-at 1 0 (is (g 2)) refl)
+  mover-keeps MoverRequest.Continue =
+      mover-judged (continueTests known (t .opened) (t .writable) (m .state) (m .mode) (m .length)) (moverRuns (m .mode) (t .position) m) refl
+      (λ g k. runs-kept m t (m .mode) (yes (g 1)) (writes (m .mode) (t .writable) (g 3)) (isnt (g 4)) (λ e. k .resumes e (is (g 2)) (isnt (g 4))) k)
+      (λ g. joined-at 2 3 (is (g 2)) refl)
+  mover-keeps MoverRequest.Stop =
+      mover-judged (moverStopTests known (m .state)) (restMover (m .size)) refl (λ _ k. rest-kept (m .size) t (k .sizes)) (λ g. joined-at 0 4 (is (g 1)) refl)
+  mover-keeps (MoverRequest.Window offset length) =
+      mover-judged (windowTests known (m .state) (m .mode) (m .size) (m .moved) offset length) (moverWindow offset length m) refl
+      (λ g. let n : m .size ≡ 0 → ⊥ = isnt (g 2) in
+      let s : 1 ≤ m .size = omega arith in
+      window-kept m t offset length (g 1) (busy-free (m .state) (g 1))
+      (record { some = s; offsets = is (g 4); lengths = is (g 5); fits = past-top offset length (g 6) }) (g 7))
+      (λ _. refl)
+  mover-keeps (MoverRequest.Read offset length) =
+      mover-judged (moverReadTests known (m .state) (m .mode) (m .left) offset length) (moverSeeks offset length m) refl
+      (λ g. seek-kept m t offset length (past-top offset length (g 4))) (λ _. refl)
+  mover-keeps (MoverRequest.Size size) =
+      mover-judged (sizeTests known (m .state) size) (moverSize size m) refl
+      (λ g. size-kept m t size (is (g 1)) (idle-free (m .state) (is (g 1))) (ltb-false 32768 size (g 3))) (λ _. refl)
+
+-- ---- the tape's requests
+module _ (known : Bool) (m : Mover) (t : Tape) (l : List ℕ) where
+  before : TapePart
+  before = record { mover = m; tape = t; image = l }
+
+  after : Loaded → TapePart
+  after s = record { mover = m; tape = s .tape; image = s .image }
+
+  -- a request of the tape after which the mover is as it was
+  loaded-keeps : (s : Loaded) → (holdsTape (m .state) ≡ true → ⊥) → PartKeeps before (after s)
+  unfolding before after
+  loaded-keeps s free = by-facts before (after s) (tape-free m t (s .tape) free) refl
+
+  same-keeps : PartKeeps before (after (loaded t l))
+  unfolding before after
+  same-keeps = stays partWrong partSide before
+
+  -- while the mover holds the tape it is open
+  open-free : t .opened ≡ false → MoverKept m t → holdsTape (m .state) ≡ true → ⊥
+  open-free h k e = clash (t .opened) h (k .hold e .opened)
+
+  opens-keeps : (s : Loaded) → t .opened ≡ false → PartKeeps before (after s)
+  unfolding before after
+  opens-keeps s h = by-facts before (after s) (λ k. tape-free m t (s .tape) (open-free h k) k) refl
+
+  -- what a request that is judged by tests gives, where none applies, and where one does
+  device-judged : (ts : List Test) (x y : Served Loaded) → numbered ts ≡ true
+      → (((k : ℕ) → flagAt ts k ≡ false) → PartKeeps before (after (x .part))) → PartKeeps before (after (y .part))
+      → PartKeeps before (after (choose (eqb (first ts) 0) x y .part))
+  device-judged ts x y n f h =
+      by-test (λ (s : Served Loaded). PartKeeps before (after (s .part))) (eqb (first ts) 0) x y (λ e. f (clear ts n (eqb-true (first ts) 0 e))) (λ _. h)
+
+  part-judged : (ts : List Test) (next : Loaded) → numbered ts ≡ true → (((k : ℕ) → flagAt ts k ≡ false) → PartKeeps before (after next))
+      → PartKeeps before (after (choose (eqb (first ts) 0) next (loaded t l)))
+  part-judged ts next n f =
+      by-test (λ (s : Loaded). PartKeeps before (after s)) (eqb (first ts) 0) next (loaded t l) (λ e. f (clear ts n (eqb-true (first ts) 0 e))) (λ _. same-keeps)
+
+  busy-tape : holdsTape (m .state) ≡ false → holdsTape (m .state) ≡ true → ⊥
+  busy-tape h e = clash (holdsTape (m .state)) h e
+
+  device-keeps : (q : TapeRequest) (body : List ℕ) → PartKeeps before (after (deviceStep known (m .state) t l q body .part))
+  unfolding deviceStep tapeOpen tapeClose tapeState tapeMtio tapeWrite tapeRead
+  device-keeps (TapeRequest.Open name mode) body =
+      part-judged (tapeOpenTests known mode (sameBytes (textOf body name) tape0) (t .opened) (isSound l))
+      (loaded (record { opened = true; writable = eqb mode 1; position = 0 }) l) refl (λ g. opens-keeps _ (g 3))
+  device-keeps TapeRequest.Close body =
+      part-judged (tapeTests known (t .opened) (m .state) false) (loaded closedTape l) refl (λ g. loaded-keeps _ (busy-tape (g 2)))
+  device-keeps TapeRequest.State body = same-keeps
+  device-keeps (TapeRequest.Mtio op times) body =
+      device-judged (tapeTests known (t .opened) (m .state) (protects op (t .writable))) _ _ refl
+      (λ g. loaded-keeps _ (busy-tape (g 2))) same-keeps
+  device-keeps (TapeRequest.Write bytes) body =
+      device-judged (tapeTests known (t .opened) (m .state) (not (t .writable))) _ _ refl (λ g. loaded-keeps _ (busy-tape (g 2))) same-keeps
+  device-keeps (TapeRequest.Read times) body =
+      device-judged (tapeTests known (t .opened) (m .state) false) _ _ refl (λ g. loaded-keeps _ (busy-tape (g 2))) same-keeps
+
+-- ---- the two interfaces of the service
+pub tape-keeps : (known : Bool) (p : TapePart) (q : TapeRequest) (body : List ℕ) → PartKeeps p (tapeStep known p q body .part)
+unfolding tapeStep before after
+tape-keeps known p q body = device-keeps known (p .mover) (p .tape) (p .image) q body
+
+pub mover-part-keeps : (known : Bool) (p : TapePart) (q : MoverRequest) → PartKeeps p (moverPartStep known p q .part)
+unfolding moverPartStep there
+mover-part-keeps known p q = mover-keeps known (p .mover) (p .tape) (p .image) q
+
+-- ---- the joint requests
+not-joined : (a b : Bool) → sameFlag a b ≡ true → a ≡ false → b ≡ false
+unfolding sameFlag
+not-joined true b h e = absurd (let z : _≡_ {A = ℕ} 0 1 = cc in omega arith)
+not-joined false true h e = absurd (let z : _≡_ {A = ℕ} 0 1 = cc in omega arith)
+not-joined false false h e = refl
+
+not-joined-back : (a b : Bool) → sameFlag a b ≡ true → b ≡ false → a ≡ false
+unfolding sameFlag
+not-joined-back true b h e = absurd (let z : _≡_ {A = ℕ} 0 1 = cc in omega arith)
+not-joined-back false b h e = refl
+
+flag-none : (a : Bool) → a ≡ false → sameFlag a false ≡ true
+unfolding sameFlag
+flag-none a e = rw e refl
+
+module _ (known : Bool) (d : Data) (m : Mover) (t : Tape) (hd : dataWrong d ≡ false) (hm : moverWrong m t ≡ false)
+    (hj : sameFlag (dataJoined (d .state)) (moverJoined (m .state)) ≡ true) where
+  as-was : JointKeeps d m t (ends d m)
+  as-was = record { source = hd; mover = hm; joined = hj }
+
+  facts : MoverKept m t
+  facts = mover-kept m t hm
+
+  ends-judged : (ts : List Test) (next : Ends) → numbered ts ≡ true → (((k : ℕ) → flagAt ts k ≡ false) → JointKeeps d m t next)
+      → JointKeeps d m t (choose (eqb (first ts) 0) next (ends d m))
+  ends-judged ts next n f =
+      by-test (JointKeeps d m t) (eqb (first ts) 0) next (ends d m) (λ e. f (clear ts n (eqb-true (first ts) 0 e))) (λ _. as-was)
+
+  -- both ends joined
+  connects : (mode : ℕ) → t .opened ≡ true → (mode ≡ 0 → t .writable ≡ true) → (m .length ≡ 0 → ⊥) → (mode ≡ 0 → m .offset ≡ m .moved)
+      → JointKeeps d m t (ends (dataTo 4 d) (moverRuns mode (t .position) m))
+  unfolding dataWrong dataJoined moverJoined sameFlag choose
+  connects mode o w n z = record { source = refl; mover = kept-mover (moverRuns mode (t .position) m) t (runs-kept m t mode o w n z facts); joined = refl }
+
+  -- both ends halted
+  halt : (dwhy mwhy a b : ℕ) → JointKeeps d m t (record { source = dataHalts dwhy d; mover = moverHalts mwhy m; dwhy = a; mwhy = b })
+  unfolding dataWrong dataJoined moverJoined sameFlag choose
+  halt dwhy mwhy a b = record { source = refl; mover = kept-mover (moverHalts mwhy m) t (halts-kept m t mwhy facts); joined = refl }
+
+  -- one end halted that was not joined
+  halt-data : (a b : ℕ) → dataJoined (d .state) ≡ false → JointKeeps d m t (record { source = dataHalts 2 d; mover = m; dwhy = a; mwhy = b })
+  unfolding dataWrong dataJoined sameFlag choose
+  halt-data a b h = record { source = refl; mover = hm; joined = ap not (not-joined (dataJoined (d .state)) (moverJoined (m .state)) hj h) }
+
+  halt-mover : (a b : ℕ) → moverJoined (m .state) ≡ false → JointKeeps d m t (record { source = d; mover = moverHalts 2 m; dwhy = a; mwhy = b })
+  unfolding moverJoined choose
+  halt-mover a b h =
+      record {
+        source = hd;
+        mover = kept-mover (moverHalts 2 m) t (halts-kept m t 2 facts);
+        joined = flag-none (dataJoined (d .state)) (not-joined-back (dataJoined (d .state)) (moverJoined (m .state)) hj h);
+      }
+
+  pub joint-keeps : (q : JointRequest) → JointKeeps d m t (jointStep known d m t q .part)
+  unfolding jointStep dataAbort dataConnect moverAbort moverClose moverConnect dataAborted moverAborted
+  joint-keeps JointRequest.DataAbort =
+      ends-judged (abortTests known (d .state) 2) _ refl
+      (λ _. by-test (JointKeeps d m t) (dataJoined (d .state)) _ _ (λ _. halt 2 1 2 1) (λ h. halt-data 2 0 h))
+  joint-keeps (JointRequest.DataConnect address) =
+      ends-judged (dataConnectTests known (d .state) (m .state) address) _ refl
+      (λ g. let s : m .state ≡ 1 = is (g 3) in let h = facts .hold (listen-holds (m .state) s) in
+      connects (m .mode) (h .opened) (h .writes) (h .window) (λ e. facts .listens e s ∙ sym (facts .start (omega arith))))
+  joint-keeps JointRequest.MoverAbort =
+      ends-judged (abortTests known (m .state) 4) _ refl
+      (λ _. by-test (JointKeeps d m t) (moverJoined (m .state)) _ _ (λ _. halt 4 2 4 2) (λ h. halt-mover 0 2 h))
+  joint-keeps JointRequest.MoverClose = ends-judged (closeTests known (m .state)) _ refl (λ _. halt 4 1 4 1)
+  joint-keeps (JointRequest.MoverConnect mode address) =
+      ends-judged (joinOf known m t mode address (not (eqb (d .state) 3))) _ refl
+      (λ g. let s : m .state ≡ 0 = is (g 2) in
+      connects mode (yes (g 1)) (writes mode (t .writable) (g 3)) (isnt (g 5)) (λ e. offset-zero mode (m .offset) (g 6) e ∙ sym (facts .start (omega arith))))

@@ -1,0 +1,11 @@
+pub mod Judge
+pub mod Parts
+pub mod DataService
+pub mod MoverService
+pub mod TapeService
+pub mod ScsiService
+pub mod Joint
+pub mod Connection
+pub mod Relation
+pub mod Telling
+pub mod Promises

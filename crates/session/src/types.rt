@@ -1,0 +1,55 @@
+// The session and its parts, by value. This file holds nothing but the declarations, so that a host in Rust can include it as it is.
+
+// The data end. The reason is why it halted; processed counts the stream's bytes.
+#[repr(C)]
+pub struct Data {
+    pub state: u32,
+    pub operation: u32,
+    pub reason: u32,
+    pub processed: u64,
+}
+
+// The mover. A window of length 0 is none; left is what a mover read has still to be given; origin is the tape's position when the
+// mover last became ACTIVE.
+#[repr(C)]
+pub struct Mover {
+    pub state: u32,
+    pub mode: u32,
+    pub pause: u32,
+    pub halt: u32,
+    pub size: u32,
+    pub offset: u64,
+    pub length: u64,
+    pub moved: u64,
+    pub seek: u64,
+    pub left: u64,
+    pub origin: usize,
+}
+
+// The tape device; position counts the entries before it.
+#[repr(C)]
+pub struct Tape {
+    pub opened: bool,
+    pub writable: bool,
+    pub position: usize,
+}
+
+// The changer device; pending is whether a sense is pending.
+#[repr(C)]
+pub struct Changer {
+    pub opened: bool,
+    pub pending: bool,
+}
+
+// A session. First is set until a request has been answered; sequence is the number of the next message; source is the data end.
+#[repr(C)]
+pub struct Session {
+    pub closed: bool,
+    pub first: bool,
+    pub authorized: bool,
+    pub sequence: u32,
+    pub source: Data,
+    pub mover: Mover,
+    pub tape: Tape,
+    pub changer: Changer,
+}
