@@ -138,13 +138,12 @@ fn is_busy(state: u32) -> bool
 fn is_elsewhere(state: u32, mode: u32, moved: u64, offset: u64) -> bool
     ensures { λ r. ⌜ r ≡ elsewhere state mode moved offset ⌝ }
 {
-    if state != Mover::PAUSED {
-        return false;
+    if state == Mover::PAUSED {
+        if mode == 0 {
+            return offset != moved;
+        }
     }
-    if mode != 0 {
-        return false;
-    }
-    offset != moved
+    false
 }
 
 // Whether a part of the stream ends above 2^64 - 1. The sum itself would overflow.
