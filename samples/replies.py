@@ -1,0 +1,152 @@
+#!/usr/bin/env python3
+"""Writes what the program reply_vectors is to print: replies and notices as they are sent.
+
+The bodies are built from 004's layouts (Appendix C, by the lines named) with the values that paper 01 gives; none is taken from the
+program. Of each there is a line with its name and length, then its bytes, seven words to a line: the mark and the header, then the
+body. The word aaaaaaaa behind it is the output as it was before.
+"""
+from wire import header, listed, marked, opaque, quad, text, word, write
+
+
+def reply(sequence, time, message, echo, body, error=0):
+    return marked(header(sequence, time, 1, message, echo, error) + body)
+
+
+def notice(sequence, time, message, body):
+    return marked(header(sequence, time, 0, message, 0, 0) + body)
+
+
+LOCAL = word(0)  # ndmp_addr, line 13591: NDMP_ADDR_LOCAL 0, nothing more
+
+
+# ---- bodies, by their structures in Appendix C
+def error_only(error):  # lines 13111 and 13768, and all others with an error alone
+    return word(error)
+
+
+def listen(error, address):  # lines 13634 and 13790
+    return word(error) + address
+
+
+def connection_type(error, types):  # line 13222
+    return word(error) + listed([word(t) for t in types])
+
+
+def server_info(error, vendor, product, revision, auth_types):  # line 13205
+    return word(error) + opaque(vendor) + opaque(product) + opaque(revision) + listed([word(t) for t in auth_types])
+
+
+def scsi_state(error, controller, device, lun):  # line 13392
+    return word(error, controller, device, lun)
+
+
+def execute_cdb(error, status, out_len, data_in, sense):  # line 13417
+    return word(error, status, out_len) + opaque(data_in) + opaque(sense)
+
+
+def tape_state(unsupported, error, flags, file_num, soft_errors, block_size, blockno, total, remain):  # line 13470
+    return word(unsupported, error, flags, file_num, soft_errors, block_size, blockno) + quad(total, remain)
+
+
+def mtio(error, residue):  # line 13510
+    return word(error, residue)
+
+
+def tape_write(error, count):  # line 13521
+    return word(error, count)
+
+
+def tape_read(error, data):  # line 13533
+    return word(error) + opaque(data)
+
+
+def data_state(unsupported, error, operation, state, reason, processed, est_bytes, est_time, address, offset, length):  # line 13605
+    return word(unsupported, error, operation, state, reason) + quad(processed, est_bytes) + word(est_time) + address + quad(offset, length)
+
+
+def mover_state(error, mode, state, pause, halt, size, number, moved, seek, left, offset, length, address):  # line 13816
+    return word(error, mode, state, pause, halt, size, number) + quad(moved, seek, left, offset, length) + address
+
+
+def halted(reason):  # lines 13862 and 13881
+    return word(reason)
+
+
+def connection_status(reason, version, why):  # line 13874
+    return word(reason, version) + opaque(why)
+
+
+def mover_paused(reason, seek):  # line 13886
+    return word(reason) + quad(seek)
+
+
+# paper 01: "the sense .. With none pending, bytes 2 and 12 are 0."
+SENSE = bytes.fromhex('70 00 05 00 00 00 00 0A 00 00 00 00 20 00 00 00 00 00')
+NO_SENSE = bytes.fromhex('70 00 00 00 00 00 00 0A 00 00 00 00 00 00 00 00 00 00')
+
+SAMPLES = [
+    # "An unknown message's 1, and 18, stand in the header with no body"
+    ('header_unknown', reply(1, 1001, 0x404, 501, b'', error=1)),
+    ('header_bad', reply(4294967295, 0, 0x300, 4294967294, b'', error=18)),
+    ('plain', reply(3, 1003, 0x900, 503, error_only(0))),
+    ('plain_refused', reply(4, 1004, 0xA05, 504, error_only(26))),
+    ('listening', reply(5, 1005, 0x409, 505, listen(0, LOCAL))),
+    ('listening_refused', reply(6, 1006, 0xA01, 506, listen(19, LOCAL))),
+    # "Connection types: LOCAL 0"; refused, the list is empty
+    ('connection_types', reply(7, 1007, 0x102, 507, connection_type(0, [0]))),
+    ('connection_types_refused', reply(8, 1008, 0x102, 508, connection_type(4, []))),
+    # "empty strings before auth, then `vault`, `tape`, `1`; its auth list is type 1"
+    ('server_info_before_auth', reply(9, 1009, 0x108, 509, server_info(0, b'', b'', b'', [1]))),
+    ('server_info', reply(10, 1010, 0x108, 510, server_info(0, b'vault', b'tape', b'1', [1]))),
+    ('scsi_state', reply(11, 1011, 0x202, 511, scsi_state(0, 0, 0, 0))),
+    ('scsi_state_refused', reply(12, 1012, 0x202, 512, scsi_state(6, 0, 0, 0))),
+    ('cdb', reply(13, 1013, 0x206, 513, execute_cdb(0, 0, 0, b'', b''))),
+    ('cdb_refused', reply(14, 1014, 0x206, 514, execute_cdb(9, 0, 0, b'', b''))),
+    # "status 2, and the sense .. is returned as the extended sense, with no data-in; 03h returns it as data-in, with status 0"
+    ('check', reply(15, 1015, 0x206, 515, execute_cdb(0, 2, 0, b'', SENSE))),
+    ('sense', reply(16, 1016, 0x206, 516, execute_cdb(0, 0, 0, SENSE, b''))),
+    ('sense_none', reply(17, 1017, 0x206, 517, execute_cdb(0, 0, 0, NO_SENSE, b''))),
+    ('sense_4', reply(18, 1018, 0x206, 518, execute_cdb(0, 0, 0, SENSE[:4], b''))),
+    ('sense_13', reply(19, 1019, 0x206, 519, execute_cdb(0, 0, 0, SENSE[:13], b''))),
+    ('sense_0', reply(20, 1020, 0x206, 520, execute_cdb(0, 0, 0, b'', b''))),
+    # "for TAPE only file number .. and block number .."
+    ('tape_state', reply(21, 1021, 0x302, 521, tape_state(0, 0, 0, 2, 0, 0, 3, 0, 0))),
+    ('tape_state_refused', reply(22, 1022, 0x302, 522, tape_state(0, 7, 0, 0, 0, 0, 0, 0, 0))),
+    ('mtio', reply(23, 1023, 0x303, 523, mtio(0, 0))),
+    ('mtio_mark', reply(24, 1024, 0x303, 524, mtio(12, 2))),
+    ('wrote', reply(25, 1025, 0x304, 525, tape_write(0, 32768))),
+    ('wrote_refused', reply(26, 1026, 0x304, 526, tape_write(13, 0))),
+    # of the image abcdefghijkl: five bytes from 3, eight from 4, none
+    ('read_5', reply(27, 1027, 0x305, 527, tape_read(0, b'defgh'))),
+    ('read_8', reply(28, 1028, 0x305, 528, tape_read(0, b'efghijkl'))),
+    ('read_nothing', reply(29, 1029, 0x305, 529, tape_read(0, b''))),
+    ('read_refused', reply(30, 1030, 0x305, 530, tape_read(12, b''))),
+    # "DATA's two estimates are marked unsupported" (bits 1 and 2, lines 13602 and 13603); refused, all but the error is zero
+    ('data_state', reply(31, 1031, 0x400, 531, data_state(1 + 2, 0, 2, 1, 0, 0xFEDCBA9876543210, 0, 0, LOCAL, 0, 0))),
+    ('data_state_halted', reply(32, 1032, 0x400, 532, data_state(1 + 2, 0, 1, 2, 4, 3000, 0, 0, LOCAL, 0, 0))),
+    ('data_state_refused', reply(33, 1033, 0x400, 533, data_state(0, 4, 0, 0, 0, 0, 0, 0, LOCAL, 0, 0))),
+    ('mover_state', reply(34, 1034, 0xA00, 534, mover_state(
+        0, 1, 3, 5, 0, 32768, 0x87654321, 0x0123456789ABCDEF, 2**64 - 2, 2**32, 2**64 - 2048, 2**32 - 1024, LOCAL))),
+    ('mover_state_refused', reply(35, 1035, 0xA00, 535, mover_state(4, 0, 0, 0, 0, 0, 0, 0, 0, 0, 0, 0, LOCAL))),
+    # "A notice is type 0 with reply sequence 0."
+    ('connected', notice(1, 1049155200, 0x502, connection_status(0, 4, b''))),
+    ('data_halted', notice(37, 1037, 0x501, halted(4))),
+    ('mover_halted', notice(38, 1038, 0x503, halted(5))),
+    ('mover_paused', notice(39, 1039, 0x504, mover_paused(3, 0x0123456789ABCDEF))),
+    # "one reply, then its notices: data first, mover second"
+    ('answer', reply(40, 1040, 0x403, 540, error_only(0)) + notice(41, 1040, 0x501, halted(2)) + notice(42, 1040, 0x503, halted(1))),
+]
+
+
+def lines(own, data):
+    shown = data + b'\xaa' * 4
+    words = [shown[i:i + 4].hex() for i in range(0, len(shown), 4)]
+    return [f'{own} {len(data)}'] + [' '.join(words[i:i + 7]) for i in range(0, len(words), 7)]
+
+
+def main():
+    write('reply_vectors/stdout', text(line for own, data in SAMPLES for line in lines(own, data)))
+    print(f'reply_vectors: {len(SAMPLES)} records')
+
+
+main()
