@@ -9,3 +9,6 @@ pub mod Connection
 pub mod Relation
 pub mod Telling
 pub mod Promises
+pub mod Answer
+pub mod Order
+pub mod Calls

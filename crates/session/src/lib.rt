@@ -3,6 +3,8 @@
 ghost use mathlib.Core.Path.{_≡_};
 ghost use Rattle.session.specs.Parts.{dataTo, dataHalts, restMover, moverListens, moverRuns, moverPauses, moverHalts, moverWindow, moverSize, moverSeeks};
 ghost use Rattle.session.specs.Promises.{Promises};
+ghost use Rattle.session.specs.Order.{AnyOrder};
+ghost use Rattle.session.specs.Calls.{CallsKeep};
 
 pub mod types;
 
@@ -217,4 +219,14 @@ impl Mover {
 // No work: its contract is what holds of every request, so that the crate is proved only with it.
 pub fn promises_hold()
     ensures { λ r. ⌜ Promises ⌝ }
+{}
+
+// No work: its contract is that the requests of the three services may be merged in any order.
+pub fn any_order()
+    ensures { λ r. ⌜ AnyOrder ⌝ }
+{}
+
+// No work: its contract is what every request call keeps, and what a refused call leaves.
+pub fn calls_keep()
+    ensures { λ r. ⌜ CallsKeep ⌝ }
 {}

@@ -1,0 +1,11 @@
+use Rattle.session.proofs.Calls.{calls-keep}
+use Rattle.session.proofs.calls_keep.Statement.{statement}
+use Rattle.session.proofs.calls_keep.Tie as tie
+use Rattle.session.proofs.calls_keep.Reads as reads
+use Rattle.session.proofs.calls_keep.Lts as lts
+
+returns : tie.Need-returns
+returns c = calls-keep
+
+pub calls-keep-spec : {M : Type 1} → statement M
+calls-keep-spec = tie.close (tie.spec returns)
