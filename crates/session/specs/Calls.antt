@@ -30,7 +30,6 @@ opening time room =
     choose (ltb room 36864) (silent 1001 unopenedSession [])
     (record { code = 0; reply = []; notices = noticeBytes 1 time Notice.Connected; next = openedSession; image = [] })
 
-
 -- nothing is sent, and session and image are as they were
 pub record Unmoved (s : Session) (image : List ℕ) (a : Answered) : Type 0 where
   pub reply : a .reply ≡ []

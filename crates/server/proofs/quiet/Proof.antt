@@ -1,0 +1,13 @@
+use mathlib.Core.Path.{refl}
+use Rattle.server.proofs.Calling.{unsent}
+use borrow.Author.Needs.{needs}
+use Rattle.server.proofs.quiet.Statement.{statement}
+use Rattle.server.proofs.quiet.Tie as tie
+use Rattle.server.proofs.quiet.Reads as reads
+use Rattle.server.proofs.quiet.Lts as lts
+
+returns : tie.Need-returns
+returns c = λ image l. unsent _ _ _ image l refl
+
+pub quiet-spec : {M : Type 1} → statement M
+quiet-spec = tie.close (tie.spec returns)
