@@ -19,11 +19,16 @@ use Rattle.cartridge.proofs.Promises as cartridge
 use Rattle.frame.specs.Frame.{wellFramed, kindOf, bodyOf}
 use Rattle.frame.specs.declared.Message.{Message}
 use Rattle.frame.specs.declared.Message.the-variants as Message
-use Rattle.requests.specs.Bodies.{tapeBody, moverBody, jointBody}
+use Rattle.frame.specs.declared.ConnectKind.{ConnectKind}
+use Rattle.requests.specs.Bodies.{decoded, connectBody, tapeBody, moverBody, jointBody}
+use Rattle.requests.specs.declared.ConnectRequest.the-variants as ConnectRequest
+use Rattle.requests.specs.declared.Text.{Text}
 use Rattle.requests.specs.declared.TapeRequest.{TapeRequest}
 use Rattle.requests.specs.declared.TapeRequest.the-variants as TapeRequest
 use Rattle.requests.specs.declared.Request.{Request}
 use Rattle.requests.specs.declared.Request.the-variants as Request
+use Rattle.replies.specs.Replies.{replyBytes, shapeOf}
+use Rattle.replies.specs.declared.Reply.the-variants as Reply
 use Rattle.replies.specs.declared.Notice.{Notice}
 use Rattle.session.specs.declared.types.Data.{Data}
 use Rattle.session.specs.declared.types.Mover.{Mover}
@@ -33,12 +38,13 @@ use Rattle.session.specs.Judge.{first, Served}
 use Rattle.session.specs.Parts.{restMover, closedTape, dataJoined, moverJoined}
 use Rattle.session.specs.DataService.{textOf}
 use Rattle.session.specs.TapeService.{Loaded, tapeTests, tapeOpenTests, tapeOpen, tapeClose, tapeState, protects, tapeMtio, tapeWrite, tapeRead, deviceStep, TapePart, tapeStep, moverPartStep, tape0}
+use Rattle.session.specs.Connection.{matches, clientAuth}
 use Rattle.session.specs.Joint.{ends}
 use Rattle.session.specs.Relation.{dataWrong, sameFlag, keeps}
 use Rattle.session.specs.Promises.{JointKeeps}
-use Rattle.session.specs.Answer.{Service, DataService, TapeService, ScsiService, JointService, ControlService, routeOf, Account, Answered, answered, requested, handled, noticed, silent, closing, tapePart, messageIn, isClose, onTape, onMover, onJoint, tapeOn, jointOn}
+use Rattle.session.specs.Answer.{Service, DataService, TapeService, ScsiService, JointService, ControlService, routeOf, Account, Answered, answered, requested, handled, noticed, silent, closing, tapePart, messageIn, serviceOf, isClose, closes, replying, onData, onTape, onMover, onScsi, onJoint, onConnect, onConfig, dataOn, tapeOn, scsiOn, jointOn, controlOn}
 use Rattle.session.specs.Order.{Call, run}
-use Rattle.session.specs.Calls.{openedSession, Unmoved, CallsKeep}
+use Rattle.session.specs.Calls.{openedSession, Unmoved, Heard, CallsKeep}
 use Rattle.session.proofs.Kept.{kept-mover}
 use Rattle.session.proofs.Keeping.{rest-kept, joint-keeps}
 use Rattle.session.proofs.Order.{kept-facts, facts-kept, data-on, tape-on}
@@ -291,6 +297,49 @@ module _ (s : Session) (a : Account) (image r : List ℕ) (time room : ℕ) wher
   unfolding answered requested choose
   ignored f n = else-still _ (by-test (Unmoved s image) (s .closed) _ _ (λ _. still 0) (λ _. rw (f, ne-eqb (kindOf r) 0 n) (still 0)))
 
+-- ---- what a service answers to a message that is not handled, to a body that does not decode, and to a wrong login
+module _ (s : Session) (a : Account) (image r : List ℕ) (time : ℕ) where
+  heard : (room : ℕ) → Heard s r room → answered s a image r time room ≡ handled (routeOf r) s a image r time
+  unfolding answered requested choose
+  heard room h = rw (answered, le-ltb room 36864 (h .roomy), h .kept, h .opened, h .framed, h .request)
+
+  -- a request at the service of its message
+  to : {x : Answered} (d : Service) → routeOf r ≡ d → handled d s a image r time ≡ x → handled (routeOf r) s a image r time ≡ x
+  to d e h = ap (λ (y : Service). handled y s a image r time) e ∙ h
+
+  unhandled-at : (d : Service) → messageIn r ≡ Message.Unknown → handled d s a image r time ≡ replying r time (Reply.Header 1) [] s image
+  unfolding handled dataOn tapeOn scsiOn jointOn controlOn isClose noticed choose replyBytes shapeOf
+  unhandled-at DataService e = rw e
+  unhandled-at TapeService e = rw e
+  unhandled-at ScsiService e = rw e
+  unhandled-at JointService e = rw e
+  unhandled-at ControlService e = rw e
+
+  unhandled : (room : ℕ) → Heard s r room → messageIn r ≡ Message.Unknown → answered s a image r time room ≡ replying r time (Reply.Header 1) [] s image
+  unhandled room h e = heard room h ∙ unhandled-at (routeOf r) e
+
+  undecoded-at : (m : Message) → messageIn r ≡ m → decoded m (bodyOf r) ≡ Request.Bad → handled (routeOf r) s a image r time ≡ replying r time (Reply.Header 18) [] s image
+  unfolding handled serviceOf decoded dataOn tapeOn scsiOn jointOn controlOn onData onTape onMover onScsi onJoint onConnect onConfig isClose closes noticed choose replyBytes shapeOf
+  undecoded-at (Message.Connect k) e h = to ControlService (rw e refl) (rw (e, h))
+  undecoded-at (Message.Config k) e h = to ControlService (rw e refl) (rw (e, h))
+  undecoded-at (Message.Scsi k) e h = to ScsiService (rw e refl) (rw (e, h))
+  undecoded-at (Message.Tape k) e h = to TapeService (rw e refl) (rw (e, h))
+  undecoded-at (Message.Data k) e h = to DataService (rw e refl) (rw (e, h))
+  undecoded-at (Message.Mover k) e h = to TapeService (rw e refl) (rw (e, h))
+  undecoded-at (Message.Joint k) e h = to JointService (rw e refl) (rw (e, h))
+  undecoded-at Message.Unknown e h = absurd (let z : _≡_ {A = ℕ} 0 1 = cc in omega arith)
+
+  undecoded : (room : ℕ) → Heard s r room → decoded (messageIn r) (bodyOf r) ≡ Request.Bad
+      → answered s a image r time room ≡ replying r time (Reply.Header 18) [] s image
+  undecoded room h b = heard room h ∙ undecoded-at (messageIn r) refl b
+
+  unproven : (room : ℕ) (k : ConnectKind) (id password : Text) → Heard s r room → messageIn r ≡ Message.Connect k
+      → connectBody k (bodyOf r) ≡ Request.Connect (ConnectRequest.Auth id password)
+      → matches (textOf (bodyOf r) id) (textOf (bodyOf r) password) (a .id) (a .password) ≡ false
+      → answered s a image r time room ≡ replying r time (Reply.Plain 4) [] s image
+  unfolding handled serviceOf controlOn onConnect isClose closes clientAuth choose
+  unproven room k id password h e b w = heard room h ∙ to ControlService (rw e refl) (rw (e, b, w))
+
 pub calls-keep : CallsKeep
 unfolding Refused
 calls-keep =
@@ -307,5 +356,8 @@ calls-keep =
         over = over;
         broken = broken;
         ignored = ignored;
+        unhandled = unhandled;
+        undecoded = undecoded;
+        unproven = unproven;
       };
     }

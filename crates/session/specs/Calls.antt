@@ -6,13 +6,22 @@ use mathlib.Core.Path.{_≡_}
 use lib.Dec.{ltb}
 use Rattle.xdr.specs.Choose.{choose}
 use Rattle.image.specs.Image.{isSound}
-use Rattle.frame.specs.Frame.{wellFramed, kindOf}
+use Rattle.frame.specs.Frame.{wellFramed, kindOf, bodyOf}
+use Rattle.frame.specs.declared.ConnectKind.{ConnectKind}
+use Rattle.frame.specs.declared.Message.the-variants as Message
+use Rattle.requests.specs.Bodies.{decoded, connectBody}
+use Rattle.requests.specs.declared.ConnectRequest.the-variants as ConnectRequest
+use Rattle.requests.specs.declared.Request.the-variants as Request
+use Rattle.requests.specs.declared.Text.{Text}
+use Rattle.replies.specs.declared.Reply.the-variants as Reply
 use Rattle.replies.specs.declared.Notice.the-variants as Notice
 use Rattle.replies.specs.Replies.{noticeBytes}
 use Rattle.session.specs.declared.types.Session.{Session}
 use Rattle.session.specs.Parts.{restData, restMover, closedTape, closedChanger}
+use Rattle.session.specs.DataService.{textOf}
+use Rattle.session.specs.Connection.{matches}
 use Rattle.session.specs.Relation.{keeps}
-use Rattle.session.specs.Answer.{Account, Answered, answered, silent, closing}
+use Rattle.session.specs.Answer.{Account, Answered, answered, silent, closing, replying, messageIn}
 use Rattle.session.specs.Order.{Call, run}
 
 -- the session after `open`, whose notice of the connection status was message number 1
@@ -37,6 +46,14 @@ pub record Unmoved (s : Session) (image : List ℕ) (a : Answered) : Type 0 wher
   pub next : a .next ≡ s
   pub image-end : a .image ≡ image
 
+-- a well-framed request on an open session, with room: its service answers it
+pub record Heard (s : Session) (r : List ℕ) (room : ℕ) : Type 0 where
+  pub roomy : 36864 ≤ room
+  pub kept : keeps s ≡ true
+  pub opened : s .closed ≡ false
+  pub framed : wellFramed r ≡ true
+  pub request : kindOf r ≡ 0
+
 pub record RefusalsOfCalls : Type 0 where
   -- 1001 for an output that is too short, before 1002 for a broken session; no other code but 0
   pub codes : (s : Session) (a : Account) (image r : List ℕ) (time room : ℕ)
@@ -50,6 +67,15 @@ pub record RefusalsOfCalls : Type 0 where
   -- a message that is no request is ignored
   pub ignored : (s : Session) (a : Account) (image r : List ℕ) (time room : ℕ) → wellFramed r ≡ true → (kindOf r ≡ 0 → ⊥)
       → Unmoved s image (answered s a image r time room)
+  -- 1 and 18 in the header, and 4 at a wrong login: a reply, and of the session only the counter and the "first request" mark change
+  pub unhandled : (s : Session) (a : Account) (image r : List ℕ) (time room : ℕ) → Heard s r room → messageIn r ≡ Message.Unknown
+      → answered s a image r time room ≡ replying r time (Reply.Header 1) [] s image
+  pub undecoded : (s : Session) (a : Account) (image r : List ℕ) (time room : ℕ) → Heard s r room → decoded (messageIn r) (bodyOf r) ≡ Request.Bad
+      → answered s a image r time room ≡ replying r time (Reply.Header 18) [] s image
+  pub unproven : (s : Session) (a : Account) (image r : List ℕ) (time room : ℕ) (k : ConnectKind) (id password : Text) → Heard s r room
+      → messageIn r ≡ Message.Connect k → connectBody k (bodyOf r) ≡ Request.Connect (ConnectRequest.Auth id password)
+      → matches (textOf (bodyOf r) id) (textOf (bodyOf r) password) (a .id) (a .password) ≡ false
+      → answered s a image r time room ≡ replying r time (Reply.Plain 4) [] s image
 
 pub record CallsKeep : Type 0 where
   -- the relation holds of a new session, every call keeps it, and no call on a session that has it is refused with 1002
