@@ -307,7 +307,7 @@ module _ (s : Session) (a : Account) (image r : List ℕ) (time : ℕ) where
   to : {x : Answered} (d : Service) → routeOf r ≡ d → handled d s a image r time ≡ x → handled (routeOf r) s a image r time ≡ x
   to d e h = ap (λ (y : Service). handled y s a image r time) e ∙ h
 
-  unhandled-at : (d : Service) → messageIn r ≡ Message.Unknown → handled d s a image r time ≡ replying r time (Reply.Header 1) [] s image
+  pub unhandled-at : (d : Service) → messageIn r ≡ Message.Unknown → handled d s a image r time ≡ replying r time (Reply.Header 1) [] s image
   unfolding handled dataOn tapeOn scsiOn jointOn controlOn isClose noticed choose replyBytes shapeOf
   unhandled-at DataService e = rw e
   unhandled-at TapeService e = rw e

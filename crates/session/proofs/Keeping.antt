@@ -77,10 +77,10 @@ by-facts : (p next : TapePart) → (MoverKept (p .mover) (p .tape) → MoverKept
     → PartKeeps p next
 by-facts p next f s = record { good = λ h. kept-mover (next .mover) (next .tape) (f (mover-kept (p .mover) (p .tape) h)); sides = s }
 
-clash : {A : Type 0} (b : Bool) → b ≡ false → b ≡ true → A
+pub clash : {A : Type 0} (b : Bool) → b ≡ false → b ≡ true → A
 clash b h e = absurd (let z : _≡_ {A = ℕ} 0 1 = cc in omega arith)
 
-active-holds : (state : ℕ) → state ≡ 2 → holdsTape state ≡ true
+pub active-holds : (state : ℕ) → state ≡ 2 → holdsTape state ≡ true
 unfolding holdsTape choose
 active-holds state e = rw e refl
 

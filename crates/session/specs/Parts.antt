@@ -75,6 +75,24 @@ abbrev pub moverSeeks : ℕ → ℕ → Mover → Mover
 moverSeeks seek left m =
     record { state = m .state; mode = m .mode; pause = m .pause; halt = m .halt; size = m .size; offset = m .offset; length = m .length; moved = m .moved; seek = seek; left = left; origin = m .origin }
 
+-- ---- what moved bytes change. "Both are taken modulo 2^64"
+abbrev pub wrapped : ℕ → ℕ
+wrapped n = n % 18446744073709551616
+
+-- n bytes of the stream were processed
+abbrev pub dataFed : ℕ → Data → Data
+dataFed n d = record { state = d .state; operation = d .operation; reason = d .reason; processed = wrapped (d .processed + n) }
+
+-- "Bytes moved counts whole records to tape"
+abbrev pub moverRecords : Mover → Mover
+moverRecords m =
+    record { state = m .state; mode = m .mode; pause = m .pause; halt = m .halt; size = m .size; offset = m .offset; length = m .length; moved = wrapped (m .moved + m .size); seek = m .seek; left = m .left; origin = m .origin }
+
+-- "bytes handed over from tape": "handed over, added to seek position, taken off bytes left"
+abbrev pub moverHands : ℕ → Mover → Mover
+moverHands n m =
+    record { state = m .state; mode = m .mode; pause = m .pause; halt = m .halt; size = m .size; offset = m .offset; length = m .length; moved = wrapped (m .moved + n); seek = m .seek + n; left = m .left - n; origin = m .origin }
+
 -- "Data is CONNECTED or ACTIVE exactly when the mover is ACTIVE or PAUSED; then they are joined."
 unfoldable pub dataJoined : ℕ → Bool
 dataJoined state = choose (eqb state 1) true (eqb state 4)

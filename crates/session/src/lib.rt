@@ -1,7 +1,8 @@
 // The session by value: its parts, its state codes, and what each request does to them. The definitions are in specs/; the code that
 // serves requests stands in the crates above.
 ghost use mathlib.Core.Path.{_≡_};
-ghost use Rattle.session.specs.Parts.{dataTo, dataHalts, restMover, moverListens, moverRuns, moverPauses, moverHalts, moverWindow, moverSize, moverSeeks};
+ghost use Prim.Native.Nat.{_+_, _≤_};
+ghost use Rattle.session.specs.Parts.{dataTo, dataHalts, restMover, moverListens, moverRuns, moverPauses, moverHalts, moverWindow, moverSize, moverSeeks, dataFed, moverRecords, moverHands};
 ghost use Rattle.session.specs.Promises.{Promises};
 ghost use Rattle.session.specs.Order.{AnyOrder};
 ghost use Rattle.session.specs.Calls.{CallsKeep};
@@ -47,6 +48,18 @@ impl Data {
             operation: self.operation,
             reason: why,
             processed: self.processed,
+        }
+    }
+
+    // Has processed n bytes more.
+    pub fn fed(self, n: u64) -> Data
+        ensures { λ r. ⌜ r ≡ dataFed n self ⌝ }
+    {
+        Data {
+            state: self.state,
+            operation: self.operation,
+            reason: self.reason,
+            processed: std::num::wrapping_add_u64(self.processed, n),
         }
     }
 }
@@ -192,6 +205,45 @@ impl Mover {
             moved: self.moved,
             seek,
             left,
+            origin: self.origin,
+        }
+    }
+
+    // Has moved one record to tape.
+    pub fn records(self) -> Mover
+        ensures { λ r. ⌜ r ≡ moverRecords self ⌝ }
+    {
+        Mover {
+            state: self.state,
+            mode: self.mode,
+            pause: self.pause,
+            halt: self.halt,
+            size: self.size,
+            offset: self.offset,
+            length: self.length,
+            moved: std::num::wrapping_add_u64(self.moved, self.size as u64),
+            seek: self.seek,
+            left: self.left,
+            origin: self.origin,
+        }
+    }
+
+    // Has handed over n bytes from tape.
+    pub fn hands(self, n: u64) -> Mover
+        requires { ⌜ (n ≤ self .left) × (self .seek + self .left ≤ 18446744073709551615) ⌝ }
+        ensures { λ r. ⌜ r ≡ moverHands n self ⌝ }
+    {
+        Mover {
+            state: self.state,
+            mode: self.mode,
+            pause: self.pause,
+            halt: self.halt,
+            size: self.size,
+            offset: self.offset,
+            length: self.length,
+            moved: std::num::wrapping_add_u64(self.moved, n),
+            seek: self.seek + n,
+            left: self.left - n,
             origin: self.origin,
         }
     }

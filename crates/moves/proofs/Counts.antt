@@ -1,0 +1,167 @@
+-- The counts over any sequence of moves. Assumes nothing.
+use Prim.Native.Nat.{ℕ, _+_, _*_, _/_, _%_, _≤_, _<_}
+use mathlib.Core.Bool.{Bool, true, false, not}
+use mathlib.Core.List.{List, [], _∷_}
+use mathlib.Core.Path.{_≡_, refl, sym, ap, _∙_}
+use native.Mathlib.Omega.{arith}
+use native.Mathlib.Nat.{add-zero, add-assoc, add-mul, zero-mul, one-mul, mod-eq-of-lt, add-mod, mod-mod, add-mul-div-right}
+use lib.Dec.{eqb}
+use borrow.Author.Tests.{ne-eqb}
+use Rattle.xdr.specs.Choose.{choose}
+use Rattle.xdr.proofs.Tests.{by-test}
+use Rattle.session.specs.declared.types.Mover.{Mover}
+use Rattle.session.specs.Parts.{wrapped}
+use Rattle.session.specs.MoverService.{recordNumber}
+use Rattle.session.specs.Relation.{keeps}
+use Rattle.session.specs.Order.{Each}
+use Rattle.moves.specs.Sequence.{World, Event, Asked, ToTape, FromTape, Ended, Loaded, next, runs, Seen, Sized, Windowed, MoverStopped, DataStopped, Paused, Wrote, Handed, Nothing, Register, registerOf, after, seen, Fits, Legitimate, moveShown, countOf}
+use Rattle.moves.specs.Counts.{trace, replay, movedBy, recordsIn, sum, IsMove, IsToTape, Counted, Recorded, CountsHold}
+use Rattle.moves.proofs.Sequence.{Goes, goes, legitimate}
+
+replayed : (w : World) → keeps (w .session) ≡ true → (es : List Event) → registerOf (runs w es .session) ≡ replay (registerOf (w .session)) (trace w es)
+unfolding runs trace replay
+replayed w h [] = refl
+replayed w h (e ∷ es) =
+    let g = goes w h e in
+    replayed (next e w) (g .kept) es ∙ ap (λ (r : Register). replay r (trace (next e w) es)) (g .register)
+
+-- ---- what is seen of a move
+abbrev Moves : Seen → Type 0
+Moves (Wrote n k) = Unit {0}
+Moves (Handed a k) = Unit {0}
+Moves Paused = Unit {0}
+Moves Nothing = Unit {0}
+Moves (Sized n) = ⊥
+Moves (Windowed o n) = ⊥
+Moves MoverStopped = ⊥
+Moves DataStopped = ⊥
+
+abbrev Writes : Seen → Type 0
+Writes (Wrote n k) = Unit {0}
+Writes Paused = Unit {0}
+Writes Nothing = Unit {0}
+Writes (Handed a k) = ⊥
+Writes (Sized n) = ⊥
+Writes (Windowed o n) = ⊥
+Writes MoverStopped = ⊥
+Writes DataStopped = ⊥
+
+by-shown : (P : Seen → Type 0) (m next : Mover) (n : ℕ) (what : Seen) → P what → P Paused → P Nothing → P (moveShown m next n what)
+unfolding moveShown
+by-shown P m next n what a b c =
+    by-test P (not (eqb n 0)) _ _ (λ _. a) (λ _. by-test P (not (eqb (m .state) 2)) _ _ (λ _. c) (λ _. by-test P (eqb (next .state) 3) _ _ (λ _. b) (λ _. c)))
+
+moves : (e : Event) (w : World) → IsMove e → Moves (seen e w)
+unfolding seen
+moves (ToTape stream last time room) w i = by-shown Moves _ _ _ _ tt tt tt
+moves (FromTape dest time room) w i = by-shown Moves _ _ _ _ tt tt tt
+moves (Loaded image) w i = tt
+moves (Asked c) w i = absurd i
+moves (Ended ok time room) w i = absurd i
+
+writes : (e : Event) (w : World) → IsToTape e → Writes (seen e w)
+unfolding seen
+writes (ToTape stream last time room) w i = by-shown Writes _ _ _ _ tt tt tt
+writes (Loaded image) w i = tt
+writes (FromTape dest time room) w i = absurd i
+writes (Asked c) w i = absurd i
+writes (Ended ok time room) w i = absurd i
+
+-- ---- modulo 2^64
+wrap-more : (a b c : ℕ) → wrapped (wrapped (a + b) + c) ≡ wrapped (a + (b + c))
+wrap-more a b c = omega arith
+
+wrap-none : (a b : ℕ) → wrapped (a + b) ≡ wrapped (a + (0 + b))
+wrap-none a b = omega arith
+
+moved-after : (r : Register) (x : Seen) (k : ℕ) → Moves x → wrapped (after r x .moved + k) ≡ wrapped (r .moved + (movedBy x + k))
+unfolding after movedBy
+moved-after r (Wrote n j) k i = wrap-more (r .moved) n k
+moved-after r (Handed a j) k i = wrap-more (r .moved) j k
+moved-after r Paused k i = wrap-none (r .moved) k
+moved-after r Nothing k i = wrap-none (r .moved) k
+moved-after r (Sized n) k i = absurd i
+moved-after r (Windowed o n) k i = absurd i
+moved-after r MoverStopped k i = absurd i
+moved-after r DataStopped k i = absurd i
+
+processed-after : (r : Register) (x : Seen) (k : ℕ) → Moves x → wrapped (after r x .processed + k) ≡ wrapped (r .processed + (countOf x + k))
+unfolding after countOf
+processed-after r (Wrote n j) k i = wrap-more (r .processed) j k
+processed-after r (Handed a j) k i = wrap-more (r .processed) j k
+processed-after r Paused k i = wrap-none (r .processed) k
+processed-after r Nothing k i = wrap-none (r .processed) k
+processed-after r (Sized n) k i = absurd i
+processed-after r (Windowed o n) k i = absurd i
+processed-after r MoverStopped k i = absurd i
+processed-after r DataStopped k i = absurd i
+
+counted : (w : World) → keeps (w .session) ≡ true → (es : List Event) → Each IsMove es → Counted w es
+unfolding runs trace sum
+counted w h [] is = record { moved = ap wrapped (sym (add-zero _)); processed = ap wrapped (sym (add-zero _)) }
+counted w h (e ∷ es) is =
+    let g = goes w h e in
+    let x = moves e w (is .0) in
+    let c = counted (next e w) (g .kept) es (is .1) in
+    let R = registerOf (w .session) in
+    let a = ap (λ (r : Register). wrapped (r .moved + sum movedBy (trace (next e w) es))) (g .register) in
+    let b = ap (λ (r : Register). wrapped (r .processed + sum countOf (trace (next e w) es))) (g .register) in
+    record {
+      moved = c .moved ∙ a ∙ moved-after R (seen e w) (sum movedBy (trace (next e w) es)) x;
+      processed = c .processed ∙ b ∙ processed-after R (seen e w) (sum countOf (trace (next e w) es)) x;
+    }
+
+-- ---- records to tape
+record Written (r : Register) (x : Seen) : Type 0 where
+  size : after r x .size ≡ r .size
+  moved : after r x .moved ≡ r .moved + recordsIn x * r .size
+
+one-record : (r : Register) (x : Seen) → Writes x → Fits r x → Legitimate r → Written r x
+unfolding after recordsIn
+one-record r (Wrote n k) i f l =
+    let e = f .exact in
+    let w = l (f .window) .fits in
+    let t = f .to in
+    let u : wrapped (r .moved + n) ≡ r .moved + n = mod-eq-of-lt (omega arith) in
+    record { size = refl; moved = u ∙ rw e (ap (λ (k : ℕ). r .moved + k) (sym (one-mul (r .size)))) }
+one-record r Paused i f l = record { size = refl; moved = sym (ap (λ (k : ℕ). r .moved + k) (zero-mul (r .size)) ∙ add-zero (r .moved)) }
+one-record r Nothing i f l = record { size = refl; moved = sym (ap (λ (k : ℕ). r .moved + k) (zero-mul (r .size)) ∙ add-zero (r .moved)) }
+one-record r (Handed a k) i f l = absurd i
+one-record r (Sized n) i f l = absurd i
+one-record r (Windowed o n) i f l = absurd i
+one-record r MoverStopped i f l = absurd i
+one-record r DataStopped i f l = absurd i
+
+number-of : (moved size k : ℕ) → (size ≡ 0 → ⊥) → recordNumber (moved + k * size) size ≡ (moved / size + k) % 4294967296
+unfolding recordNumber choose
+number-of moved size k h = rw (ne-eqb size 0 h) (ap (λ (n : ℕ). n % 4294967296) (add-mul-div-right moved k {z = size} (omega (arith, h))))
+
+record Grown (w v : World) (k : ℕ) : Type 0 where
+  size : v .session .mover .size ≡ w .session .mover .size
+  moved : v .session .mover .moved ≡ w .session .mover .moved + k * w .session .mover .size
+
+grown-more : (w u v : World) (j k : ℕ) → Grown w u j → Grown u v k → Grown w v (j + k)
+grown-more w u v j k a b =
+    record {
+      size = b .size ∙ a .size;
+      moved = b .moved ∙ rw (a .size, a .moved) (add-assoc (w .session .mover .moved) (j * w .session .mover .size) (k * w .session .mover .size) ∙ ap (λ (n : ℕ). w .session .mover .moved + n) (sym (add-mul j k (w .session .mover .size))));
+    }
+
+grown : (w : World) → keeps (w .session) ≡ true → (es : List Event) → Each IsToTape es → Grown w (runs w es) (sum recordsIn (trace w es))
+unfolding runs trace sum
+grown w h [] is = record { size = refl; moved = sym (ap (λ (k : ℕ). w .session .mover .moved + k) (zero-mul (w .session .mover .size)) ∙ add-zero (w .session .mover .moved)) }
+grown w h (e ∷ es) is =
+    let g = goes w h e in
+    let R = registerOf (w .session) in
+    let o = one-record R (seen e w) (writes e w (is .0)) (g .fits) (legitimate (w .session) h) in
+    let a = ap (λ (r : Register). r .size) (g .register) in
+    let b = ap (λ (r : Register). r .moved) (g .register) in
+    grown-more w (next e w) (runs (next e w) es) (recordsIn (seen e w)) _ (record { size = a ∙ o .size; moved = b ∙ o .moved }) (grown (next e w) (g .kept) es (is .1))
+
+recorded : (w : World) → keeps (w .session) ≡ true → (es : List Event) → Each IsToTape es → Recorded w es
+recorded w h es is =
+    let g = grown w h es is in
+    record { size = g .size; moved = g .moved; number = λ n. rw (g .size, g .moved) (number-of (w .session .mover .moved) (w .session .mover .size) (sum recordsIn (trace w es)) n) }
+
+pub counts-hold : CountsHold
+counts-hold = record { replayed = replayed; counted = counted; recorded = recorded }

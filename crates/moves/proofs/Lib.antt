@@ -1,0 +1,5 @@
+-- `Asking` has what a request shows and leaves of the register, `Moving` what a move shows and leaves, `Sequence` what holds over any sequence of calls.
+pub mod Asking
+pub mod Moving
+pub mod Sequence
+pub mod Counts

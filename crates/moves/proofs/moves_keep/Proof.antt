@@ -1,0 +1,11 @@
+use Rattle.moves.proofs.Sequence as laws
+use Rattle.moves.proofs.moves_keep.Statement.{statement}
+use Rattle.moves.proofs.moves_keep.Tie as tie
+use Rattle.moves.proofs.moves_keep.Reads as reads
+use Rattle.moves.proofs.moves_keep.Lts as lts
+
+returns : tie.Need-returns
+returns c = laws.moves-keep
+
+pub moves-keep-spec : {M : Type 1} → statement M
+moves-keep-spec = tie.close (tie.spec returns)

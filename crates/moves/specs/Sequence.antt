@@ -1,0 +1,278 @@
+-- What holds over any sequence of calls (demand 2): requests, moves and the method's end, in any order, with any image handed to any of them.
+-- What is seen of each call is a value; a register, which is replayed from what was seen and from nothing else, says which window is in
+-- force and what the counts are; and each thing seen must fit the register.
+use Prim.Native.Nat.{ℕ, _+_, _-_, _*_, _/_, _%_, _≤_}
+use mathlib.Core.Bool.{Bool, true, false, not}
+use mathlib.Core.List.{List, [], _∷_}
+use mathlib.Core.Path.{_≡_}
+use lib.ListN.{length, take, drop}
+use lib.Dec.{eqb, ltb}
+use Rattle.xdr.specs.Choose.{choose}
+use Rattle.xdr.specs.Xdr.{overlay}
+use Rattle.image.specs.Image.{isSound, entryBytes}
+use Rattle.writing.specs.Writing.{written, fillTo}
+use Rattle.frame.specs.Frame.{wellFramed, kindOf, bodyOf}
+use Rattle.frame.specs.declared.Message.{Message}
+use Rattle.frame.specs.declared.Message.the-variants as Message
+use Rattle.requests.specs.Bodies.{moverBody, dataBody}
+use Rattle.requests.specs.declared.DataRequest.{DataRequest}
+use Rattle.requests.specs.declared.DataRequest.the-variants as DataRequest
+use Rattle.requests.specs.declared.MoverRequest.{MoverRequest}
+use Rattle.requests.specs.declared.MoverRequest.the-variants as MoverRequest
+use Rattle.requests.specs.declared.Request.{Request}
+use Rattle.requests.specs.declared.Request.the-variants as Request
+use Rattle.replies.specs.Replies.{numberOf}
+use Rattle.session.specs.declared.types.Data.{Data}
+use Rattle.session.specs.declared.types.Mover.{Mover}
+use Rattle.session.specs.declared.types.Tape.{Tape}
+use Rattle.session.specs.declared.types.Session.{Session}
+use Rattle.session.specs.Parts.{wrapped}
+use Rattle.session.specs.DataService.{dataStop}
+use Rattle.session.specs.MoverService.{setSize, setWindow, moverStop, recordNumber}
+use Rattle.session.specs.Relation.{keeps, Legal}
+use Rattle.session.specs.Answer.{answered, messageIn}
+use Rattle.session.specs.Order.{Call}
+use Rattle.moves.specs.Events.{movedToTape, movedFromTape, methodEnded}
+
+-- ---- the calls
+pub record World : Type 0 where
+  pub session : Session
+  pub image : List ℕ
+
+pub data Event : Type 0 where
+  Asked : Call → Event
+  -- a stream part and whether it is the last; a destination; whether the method ended well; each with a time stamp and an output's length
+  ToTape : List ℕ → Bool → ℕ → ℕ → Event
+  FromTape : List ℕ → ℕ → ℕ → Event
+  Ended : Bool → ℕ → ℕ → Event
+  -- another image is handed to the calls that follow
+  Loaded : List ℕ → Event
+
+unfoldable pub next : Event → World → World
+next (Asked c) w =
+    let a = answered (w .session) (c .account) (w .image) (c .request) (c .time) (c .room) in
+    record { session = a .next; image = a .image }
+next (ToTape stream last time room) w =
+    let e = movedToTape (w .session) (w .image) stream last time room in
+    record { session = e .answer .next; image = e .answer .image }
+next (FromTape dest time room) w = record { session = movedFromTape (w .session) (w .image) dest time room .answer .next; image = w .image }
+next (Ended ok time room) w = record { session = methodEnded (w .session) ok time room .answer .next; image = w .image }
+next (Loaded image) w = record { session = w .session; image = image }
+
+unfoldable pub runs : World → List Event → World
+runs w [] = w
+runs w (e ∷ es) = runs (next e w) es
+
+-- ---- what is seen of a call
+pub data Seen : Type 0 where
+  -- set record size, set window, mover stop and data stop were accepted
+  Sized : ℕ → Seen
+  Windowed : ℕ → ℕ → Seen
+  MoverStopped : Seen
+  DataStopped : Seen
+  Paused : Seen
+  -- a record of so many bytes was written, so many of them the stream's
+  Wrote : ℕ → ℕ → Seen
+  -- from a position of the stream on, so many bytes were handed over
+  Handed : ℕ → ℕ → Seen
+  Nothing : Seen
+
+-- a request that its service answers
+unfoldable pub isHeard : Session → List ℕ → ℕ → Bool
+isHeard s r room =
+    choose (ltb room 36864) false
+    (choose (not (keeps s)) false
+    (choose (s .closed) false
+    (choose (not (wellFramed r)) false
+    (eqb (kindOf r) 0))))
+
+unfoldable pub moverShown : Bool → Mover → MoverRequest → Seen
+moverShown known m (MoverRequest.Size size) = choose (eqb (numberOf (setSize known m size .reply)) 0) (Sized size) Nothing
+moverShown known m (MoverRequest.Window offset length) = choose (eqb (numberOf (setWindow known m offset length .reply)) 0) (Windowed offset length) Nothing
+moverShown known m MoverRequest.Stop = choose (eqb (numberOf (moverStop known m .reply)) 0) MoverStopped Nothing
+moverShown known m MoverRequest.State = Nothing
+moverShown known m (MoverRequest.Listen mode address) = Nothing
+moverShown known m MoverRequest.Continue = Nothing
+moverShown known m (MoverRequest.Read offset length) = Nothing
+
+unfoldable pub dataShown : Bool → Data → DataRequest → Seen
+dataShown known d DataRequest.Stop = choose (eqb (numberOf (dataStop known d .reply)) 0) DataStopped Nothing
+dataShown known d DataRequest.State = Nothing
+dataShown known d (DataRequest.Backup method) = Nothing
+dataShown known d (DataRequest.Recover method) = Nothing
+dataShown known d (DataRequest.Listen address) = Nothing
+
+-- a request of the mover, and one of the data end
+unfoldable pub onMover : Bool → Mover → Request → Seen
+onMover known m (Request.Mover q) = moverShown known m q
+onMover known m (Request.Data q) = Nothing
+onMover known m (Request.Connect q) = Nothing
+onMover known m (Request.Config q) = Nothing
+onMover known m (Request.Scsi q) = Nothing
+onMover known m (Request.Tape q) = Nothing
+onMover known m (Request.Joint q) = Nothing
+onMover known m Request.Unknown = Nothing
+onMover known m Request.Bad = Nothing
+
+unfoldable pub onData : Bool → Data → Request → Seen
+onData known d (Request.Data q) = dataShown known d q
+onData known d (Request.Mover q) = Nothing
+onData known d (Request.Connect q) = Nothing
+onData known d (Request.Config q) = Nothing
+onData known d (Request.Scsi q) = Nothing
+onData known d (Request.Tape q) = Nothing
+onData known d (Request.Joint q) = Nothing
+onData known d Request.Unknown = Nothing
+onData known d Request.Bad = Nothing
+
+unfoldable pub shown : Session → Message → List ℕ → Seen
+shown s (Message.Mover k) body = onMover (s .authorized) (s .mover) (moverBody k body)
+shown s (Message.Data k) body = onData (s .authorized) (s .source) (dataBody k body)
+shown s (Message.Connect k) body = Nothing
+shown s (Message.Config k) body = Nothing
+shown s (Message.Scsi k) body = Nothing
+shown s (Message.Tape k) body = Nothing
+shown s (Message.Joint k) body = Nothing
+shown s Message.Unknown body = Nothing
+
+-- a move: bytes, or a pause of a mover that was ACTIVE
+unfoldable pub moveShown : Mover → Mover → ℕ → Seen → Seen
+moveShown m after count what =
+    choose (not (eqb count 0)) what
+    (choose (not (eqb (m .state) 2)) Nothing
+    (choose (eqb (after .state) 3) Paused Nothing))
+
+unfoldable pub seen : Event → World → Seen
+seen (Asked c) w =
+    choose (isHeard (w .session) (c .request) (c .room)) (shown (w .session) (messageIn (c .request)) (bodyOf (c .request))) Nothing
+seen (ToTape stream last time room) w =
+    let e = movedToTape (w .session) (w .image) stream last time room in
+    moveShown (w .session .mover) (e .answer .next .mover) (e .count) (Wrote (w .session .mover .size) (e .count))
+seen (FromTape dest time room) w =
+    let e = movedFromTape (w .session) (w .image) dest time room in
+    moveShown (w .session .mover) (e .answer .next .mover) (e .count) (Handed (w .session .mover .seek) (e .count))
+seen (Ended ok time room) w = Nothing
+seen (Loaded image) w = Nothing
+
+-- ---- the register: the record size, the window in force (of length 0 there is none), bytes moved and processed
+pub record Register : Type 0 where
+  pub size : ℕ
+  pub offset : ℕ
+  pub length : ℕ
+  pub moved : ℕ
+  pub processed : ℕ
+
+abbrev pub partsRegister : Data → Mover → Register
+partsRegister d m = record { size = m .size; offset = m .offset; length = m .length; moved = m .moved; processed = d .processed }
+
+abbrev pub registerOf : Session → Register
+registerOf s = partsRegister (s .source) (s .mover)
+
+-- No window outlives a change of record size, a pause or a stop; only an accepted set window puts one in force. "Bytes moved counts whole
+-- records to tape, bytes handed over from tape; the joined data end's processed count is the same, but to tape it leaves the fill out."
+unfoldable pub after : Register → Seen → Register
+after r (Sized n) = record { size = n; offset = 0; length = 0; moved = r .moved; processed = r .processed }
+after r (Windowed o n) = record { size = r .size; offset = o; length = n; moved = r .moved; processed = r .processed }
+after r MoverStopped = record { size = r .size; offset = 0; length = 0; moved = 0; processed = r .processed }
+after r DataStopped = record { size = r .size; offset = r .offset; length = r .length; moved = r .moved; processed = 0 }
+after r Paused = record { size = r .size; offset = 0; length = 0; moved = r .moved; processed = r .processed }
+after r (Wrote n k) = record { size = r .size; offset = r .offset; length = r .length; moved = wrapped (r .moved + n); processed = wrapped (r .processed + k) }
+after r (Handed a k) = record { size = r .size; offset = r .offset; length = r .length; moved = wrapped (r .moved + k); processed = wrapped (r .processed + k) }
+after r Nothing = r
+
+-- ---- what is allowed
+-- A record is written: there is a window; the record has the size in force, and some of its bytes are the stream's; its bytes, which stand on
+-- the stream from the bytes moved on, lie in the window.
+pub record WroteInside (r : Register) (n k : ℕ) : Type 0 where
+  pub window : r .length ≡ 0 → ⊥
+  pub exact : n ≡ r .size
+  pub some : 1 ≤ k
+  pub part : k ≤ n
+  pub from : r .offset ≤ r .moved
+  pub to : r .moved + n ≤ r .offset + r .length
+
+pub record HandedInside (r : Register) (a k : ℕ) : Type 0 where
+  pub window : r .length ≡ 0 → ⊥
+  pub some : 1 ≤ k
+  pub from : r .offset ≤ a
+  pub to : a + k ≤ r .offset + r .length
+
+abbrev pub Fits : Register → Seen → Type 0
+Fits r (Wrote n k) = WroteInside r n k
+Fits r (Handed a k) = HandedInside r a k
+Fits r (Sized n) = Unit {0}
+Fits r (Windowed o n) = Unit {0}
+Fits r MoverStopped = Unit {0}
+Fits r DataStopped = Unit {0}
+Fits r Paused = Unit {0}
+Fits r Nothing = Unit {0}
+
+-- a window in force is one that set window accepts for the record size in force: its offset and length are multiples of it
+abbrev pub Legitimate : Register → Type 0
+Legitimate r = (r .length ≡ 0 → ⊥) → Legal (r .size) (r .offset) (r .length)
+
+-- ---- what a move leaves: nothing but what was seen of it
+unfoldable pub imageAfter : Seen → List ℕ → ℕ → List ℕ → List ℕ
+imageAfter (Wrote n k) l position stream = written l position (fillTo (take k stream) n)
+imageAfter (Handed a k) l position stream = l
+imageAfter (Sized n) l position stream = l
+imageAfter (Windowed o n) l position stream = l
+imageAfter MoverStopped l position stream = l
+imageAfter DataStopped l position stream = l
+imageAfter Paused l position stream = l
+imageAfter Nothing l position stream = l
+
+-- the byte at position a of the stream is in the record (a - offset) / size after the one at the origin, at (a - offset) % size
+unfoldable pub destAfter : Seen → Register → ℕ → List ℕ → List ℕ → List ℕ
+destAfter (Handed a k) r origin l b = overlay 0 (take k (drop ((a - r .offset) % r .size) (entryBytes l (origin + (a - r .offset) / r .size)))) b
+destAfter (Wrote n k) r origin l b = b
+destAfter (Sized n) r origin l b = b
+destAfter (Windowed o n) r origin l b = b
+destAfter MoverStopped r origin l b = b
+destAfter DataStopped r origin l b = b
+destAfter Paused r origin l b = b
+destAfter Nothing r origin l b = b
+
+unfoldable pub countOf : Seen → ℕ
+countOf (Wrote n k) = k
+countOf (Handed a k) = k
+countOf (Sized n) = 0
+countOf (Windowed o n) = 0
+countOf MoverStopped = 0
+countOf DataStopped = 0
+countOf Paused = 0
+countOf Nothing = 0
+
+pub record ToTapeLeaves (w : World) (x : Seen) (stream image′ : List ℕ) (count : ℕ) : Type 0 where
+  pub image : image′ ≡ imageAfter x (w .image) (w .session .tape .position) stream
+  pub taken : count ≡ countOf x
+
+pub record FromTapeLeaves (w : World) (x : Seen) (dest dest′ : List ℕ) (count : ℕ) : Type 0 where
+  pub dest-end : dest′ ≡ destAfter x (registerOf (w .session)) (w .session .mover .origin) (w .image) dest
+  pub given : count ≡ countOf x
+
+abbrev pub Leaves : World → Event → Type 0
+Leaves w (ToTape stream last time room) =
+    let e = movedToTape (w .session) (w .image) stream last time room in
+    ToTapeLeaves w (seen (ToTape stream last time room) w) stream (e .answer .image) (e .count)
+Leaves w (FromTape dest time room) =
+    let e = movedFromTape (w .session) (w .image) dest time room in
+    FromTapeLeaves w (seen (FromTape dest time room) w) dest (e .dest) (e .count)
+Leaves w (Asked c) = Unit {0}
+Leaves w (Ended ok time room) = Unit {0}
+Leaves w (Loaded image) = Unit {0}
+
+-- ---- the theorem: at every call of the list the register is the session's, its window is legitimate, and what is seen fits it and is all
+-- that the call did
+pub record At (r : Register) (w : World) (e : Event) : Type 0 where
+  pub register : registerOf (w .session) ≡ r
+  pub window : Legitimate r
+  pub fits : Fits r (seen e w)
+  pub leaves : Leaves w e
+
+pub data Inside : Register → World → List Event → Type 0 where
+  done : {r : Register} {w : World} → registerOf (w .session) ≡ r → Inside r w []
+  more : {r : Register} {w : World} {e : Event} {es : List Event} → At r w e → Inside (after r (seen e w)) (next e w) es → Inside r w (e ∷ es)
+
+abbrev pub WindowHolds : Type 0
+WindowHolds = (w : World) → keeps (w .session) ≡ true → (es : List Event) → Inside (registerOf (w .session)) w es
