@@ -1,6 +1,7 @@
 // The tape operations on a cartridge image, for any image and any position: what a session calls. An unsound image or a position
 // above the number of entries is an answer, 7.
 ghost use mathlib.Core.Path.{_≡_};
+ghost use Prim.Native.Nat.{_≤_};
 ghost use lib.ListN.{length};
 ghost use Rattle.image.specs.Sound.{Placed};
 ghost use Rattle.cartridge.specs.Step.{Told};
@@ -73,8 +74,9 @@ pub fn write(image: &mut [u8], position: usize, bytes: &[u8]) -> Wrote
     }
 }
 
-fn lesser(a: usize, b: usize) -> usize
-    ensures { λ r. ⌜ r ≡ least a b ⌝ }
+// The lesser of two numbers.
+pub fn lesser(a: usize, b: usize) -> usize
+    ensures { λ r. ⌜ (r ≡ least a b) × (r ≤ a) × (r ≤ b) ⌝ }
 {
     if a < b { a } else { b }
 }

@@ -19,6 +19,7 @@ use Rattle.writing.proofs.Laws.{length-fill, room-facts}
 use Rattle.writing.proofs.Theorems.{written-sound}
 use Rattle.cartridge.specs.Step.{Step, keeping}
 use Rattle.cartridge.specs.Operations.{least}
+use Rattle.cartridge.proofs.Reading.{least-left, least-right}
 use Rattle.session.specs.declared.types.Data.{Data}
 use Rattle.session.specs.declared.types.Mover.{Mover}
 use Rattle.session.specs.declared.types.Tape.{Tape}
@@ -82,12 +83,12 @@ module _ (d : Data) (m : Mover) (what : ℕ → Seen) where
   pauses-turn t why e = turn-by (pauses why d m t) Paused (shown-pause m (what 0) why e) tt refl refl
 
 -- ---- the relation after each
-record Runs (mode operation : ℕ) (d : Data) (m : Mover) : Type 0 where
-  active : m .state ≡ 2
-  moded : m .mode ≡ mode
-  feeding : d .state ≡ 1
+pub record Runs (mode operation : ℕ) (d : Data) (m : Mover) : Type 0 where
+  pub active : m .state ≡ 2
+  pub moded : m .mode ≡ mode
+  pub feeding : d .state ≡ 1
 
-runs : (mode operation : ℕ) (d : Data) (m : Mover) → idle mode operation d m ≡ false → Runs mode operation d m
+pub runs : (mode operation : ℕ) (d : Data) (m : Mover) → idle mode operation d m ≡ false → Runs mode operation d m
 unfolding idle
 runs mode operation d m h =
     let a = none-of _ h in
@@ -156,14 +157,6 @@ some-taken : (last : Bool) (n size : ℕ) → ending last n ≡ false → scant 
 unfolding ending scant choose
 some-taken true n size e f h = let z : n ≡ 0 → ⊥ = eqb-false n 0 e in least-some n size (omega arith) h
 some-taken false n size e f h = let z : size ≤ n = ltb-false n size f in least-some n size (omega arith) h
-
-least-first : (a b : ℕ) → least a b ≤ a
-unfolding least
-least-first a b = by-test (λ (k : ℕ). k ≤ a) (ltb a b) a b (λ _. omega arith) (λ h. ltb-false a b h)
-
-least-second : (a b : ℕ) → least a b ≤ b
-unfolding least
-least-second a b = by-test (λ (k : ℕ). k ≤ b) (ltb a b) a b (λ h. let z : a < b = ltb-true a b h in omega arith) (λ _. omega arith)
 
 -- what a move to tape comes to
 pub record ToTurn (d : Data) (m : Mover) (t : Tape) (l s : List ℕ) (st : Step Move) : Type 0 where
@@ -238,7 +231,7 @@ module _ (d : Data) (m : Mover) (t : Tape) (l s : List ℕ) (k : PartsKept d m t
     takes-keep = record { source = k .source; mover = kept-mover _ _ takes-kept; joined = k .joined }
 
   length-taken : length (fillTo (take (least (length s) (m .size)) s) (m .size)) ≡ m .size
-  length-taken = length-fill _ (m .size) (let a = least-first (length s) (m .size) in let b = least-second (length s) (m .size) in simp length-take (omega arith))
+  length-taken = length-fill _ (m .size) (let a = least-left (length s) (m .size) in let b = least-right (length s) (m .size) in simp length-take (omega arith))
 
   writes-sound : faulty l (t .position) ≡ false → roomFor l (t .position) (m .size) ≡ true → isSound (writing d m t l s .image) ≡ true
   writes-sound f r =
@@ -255,7 +248,7 @@ module _ (d : Data) (m : Mover) (t : Tape) (l s : List ℕ) (k : PartsKept d m t
       let u = h .runs (g .moded) (g .active) in
       let n = least (length s) (m .size) in
       let some : 1 ≤ n = some-taken last (length s) (m .size) z c (u .some) in
-      let part : n ≤ m .size = least-second (length s) (m .size) in
+      let part : n ≤ m .size = least-right (length s) (m .size) in
       let v = h .window (h .hold (active-holds (m .state) (g .active)) .window) in
       let room : m .moved + m .size ≤ m .offset + m .length = one-more (m .size) (m .offset) (m .length) (m .moved) v u (eqb-false _ _ w) in
       record {
@@ -322,7 +315,7 @@ module _ (d : Data) (m : Mover) (t : Tape) (l b : List ℕ) (k : PartsKept d m t
   pauses-from u why e =
       record { turn = pauses-turn d m _ u why e; dest-end = rw (shown-pause m (Handed (m .seek) 0) why e) refl; kept = pauses-keep d m t k u why e }
 
-  module _ (r : Runs 1 2 d m) (n i : ℕ) (some : 1 ≤ n) (least-left : n ≤ m .left) (low : m .offset ≤ m .seek) (high : m .seek + n ≤ m .offset + m .length)
+  module _ (r : Runs 1 2 d m) (n i : ℕ) (some : 1 ≤ n) (asked : n ≤ m .left) (low : m .offset ≤ m .seek) (high : m .seek + n ≤ m .offset + m .length)
       (at : i ≡ m .origin + ordinal m) where
     hands-held : Held m t
     hands-held = facts d m t k .hold (active-holds (m .state) (r .active))
@@ -373,9 +366,9 @@ module _ (d : Data) (m : Mover) (t : Tape) (l b : List ℕ) (k : PartsKept d m t
       let n = amount m (length b) in
       let inner = least (m .left) (m .size - inRecord m) in
       let some : 1 ≤ n = least-some inner (length b) (least-some (m .left) (m .size - inRecord m) (omega arith) (omega arith)) (omega arith) in
-      let n1 : n ≤ inner = least-first inner (length b) in
-      let n2 : inner ≤ m .left = least-first (m .left) (m .size - inRecord m) in
-      let n3 : inner ≤ m .size - inRecord m = least-second (m .left) (m .size - inRecord m) in
+      let n1 : n ≤ inner = least-left inner (length b) in
+      let n2 : inner ≤ m .left = least-left (m .left) (m .size - inRecord m) in
+      let n3 : inner ≤ m .size - inRecord m = least-right (m .left) (m .size - inRecord m) in
       let n4 : n ≤ m .left = omega arith in
       let high : m .seek + n ≤ m .offset + m .length = omega arith in
       by-test (FromTurn d m t l b) (not (eqb (entryLen l i) (m .size))) _ _ (λ _. halts-from 4 5)
@@ -412,3 +405,8 @@ pub end-turn : (ok : Bool) (d : Data) (m : Mover) (t : Tape) → PartsKept d m t
 unfolding methodEnd
 end-turn ok d m t k =
     by-test (EndTurn d m) (eqb (d .state) 1) _ _ (λ _. record { register = refl; kept = halts-keep d m t k (choose ok 1 3) 1 }) (λ _. record { register = refl; kept = k })
+
+-- where the data end is ACTIVE, both halt
+pub end-halts : (ok : Bool) (d : Data) (m : Mover) (t : Tape) (r : Move) (why : ℕ) → r ≡ halts why 1 d m t → why ≡ choose ok 1 3 → d .state ≡ 1 → r ≡ methodEnd ok d m t
+unfolding methodEnd choose
+end-halts ok d m t r why e w s = rw (eq-eqb (d .state) 1 s) (e ∙ ap (λ (k : ℕ). halts k 1 d m t) w)

@@ -40,19 +40,29 @@ guarded s image dest room e =
     (choose (s .closed) (idling 0 s image dest)
     e))
 
--- a call to move to tape: the session, the image, the stream part and whether it is the last, the time stamp, and the length of the output.
--- There is no destination.
-unfoldable pub movedToTape : Session → List ℕ → List ℕ → Bool → ℕ → ℕ → Moving
-movedToTape s image stream last time room =
+-- a move to tape that is not refused. There is no destination.
+abbrev pub feeding : Session → List ℕ → List ℕ → Bool → ℕ → Moving
+feeding s image stream last time =
     let st = toTape (s .source) (s .mover) (s .tape) image stream last in
-    guarded s image [] room (moved s time (st .gives) (st .image) [])
+    moved s time (st .gives) (st .image) []
 
--- a call to move from tape: the image is only read
-unfoldable pub movedFromTape : Session → List ℕ → List ℕ → ℕ → ℕ → Moving
-movedFromTape s image dest time room =
+-- a move from tape that is not refused: the image is only read
+abbrev pub handing : Session → List ℕ → List ℕ → ℕ → Moving
+handing s image dest time =
     let st = fromTape (s .source) (s .mover) (s .tape) image dest in
-    guarded s image dest room (moved s time (st .move) image (st .dest))
+    moved s time (st .move) image (st .dest)
 
--- a call for the method's end, in success or not. No image is handed to it.
+-- a method's end that is not refused. No image is handed to it.
+abbrev pub finishing : Session → Bool → ℕ → Moving
+finishing s ok time = moved s time (methodEnd ok (s .source) (s .mover) (s .tape)) [] []
+
+-- the calls: the session, the image, the stream part and whether it is the last, or the destination, or whether the method ended well; the time
+-- stamp; and the length of the output
+unfoldable pub movedToTape : Session → List ℕ → List ℕ → Bool → ℕ → ℕ → Moving
+movedToTape s image stream last time room = guarded s image [] room (feeding s image stream last time)
+
+unfoldable pub movedFromTape : Session → List ℕ → List ℕ → ℕ → ℕ → Moving
+movedFromTape s image dest time room = guarded s image dest room (handing s image dest time)
+
 unfoldable pub methodEnded : Session → Bool → ℕ → ℕ → Moving
-methodEnded s ok time room = guarded s [] [] room (moved s time (methodEnd ok (s .source) (s .mover) (s .tape)) [] [])
+methodEnded s ok time room = guarded s [] [] room (finishing s ok time)

@@ -2,7 +2,8 @@
 // stands in the crates above.
 ghost use mathlib.Core.Path.{_≡_};
 ghost use Prim.Native.Nat.{_+_, _≤_};
-ghost use Rattle.moves.specs.Moves.{still, pauses, halts, takes, hands};
+ghost use Rattle.xdr.specs.Choose.{choose};
+ghost use Rattle.moves.specs.Moves.{still, pauses, halts, takes, hands, idle, methodEnd};
 ghost use Rattle.moves.specs.Examples.{ExamplesHold};
 ghost use Rattle.moves.specs.Sequence.{WindowHolds};
 ghost use Rattle.moves.specs.Keeping.{MovesKeep};
@@ -29,6 +30,22 @@ pub enum Found {
     Target(usize),
     Mark(usize),
     End,
+}
+
+// The mover is not ACTIVE in a mode, or the data end not ACTIVE in an operation: then nothing moves.
+pub fn is_idle(mode: u32, operation: u32, d: Data, m: Mover) -> bool
+    ensures { λ r. ⌜ r ≡ idle mode operation d m ⌝ }
+{
+    if m.state != Mover::ACTIVE {
+        return true;
+    }
+    if m.mode != mode {
+        return true;
+    }
+    if d.state != Data::ACTIVE {
+        return true;
+    }
+    d.operation != operation
 }
 
 // Nothing is moved, and nothing changes.
@@ -114,6 +131,27 @@ pub fn hand_over(n: usize, i: usize, d: Data, m: Mover, t: Tape) -> Move
             position: i + 1,
         },
     }
+}
+
+// Why the data end halts at the method's end: SUCCESSFUL or INTERNAL_ERROR.
+fn end_reason(ok: bool) -> u32
+    ensures { λ r. ⌜ r ≡ choose ok 1 3 ⌝ }
+{
+    if ok {
+        return 1;
+    }
+    3
+}
+
+// The method's end, in success or not.
+pub fn method_end(ok: bool, d: Data, m: Mover, t: Tape) -> Move
+    ensures { λ r. ⌜ r ≡ methodEnd ok d m t ⌝ }
+{
+    if d.state == Data::ACTIVE {
+        let why = end_reason(ok);
+        return halt_both(why, 1, d, m, t);
+    }
+    no_move(d, m, t)
 }
 
 // No work: its contract is the examples of paper 01, cases a to j in one statement.

@@ -1,3 +1,3 @@
--- `Calling` has the laws of replies and notices in a whole call, `Routing` those of requests at their services.
-pub mod Calling
+-- `Framing` has what a record was found to be, `Routing` the laws of requests at their services.
+pub mod Framing
 pub mod Routing

@@ -53,9 +53,10 @@ use Rattle.session.specs.Connection.{connectOpen, clientAuth, configReply}
 use Rattle.session.specs.Answer.{Service, DataService, TapeService, ScsiService, JointService, ControlService, Account, messageIn, serviceOf, routeOf, handled, isClose, closes, closing, onConnect, onConfig, controlOn, byControl, tapePart, withParts, replying, noticed, onData, onTape, onMover, onScsi, onJoint, dataOn, tapeOn, scsiOn, jointOn, byData, byTape, byScsi, byJoint}
 use Rattle.session.proofs.Serving.{told-same}
 use Rattle.session.proofs.Sending.{data-sendable, tape-sendable, scsi-sendable, joint-sendable, config-sendable}
-use Rattle.server.specs.declared.Answer.{Answer}
-use Rattle.server.specs.Call.{CallTold, authorizing, controlled}
-use Rattle.server.proofs.Calling.{same-reply}
+use Rattle.answering.specs.declared.Answer.{Answer}
+use Rattle.answering.specs.Call.{CallTold}
+use Rattle.server.specs.Call.{authorizing, controlled}
+use Rattle.answering.proofs.Calling.{same-reply}
 
 -- ---- DATA
 abbrev no-data : List ℕ

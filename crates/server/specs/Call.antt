@@ -1,10 +1,7 @@
--- What a call promises: the value that is returned, the image and the output.
-use Prim.Native.Nat.{ℕ, _≤_}
-use mathlib.Core.List.{List, _++_}
-use mathlib.Core.Path.{_≡_}
-use lib.ListN.{length}
-use Rattle.xdr.specs.Xdr.{overlay}
+-- Names for parts of what a request call gives.
+use Prim.Native.Nat.{ℕ}
 use mathlib.Core.Bool.{Bool}
+use mathlib.Core.List.{List}
 use Rattle.xdr.specs.Choose.{choose}
 use Rattle.frame.specs.Frame.{bodyOf}
 use Rattle.requests.specs.declared.Text.{Text}
@@ -14,20 +11,6 @@ use Rattle.session.specs.Judge.{Served}
 use Rattle.session.specs.DataService.{textOf}
 use Rattle.session.specs.Connection.{matches, clientAuth}
 use Rattle.session.specs.Answer.{Account, Answered, closing, closes, onConnect, byControl}
-use Rattle.server.specs.declared.Answer.{Answer}
-
--- "Bytes of the output after the answer stay": what is sent is written at the output's start, and nothing else
-pub record CallTold (a : Answered) (r : Answer) (image′ out out′ : List ℕ) : Type 0 where
-  pub code : r .code ≡ a .code
-  pub len : r .len ≡ length (a .reply ++ a .notices)
-  pub next : r .session ≡ a .next
-  pub image : image′ ≡ a .image
-  pub output : out′ ≡ overlay 0 (a .reply ++ a .notices) out
-
--- what the functions below the calls lean on: a record with its header, and an output with room
-pub record Ready (r out : List ℕ) : Type 0 where
-  pub long : 28 ≤ length r
-  pub room : 36864 ≤ length out
 
 -- an account, from the caller's two buffers
 abbrev pub account : List ℕ → List ℕ → Account

@@ -18,7 +18,9 @@ ghost use Rattle.session.specs.Answer.{Account, Answered, bump, counted, withPa
 ghost use Rattle.session.specs.Parts.{restData, restMover, closedTape, closedChanger};
 ghost use Rattle.session.specs.Calls.{opening};
 ghost use Rattle.joint_service.specs.Done.{endsOf};
-ghost use Rattle.server.specs.Call.{CallTold, Ready, account, authorizing, controlled};
+ghost use Rattle.answering.specs.Call.{CallTold, Ready};
+ghost use Rattle.server.specs.Call.{account, authorizing, controlled};
+use answering::Answer;
 use data_service::DataDone;
 use frame::ConfigKind;
 use frame::ConnectKind;
@@ -43,91 +45,6 @@ use session::types::Mover;
 use session::types::Session;
 use session::types::Tape;
 use tape_service::TapeDone;
-
-// What a call returns: 0, 1001 or 1002; how many bytes of the output were written; and the next session.
-#[repr(C)]
-pub struct Answer {
-    pub code: u32,
-    pub len: usize,
-    pub session: Session,
-}
-
-// The session after one message sent, with the first-request mark as told.
-fn after_message(s: Session, first: bool) -> Session
-    ensures { λ r. ⌜ r ≡ record { closed = s .closed; first = first; authorized = s .authorized; sequence = bump (s .sequence); source = s .source; mover = s .mover; tape = s .tape; changer = s .changer } ⌝ }
-{
-    let d = s.source;
-    let m = s.mover;
-    let t = s.tape;
-    let c = s.changer;
-    Session {
-        closed: s.closed,
-        first,
-        authorized: s.authorized,
-        sequence: std::num::wrapping_add_u32(s.sequence, 1),
-        source: d,
-        mover: m,
-        tape: t,
-        changer: c,
-    }
-}
-
-// The session with other parts.
-fn with_parts(s: Session, authorized: bool, d: Data, m: Mover, t: Tape, c: Changer) -> Session
-    ensures { λ r. ⌜ r ≡ withParts s authorized d m t c ⌝ }
-{
-    Session {
-        closed: s.closed,
-        first: s.first,
-        authorized,
-        sequence: s.sequence,
-        source: d,
-        mover: m,
-        tape: t,
-        changer: c,
-    }
-}
-
-// The reply to a record, and the session counted. For every service.
-fn finish(
-    next: Session,
-    input: &[u8],
-    time: u32,
-    reply: Reply,
-    seen: &[u8],
-    out: &mut [u8],
-) -> Answer
-    requires { ⌜ Ready (now input) (now out) × Sendable reply (now seen) ⌝ }
-    ensures { λ r. ⌜ (r .len ≤ 32804) × ((image : List ℕ) → CallTold (replying (now (input .entry)) time reply (now (seen .entry)) next image) r image (now (out .entry)) (now (out .exit))) ⌝ }
-{
-    let message = xdr::read_word(input, 16);
-    let echo = xdr::read_word(input, 4);
-    let len = replies::write_reply(out, next.sequence, time, message, echo, reply, seen);
-    let session = after_message(next, false);
-    Answer {
-        code: 0,
-        len,
-        session,
-    }
-}
-
-// A notice behind what was sent, where there is a reason for one.
-fn notify(sent: Answer, time: u32, why: u32, notice: Notice, out: &mut [u8]) -> Answer
-    requires { ⌜ (sent .len ≤ 36000) × (36864 ≤ length (now out)) ⌝ }
-    ensures { λ r. ⌜ (r .len ≤ sent .len + 40) × ((a : Answered) (image l : List ℕ) → CallTold a sent image l (now (out .entry)) → CallTold (noticed time why notice a) r image l (now (out .exit))) ⌝ }
-{
-    if why == 0 {
-        return sent;
-    }
-    let s = sent.session;
-    let len = replies::write_notice(out, sent.len, s.sequence, time, notice);
-    let session = after_message(s, s.first);
-    Answer {
-        code: sent.code,
-        len,
-        session,
-    }
-}
 
 fn data_answer(known: bool, d: Data, q: Request, body: &[u8]) -> DataDone
     requires { ⌜ textsWithin (now body) q ⌝ }
@@ -154,8 +71,8 @@ fn data_call(s: Session, k: DataKind, input: &[u8], time: u32, out: &mut [u8]) -
     let m = s.mover;
     let t = s.tape;
     let c = s.changer;
-    let session = with_parts(s, s.authorized, next, m, t, c);
-    finish(session, input, time, reply, b"", out)
+    let session = answering::with_parts(s, s.authorized, next, m, t, c);
+    answering::finish(session, input, time, reply, b"", out)
 }
 
 fn scsi_answer(known: bool, c: Changer, q: Request, body: &[u8]) -> ScsiDone
@@ -183,8 +100,8 @@ fn scsi_call(s: Session, k: ScsiKind, input: &[u8], time: u32, out: &mut [u8]) -
     let d = s.source;
     let m = s.mover;
     let t = s.tape;
-    let session = with_parts(s, s.authorized, d, m, t, next);
-    finish(session, input, time, reply, b"", out)
+    let session = answering::with_parts(s, s.authorized, d, m, t, next);
+    answering::finish(session, input, time, reply, b"", out)
 }
 
 fn tape_answer(
@@ -226,8 +143,8 @@ fn tape_call(
     let reply = done.reply;
     let d = s.source;
     let c = s.changer;
-    let session = with_parts(s, s.authorized, d, m, next, c);
-    finish(session, input, time, reply, image, out)
+    let session = answering::with_parts(s, s.authorized, d, m, next, c);
+    answering::finish(session, input, time, reply, image, out)
 }
 
 fn mover_answer(known: bool, m: Mover, t: Tape, q: Request) -> MoverDone
@@ -261,8 +178,8 @@ fn mover_call(
     let reply = done.reply;
     let d = s.source;
     let c = s.changer;
-    let session = with_parts(s, s.authorized, d, next, t, c);
-    finish(session, input, time, reply, image, out)
+    let session = answering::with_parts(s, s.authorized, d, next, t, c);
+    answering::finish(session, input, time, reply, image, out)
 }
 
 fn joint_answer(known: bool, d: Data, m: Mover, t: Tape, q: Request) -> JointDone
@@ -293,46 +210,10 @@ fn joint_call(s: Session, k: JointKind, input: &[u8], time: u32, out: &mut [u8])
     let mover = done.mover;
     let reply = done.reply;
     let c = s.changer;
-    let session = with_parts(s, s.authorized, source, mover, t, c);
-    let sent = finish(session, input, time, reply, b"", out);
-    let told = notify(sent, time, done.dwhy, Notice::DataHalted(done.dwhy), out);
-    notify(told, time, done.mwhy, Notice::MoverHalted(done.mwhy), out)
-}
-
-// Nothing is sent and nothing changes.
-fn quiet(code: u32, s: Session) -> Answer
-    ensures { λ r. ⌜ ((image l : List ℕ) → CallTold (silent code s image) r image l l) ⌝ }
-{
-    Answer {
-        code,
-        len: 0,
-        session: s,
-    }
-}
-
-// The session is closed, with no reply.
-fn shut(s: Session) -> Answer
-    ensures { λ r. ⌜ ((image l : List ℕ) → CallTold (closing s image) r image l l) ⌝ }
-{
-    let d = s.source;
-    let m = s.mover;
-    let t = s.tape;
-    let c = s.changer;
-    let session = Session {
-        closed: true,
-        first: s.first,
-        authorized: s.authorized,
-        sequence: s.sequence,
-        source: d,
-        mover: m,
-        tape: t,
-        changer: c,
-    };
-    Answer {
-        code: 0,
-        len: 0,
-        session,
-    }
+    let session = answering::with_parts(s, s.authorized, source, mover, t, c);
+    let sent = answering::finish(session, input, time, reply, b"", out);
+    let told = answering::notify(sent, time, done.dwhy, Notice::DataHalted(done.dwhy), out);
+    answering::notify(told, time, done.mwhy, Notice::MoverHalted(done.mwhy), out)
 }
 
 // A text login.
@@ -355,8 +236,8 @@ fn auth_call(
     let m = s.mover;
     let t = s.tape;
     let c = s.changer;
-    let session = with_parts(s, done.known, d, m, t, c);
-    finish(session, input, time, reply, b"", out)
+    let session = answering::with_parts(s, done.known, d, m, t, c);
+    answering::finish(session, input, time, reply, b"", out)
 }
 
 fn connect_call(
@@ -373,12 +254,12 @@ fn connect_call(
 {
     let q = requests::decode_connect(k, &input[28..]);
     let Request::Connect(x) = q else {
-        return finish(s, input, time, Reply::Header(18), b"", out);
+        return answering::finish(s, input, time, Reply::Header(18), b"", out);
     };
     match x {
         ConnectRequest::Open(version) => {
             let reply = connection::connect_open(s.first, version);
-            finish(s, input, time, reply, b"", out)
+            answering::finish(s, input, time, reply, b"", out)
         }
         ConnectRequest::Auth(name, word) => auth_call(
             s,
@@ -390,8 +271,8 @@ fn connect_call(
             time,
             out,
         ),
-        ConnectRequest::OtherAuth => finish(s, input, time, Reply::Plain(9), b"", out),
-        ConnectRequest::Close => shut(s),
+        ConnectRequest::OtherAuth => answering::finish(s, input, time, Reply::Plain(9), b"", out),
+        ConnectRequest::Close => answering::shut(s),
     }
 }
 
@@ -401,10 +282,10 @@ fn config_call(s: Session, k: ConfigKind, input: &[u8], time: u32, out: &mut [u8
 {
     let q = requests::decode_config(k, &input[28..]);
     let Request::Config(x) = q else {
-        return finish(s, input, time, Reply::Header(18), b"", out);
+        return answering::finish(s, input, time, Reply::Header(18), b"", out);
     };
     let reply = connection::config(s.authorized, x);
-    finish(s, input, time, reply, b"", out)
+    answering::finish(s, input, time, reply, b"", out)
 }
 
 // A well-framed request.
@@ -430,7 +311,7 @@ fn framed_call(
         Message::Data(k) => data_call(s, k, input, time, out),
         Message::Mover(k) => mover_call(s, k, image, input, time, out),
         Message::Joint(k) => joint_call(s, k, input, time, out),
-        Message::Unknown => finish(s, input, time, Reply::Header(1), b"", out),
+        Message::Unknown => answering::finish(s, input, time, Reply::Header(1), b"", out),
     }
 }
 
@@ -480,7 +361,7 @@ pub fn open(time: u32, out: &mut [u8]) -> Answer
 {
     if out.len() < 36864 {
         let unopened = new_session(true, 1);
-        return quiet(1001, unopened);
+        return answering::quiet(1001, unopened);
     }
     let len = replies::write_notice(out, 0, 1, time, Notice::Connected);
     let session = new_session(false, 2);
@@ -504,17 +385,17 @@ pub fn request(
     ensures { λ r. ⌜ CallTold (answered s (account (now (id .entry)) (now (password .entry))) (now (image .entry)) (now (input .entry)) time (length (now (out .entry)))) r (now (image .exit)) (now (out .entry)) (now (out .exit)) ⌝ }
 {
     if out.len() < 36864 {
-        return quiet(1001, s);
+        return answering::quiet(1001, s);
     }
     if !relation::is_kept(s) {
-        return quiet(1002, s);
+        return answering::quiet(1002, s);
     }
     if s.closed {
-        return quiet(0, s);
+        return answering::quiet(0, s);
     }
     match frame::read_frame(input) {
-        Framed::Broken => shut(s),
-        Framed::NotRequest => quiet(0, s),
+        Framed::Broken => answering::shut(s),
+        Framed::NotRequest => answering::quiet(0, s),
         Framed::Request {
             sequence: _,
             message,

@@ -1,18 +1,13 @@
 -- What a service answers can be sent: the bytes that a reply copies are there. Assumes nothing.
-use Prim.Native.Nat.{ℕ, _+_, _≤_, _<_}
+use Prim.Native.Nat.{ℕ, _≤_}
 use mathlib.Core.Bool.{Bool, false, not}
 use mathlib.Core.List.{List}
-use mathlib.Core.Path.{_≡_}
 use native.Mathlib.Omega.{arith}
 use lib.ListN.{length, getD}
-use lib.Dec.{eqb, ltb}
-use borrow.Author.Tests.{ltb-true, ltb-false, eqb-false}
+use lib.Dec.{eqb}
 use Rattle.xdr.proofs.Tests.{by-test}
-use Rattle.image.specs.Image.{count, entryLen, entryStart, bodyAt, faulty}
-use Rattle.image.specs.Sound.{Placed}
-use Rattle.image.proofs.Laws.{placed, sum-next, sum-used}
-use Rattle.cartridge.specs.declared.Part.{Part}
-use Rattle.cartridge.specs.Operations.{least, entryPart, readPart}
+use Rattle.cartridge.specs.Operations.{least}
+use Rattle.cartridge.proofs.Reading.{Copied, least-right, read-copies}
 use Rattle.frame.specs.declared.Message.{Message}
 use Rattle.frame.specs.declared.Message.the-variants as Message
 use Rattle.requests.specs.Bodies.{connectBody, configBody, scsiBody, tapeBody, dataBody, moverBody, jointBody}
@@ -45,43 +40,6 @@ use Rattle.session.specs.ScsiService.{scsiOpen, scsiClose, scsiState, sc
 use Rattle.session.specs.Joint.{dataConnect, moverConnect, dataAbort, moverAbort, moverClose, jointStep}
 use Rattle.session.specs.Connection.{connectOpen, clientAuth, configReply}
 use Rattle.session.specs.Answer.{Account, onData, onTape, onMover, onScsi, onJoint, onConnect, onConfig, dataOn, tapeOn, scsiOn, jointOn, controlOn}
-
--- ---- what a read and a sense copy
-least-left : (a b : ℕ) → least a b ≤ a
-unfolding least
-least-left a b = by-test (λ (k : ℕ). k ≤ a) (ltb a b) a b (λ _. omega arith) (λ h. ltb-false a b h)
-
-least-right : (a b : ℕ) → least a b ≤ b
-unfolding least
-least-right a b = by-test (λ (k : ℕ). k ≤ b) (ltb a b) a b (λ h. let z : a < b = ltb-true a b h in omega arith) (λ _. omega arith)
-
--- the bytes of an entry lie in the body
-entry-within : (l : List ℕ) (p : ℕ) → Placed l p → (p ≡ count l → ⊥) → bodyAt l + (entryStart l p + entryLen l p) ≤ length l
-entry-within l p at h =
-    let w = at .within in
-    let b = at .ok .header .bytes in
-    let t = at .ok .header .table in
-    let s = at .ok .entry p (omega arith) .start in
-    let n = sum-next l p in
-    let u = sum-used l (p + 1) (at .ok) (omega arith) in
-    omega arith
-
-Copied : List ℕ → Part → Type 0
-Copied l r = (r .start + r .len ≤ length l) × (r .len ≤ 32768)
-
-read-copies : (l : List ℕ) (p times : ℕ) → Copied l (readPart l p times)
-unfolding readPart entryPart Copied
-read-copies l p times =
-    by-test (Copied l) (ltb 32768 times) _ _ (λ _. (omega arith, omega arith))
-    (λ few. by-test (Copied l) (faulty l p) _ _ (λ _. (omega arith, omega arith))
-    (λ f. by-test (Copied l) (eqb times 0) _ _ (λ _. (omega arith, omega arith))
-    (λ _. by-test (Copied l) (eqb p (count l)) _ _ (λ _. (omega arith, omega arith))
-    (λ h. by-test (Copied l) (eqb (entryLen l p) 0) _ _ (λ _. (omega arith, omega arith))
-    (λ _. let e = entry-within l p (placed l p f) (eqb-false p (count l) h) in
-    let j = least-left times (entryLen l p) in
-    let k = least-right times (entryLen l p) in
-    let t = ltb-false 32768 times few in
-    (omega arith, omega arith))))))
 
 sense-length : (cdb : List ℕ) (room : ℕ) → senseLength cdb room ≤ 18
 unfolding senseLength

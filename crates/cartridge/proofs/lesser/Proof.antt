@@ -1,3 +1,4 @@
+use native.Mathlib.Omega.{arith}
 use Rattle.xdr.proofs.Tests.{picking}
 use Rattle.cartridge.specs.Operations.{least}
 use Rattle.cartridge.proofs.lesser.Statement.{statement}
@@ -7,11 +8,11 @@ use Rattle.cartridge.proofs.lesser.Lts as lts
 
 returns : tie.Need-returns
 unfolding least
-returns c = search picking depth 6
+returns c = (search picking depth 6, omega arith, omega arith)
 
 returns-2 : tie.Need-returns-2
 unfolding least
-returns-2 c = search picking depth 6
+returns-2 c = (search picking depth 6, omega arith, omega arith)
 
 pub lesser-spec : {M : Type 1} → statement M
 lesser-spec = tie.close (tie.spec returns returns-2)

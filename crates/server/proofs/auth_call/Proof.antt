@@ -1,6 +1,6 @@
 use denote.Ref.{now}
 use native.Mathlib.Omega.{arith}
-use Rattle.server.proofs.Calling.{body-is}
+use Rattle.server.proofs.Framing.{body-is}
 use Rattle.server.proofs.Routing.{auth-sends, auth-arm}
 use borrow.Author.Needs.{needs}
 use Rattle.server.proofs.auth_call.Statement.{statement}

@@ -2,7 +2,7 @@ use denote.Ref.{now}
 use native.Mathlib.Omega.{arith}
 use Rattle.session.specs.Answer.{Account}
 use Rattle.server.specs.Call.{account}
-use Rattle.server.proofs.Calling.{body-is}
+use Rattle.server.proofs.Framing.{body-is}
 use Rattle.server.proofs.Routing.{header-sends, config-sends, config-other, config-told}
 use borrow.Author.Needs.{needs}
 use Rattle.server.proofs.config_call.Statement.{statement}

@@ -4,7 +4,7 @@ use native.Mathlib.Omega.{arith}
 use Rattle.requests.specs.declared.Request.the-variants as Request
 use Rattle.requests.specs.declared.ConnectRequest.{ConnectRequest}
 use Rattle.server.specs.Call.{account}
-use Rattle.server.proofs.Calling.{body-is}
+use Rattle.server.proofs.Framing.{body-is}
 use Rattle.server.proofs.Routing.{header-sends, plain-sends, opens-sends, connect-other, connect-opened, connect-auth, connect-no-auth, connect-closed, connect-texts}
 use borrow.Author.Needs.{needs}
 use Rattle.server.proofs.connect_call.Statement.{statement}

@@ -1,6 +1,6 @@
 use denote.Ref.{now}
 use native.Mathlib.Omega.{arith}
-use Rattle.server.proofs.Calling.{body-is}
+use Rattle.server.proofs.Framing.{body-is}
 use Rattle.server.proofs.Routing.{data-within, data-sends, data-arm}
 use borrow.Author.Needs.{needs}
 use Rattle.server.proofs.data_call.Statement.{statement}
@@ -9,8 +9,8 @@ use Rattle.server.proofs.data_call.Reads as reads
 use Rattle.server.proofs.data_call.Lts as lts
 use Rattle.requests.proofs.decode_data.Reads as decode-data-reads
 use Rattle.server.proofs.data_answer.Reads as data-answer-reads
-use Rattle.server.proofs.finish.Reads as finish-reads
-use Rattle.server.proofs.with_parts.Reads as with-parts-reads
+use Rattle.answering.proofs.finish.Reads as finish-reads
+use Rattle.answering.proofs.with_parts.Reads as with-parts-reads
 
 sub-decode-data : tie.Need-sub-decode-data
 sub-decode-data c = search needs

@@ -1,6 +1,6 @@
 use denote.Ref.{now}
 use native.Mathlib.Omega.{arith}
-use Rattle.server.proofs.Calling.{body-is}
+use Rattle.server.proofs.Framing.{body-is}
 use Rattle.server.proofs.Routing.{joint-sends, joint-arm}
 use borrow.Author.Needs.{needs}
 use Rattle.server.proofs.joint_call.Statement.{statement}
@@ -8,10 +8,10 @@ use Rattle.server.proofs.joint_call.Tie as tie
 use Rattle.server.proofs.joint_call.Reads as reads
 use Rattle.server.proofs.joint_call.Lts as lts
 use Rattle.requests.proofs.decode_joint.Reads as decode-joint-reads
-use Rattle.server.proofs.finish.Reads as finish-reads
+use Rattle.answering.proofs.finish.Reads as finish-reads
 use Rattle.server.proofs.joint_answer.Reads as joint-answer-reads
-use Rattle.server.proofs.notify.Reads as notify-reads
-use Rattle.server.proofs.with_parts.Reads as with-parts-reads
+use Rattle.answering.proofs.notify.Reads as notify-reads
+use Rattle.answering.proofs.with_parts.Reads as with-parts-reads
 
 sub-decode-joint : tie.Need-sub-decode-joint
 sub-decode-joint c = search needs

@@ -1,6 +1,6 @@
 use denote.Ref.{now}
 use native.Mathlib.Omega.{arith}
-use Rattle.server.proofs.Calling.{body-is}
+use Rattle.server.proofs.Framing.{body-is}
 use Rattle.server.proofs.Routing.{mover-sends, mover-arm}
 use borrow.Author.Needs.{needs}
 use Rattle.server.proofs.mover_call.Statement.{statement}
@@ -8,9 +8,9 @@ use Rattle.server.proofs.mover_call.Tie as tie
 use Rattle.server.proofs.mover_call.Reads as reads
 use Rattle.server.proofs.mover_call.Lts as lts
 use Rattle.requests.proofs.decode_mover.Reads as decode-mover-reads
-use Rattle.server.proofs.finish.Reads as finish-reads
+use Rattle.answering.proofs.finish.Reads as finish-reads
 use Rattle.server.proofs.mover_answer.Reads as mover-answer-reads
-use Rattle.server.proofs.with_parts.Reads as with-parts-reads
+use Rattle.answering.proofs.with_parts.Reads as with-parts-reads
 
 sub-decode-mover : tie.Need-sub-decode-mover
 sub-decode-mover c = search needs

@@ -1,6 +1,6 @@
 use Rattle.session.specs.Calls.{opening}
 use Rattle.xdr.proofs.Tests.{ltb-yes, ltb-no}
-use Rattle.server.proofs.Calling.{call-if, call-else, unsent-as, announced}
+use Rattle.answering.proofs.Calling.{call-if, call-else, unsent-as, announced}
 use mathlib.Core.List.{[]}
 use borrow.Author.Needs.{needs}
 use Rattle.server.proofs.open.Statement.{statement}

@@ -5,7 +5,8 @@ use Rattle.session.specs.Answer.{answered, requested}
 use Rattle.frame.specs.Frame.{Well}
 use Rattle.frame.proofs.Laws.{request-well}
 use Rattle.xdr.proofs.Tests.{asked-not, ltb-yes, ltb-no}
-use Rattle.server.proofs.Calling.{call-if, call-else, frame-broken, frame-other, frame-request}
+use Rattle.answering.proofs.Calling.{call-if, call-else}
+use Rattle.server.proofs.Framing.{frame-broken, frame-other, frame-request}
 use borrow.Author.Needs.{needs}
 use Rattle.server.proofs.request.Statement.{statement}
 use Rattle.server.proofs.request.Tie as tie

@@ -1,6 +1,6 @@
 use denote.Ref.{now}
 use native.Mathlib.Omega.{arith}
-use Rattle.server.proofs.Calling.{body-is}
+use Rattle.server.proofs.Framing.{body-is}
 use Rattle.server.proofs.Routing.{scsi-within, scsi-sends, scsi-arm}
 use borrow.Author.Needs.{needs}
 use Rattle.server.proofs.scsi_call.Statement.{statement}
@@ -8,9 +8,9 @@ use Rattle.server.proofs.scsi_call.Tie as tie
 use Rattle.server.proofs.scsi_call.Reads as reads
 use Rattle.server.proofs.scsi_call.Lts as lts
 use Rattle.requests.proofs.decode_scsi.Reads as decode-scsi-reads
-use Rattle.server.proofs.finish.Reads as finish-reads
+use Rattle.answering.proofs.finish.Reads as finish-reads
 use Rattle.server.proofs.scsi_answer.Reads as scsi-answer-reads
-use Rattle.server.proofs.with_parts.Reads as with-parts-reads
+use Rattle.answering.proofs.with_parts.Reads as with-parts-reads
 
 sub-decode-scsi : tie.Need-sub-decode-scsi
 sub-decode-scsi c = search needs

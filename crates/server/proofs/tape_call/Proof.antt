@@ -1,6 +1,6 @@
 use denote.Ref.{now}
 use native.Mathlib.Omega.{arith}
-use Rattle.server.proofs.Calling.{body-is}
+use Rattle.server.proofs.Framing.{body-is}
 use Rattle.server.proofs.Routing.{tape-within, tape-sends, tape-arm}
 use borrow.Author.Needs.{needs}
 use Rattle.server.proofs.tape_call.Statement.{statement}
@@ -8,9 +8,9 @@ use Rattle.server.proofs.tape_call.Tie as tie
 use Rattle.server.proofs.tape_call.Reads as reads
 use Rattle.server.proofs.tape_call.Lts as lts
 use Rattle.requests.proofs.decode_tape.Reads as decode-tape-reads
-use Rattle.server.proofs.finish.Reads as finish-reads
+use Rattle.answering.proofs.finish.Reads as finish-reads
 use Rattle.server.proofs.tape_answer.Reads as tape-answer-reads
-use Rattle.server.proofs.with_parts.Reads as with-parts-reads
+use Rattle.answering.proofs.with_parts.Reads as with-parts-reads
 
 sub-decode-tape : tie.Need-sub-decode-tape
 sub-decode-tape c = search needs

@@ -1,0 +1,13 @@
+use mathlib.Core.Path.{refl}
+use Rattle.answering.proofs.Calling.{unsent}
+use borrow.Author.Needs.{needs}
+use Rattle.answering.proofs.quiet.Statement.{statement}
+use Rattle.answering.proofs.quiet.Tie as tie
+use Rattle.answering.proofs.quiet.Reads as reads
+use Rattle.answering.proofs.quiet.Lts as lts
+
+returns : tie.Need-returns
+returns c = λ image l. unsent _ _ _ image l refl
+
+pub quiet-spec : {M : Type 1} → statement M
+quiet-spec = tie.close (tie.spec returns)

@@ -1,0 +1,13 @@
+use mathlib.Core.Path.{refl}
+use Rattle.answering.proofs.Calling.{unsent}
+use borrow.Author.Needs.{needs}
+use Rattle.answering.proofs.shut.Statement.{statement}
+use Rattle.answering.proofs.shut.Tie as tie
+use Rattle.answering.proofs.shut.Reads as reads
+use Rattle.answering.proofs.shut.Lts as lts
+
+returns : tie.Need-returns
+returns c = λ image l. unsent _ _ _ image l refl
+
+pub shut-spec : {M : Type 1} → statement M
+shut-spec = tie.close (tie.spec returns)

@@ -1,0 +1,159 @@
+// The calls without a request: moves of the stream's bytes, and the method's end. No call has a requires: it refuses.
+ghost use mathlib.Core.Path.{_≡_};
+ghost use mathlib.Core.Bool.{true};
+ghost use mathlib.Core.List.{List, []};
+ghost use Prim.Native.Nat.{ℕ, _≤_};
+ghost use lib.ListN.{length};
+ghost use Rattle.session.specs.Relation.{keeps};
+ghost use Rattle.answering.specs.Call.{CallTold};
+ghost use Rattle.moves.specs.Events.{idling, announced, moved, feeding, handing, movedToTape, movedFromTape, methodEnded};
+ghost use Rattle.events.specs.Told.{MoveTold};
+use answering::Answer;
+use moves::Move;
+use replies::Notice;
+use session::types::Data;
+use session::types::Mover;
+use session::types::Session;
+use session::types::Tape;
+
+// What a move returns: 0, 1001 or 1002; the bytes taken or handed over; how many bytes of the output were written; and the next session.
+#[repr(C)]
+pub struct Moved {
+    pub code: u32,
+    pub count: usize,
+    pub len: usize,
+    pub session: Session,
+}
+
+// The session with a move's parts, and the notices of what it came to: data first, mover second.
+fn announce(s: Session, mv: Move, time: u32, out: &mut [u8]) -> Answer
+    requires { ⌜ 36864 ≤ length (now out) ⌝ }
+    ensures { λ r. ⌜ ((image : List ℕ) → CallTold (announced s time mv image) r image (now (out .entry)) (now (out .exit))) ⌝ }
+{
+    let d = mv.source;
+    let m = mv.mover;
+    let t = mv.tape;
+    let c = s.changer;
+    let session = answering::with_parts(s, s.authorized, d, m, t, c);
+    let sent = answering::quiet(0, session);
+    let halted = answering::notify(sent, time, mv.dwhy, Notice::DataHalted(mv.dwhy), out);
+    let stopped = answering::notify(halted, time, mv.mwhy, Notice::MoverHalted(mv.mwhy), out);
+    answering::notify(
+        stopped,
+        time,
+        mv.pause,
+        Notice::MoverPaused(mv.pause, m.seek),
+        out,
+    )
+}
+
+// The end of the method that reads or writes the stream, in success or not.
+pub fn end_method(s: Session, ok: bool, time: u32, out: &mut [u8]) -> Answer
+    ensures { λ r. ⌜ CallTold (methodEnded s ok time (length (now (out .entry))) .answer) r [] (now (out .entry)) (now (out .exit)) ⌝ }
+{
+    if out.len() < 36864 {
+        return answering::quiet(1001, s);
+    }
+    if !relation::is_kept(s) {
+        return answering::quiet(1002, s);
+    }
+    if s.closed {
+        return answering::quiet(0, s);
+    }
+    let d = s.source;
+    let m = s.mover;
+    let t = s.tape;
+    let mv = moves::method_end(ok, d, m, t);
+    announce(s, mv, time, out)
+}
+
+// Nothing is moved or sent, and nothing changes.
+fn unmoved(code: u32, s: Session) -> Moved
+    ensures { λ r. ⌜ ((image dest l : List ℕ) → MoveTold (idling code s image dest) r image dest l l) ⌝ }
+{
+    Moved {
+        code,
+        count: 0,
+        len: 0,
+        session: s,
+    }
+}
+
+// What a move came to, with its notices.
+fn report(s: Session, mv: Move, time: u32, out: &mut [u8]) -> Moved
+    requires { ⌜ 36864 ≤ length (now out) ⌝ }
+    ensures { λ r. ⌜ ((image dest : List ℕ) → MoveTold (moved s time mv image dest) r image dest (now (out .entry)) (now (out .exit))) ⌝ }
+{
+    let count = mv.count;
+    let sent = announce(s, mv, time, out);
+    let session = sent.session;
+    Moved {
+        code: sent.code,
+        count,
+        len: sent.len,
+        session,
+    }
+}
+
+// A move to tape of a session that is in order.
+fn feed(s: Session, image: &mut [u8], stream: &[u8], last: bool, time: u32, out: &mut [u8]) -> Moved
+    requires { ⌜ (keeps s ≡ true) × (36864 ≤ length (now out)) ⌝ }
+    ensures { λ r. ⌜ MoveTold (feeding s (now (image .entry)) (now (stream .entry)) last time) r (now (image .exit)) [] (now (out .entry)) (now (out .exit)) ⌝ }
+{
+    let d = s.source;
+    let m = s.mover;
+    let t = s.tape;
+    let mv = to_tape::to_tape(d, m, t, image, stream, last);
+    report(s, mv, time, out)
+}
+
+// One move to tape: the session, the cartridge, a part of the stream and whether it is the last, the time stamp and the output.
+pub fn move_to_tape(
+    s: Session,
+    image: &mut [u8],
+    stream: &[u8],
+    last: bool,
+    time: u32,
+    out: &mut [u8],
+) -> Moved
+    ensures { λ r. ⌜ MoveTold (movedToTape s (now (image .entry)) (now (stream .entry)) last time (length (now (out .entry)))) r (now (image .exit)) [] (now (out .entry)) (now (out .exit)) ⌝ }
+{
+    if out.len() < 36864 {
+        return unmoved(1001, s);
+    }
+    if !relation::is_kept(s) {
+        return unmoved(1002, s);
+    }
+    if s.closed {
+        return unmoved(0, s);
+    }
+    feed(s, image, stream, last, time, out)
+}
+
+// A move from tape of a session that is in order.
+fn hand(s: Session, image: &[u8], dest: &mut [u8], time: u32, out: &mut [u8]) -> Moved
+    requires { ⌜ (keeps s ≡ true) × (36864 ≤ length (now out)) ⌝ }
+    ensures { λ r. ⌜ MoveTold (handing s (now (image .entry)) (now (dest .entry)) time) r (now (image .entry)) (now (dest .exit)) (now (out .entry)) (now (out .exit)) ⌝ }
+{
+    let d = s.source;
+    let m = s.mover;
+    let t = s.tape;
+    let mv = from_tape::from_tape(d, m, t, image, dest);
+    report(s, mv, time, out)
+}
+
+// One move from tape: the session, the cartridge, which is only read, the destination, the time stamp and the output.
+pub fn move_from_tape(s: Session, image: &[u8], dest: &mut [u8], time: u32, out: &mut [u8]) -> Moved
+    ensures { λ r. ⌜ MoveTold (movedFromTape s (now (image .entry)) (now (dest .entry)) time (length (now (out .entry)))) r (now (image .entry)) (now (dest .exit)) (now (out .entry)) (now (out .exit)) ⌝ }
+{
+    if out.len() < 36864 {
+        return unmoved(1001, s);
+    }
+    if !relation::is_kept(s) {
+        return unmoved(1002, s);
+    }
+    if s.closed {
+        return unmoved(0, s);
+    }
+    hand(s, image, dest, time, out)
+}

@@ -1,0 +1,97 @@
+use Prim.Native.Nat.{_+_}
+use denote.Ref.{now}
+use native.Mathlib.Omega.{arith}
+use Rattle.from_tape.proofs.Handing.{read-wrong, read-right}
+use borrow.Author.Needs.{needs}
+use Rattle.from_tape.proofs.read_record.Statement.{statement}
+use Rattle.from_tape.proofs.read_record.Tie as tie
+use Rattle.from_tape.proofs.read_record.Reads as reads
+use Rattle.from_tape.proofs.read_record.Lts as lts
+use Rattle.from_tape.proofs.amount.Reads as amount-reads
+use Rattle.from_tape.proofs.into_record.Reads as into-record-reads
+use Rattle.from_tape.proofs.record_start.Reads as record-start-reads
+use Rattle.image.proofs.field.Reads as field-reads
+use Rattle.moves.proofs.halt_both.Reads as halt-both-reads
+use Rattle.moves.proofs.hand_over.Reads as hand-over-reads
+use Rattle.xdr.proofs.copy_blocks.Reads as copy-blocks-reads
+
+cast-size : tie.Need-cast-size
+cast-size c = search needs
+
+mul-field : tie.Need-mul-field
+mul-field c = search needs
+
+add-field : tie.Need-add-field
+add-field c = search needs
+
+field-requires : tie.Need-field-requires
+field-requires c κs = search needs
+
+halt-both-requires : tie.Need-halt-both-requires
+halt-both-requires c κs = search needs
+
+returns : tie.Need-returns
+returns c = read-wrong _ _ _ _ _ _ _ (λ e. c .before .if1 .taken (omega arith)) (c .halt-both .ensures)
+
+into-record-requires : tie.Need-into-record-requires
+into-record-requires c κs = search needs
+
+amount-requires : tie.Need-amount-requires
+amount-requires c κs = search needs
+
+record-start-requires : tie.Need-record-start-requires
+record-start-requires c κs = search needs
+
+add-begin : tie.Need-add-begin
+add-begin c = search needs
+
+add-end : tie.Need-add-end
+add-end c = search needs
+
+sub-copy-blocks : tie.Need-sub-copy-blocks
+sub-copy-blocks c = search needs
+
+part-copy-blocks-start : tie.Need-part-copy-blocks-start
+part-copy-blocks-start c = search needs
+
+part-copy-blocks-end : tie.Need-part-copy-blocks-end
+part-copy-blocks-end c = search needs
+
+copy-blocks-requires : tie.Need-copy-blocks-requires
+copy-blocks-requires c κs = search needs
+
+hand-over-requires : tie.Need-hand-over-requires
+hand-over-requires c κs = search needs
+
+same-length : tie.Need-same-length
+same-length c = search needs
+
+returns-2 : tie.Need-returns-2
+returns-2 c =
+    let a = c .before .before .before .before .before .before .before .before .before .before .before .before .before .before .args in
+    let n = c .before .before .before .before .before .before .before .amount in
+    let begin = c .before .before .before .before .before .before .record-start .result + c .before .before .before .before .before .before .before .before .into-record .result in
+    read-right (a .i) (a .d) (a .m) (a .t) (now (a .image)) (now (a .dest)) _ _ (n .result) begin (omega arith) (n .ensures .is) (n .ensures .rest) (omega arith) (c .before .before .before .copy-blocks .ensures) (c .hand-over .ensures)
+
+pub read-record-spec : {M : Type 1} → statement M
+read-record-spec =
+    tie.close
+    (tie.spec
+    cast-size
+    mul-field
+    add-field
+    field-requires
+    halt-both-requires
+    returns
+    into-record-requires
+    amount-requires
+    record-start-requires
+    add-begin
+    add-end
+    sub-copy-blocks
+    part-copy-blocks-start
+    part-copy-blocks-end
+    copy-blocks-requires
+    hand-over-requires
+    same-length
+    returns-2)

@@ -1,0 +1,161 @@
+// One move from tape: the walk to the record that the seek position is in, and the bytes of it that are handed over.
+ghost use mathlib.Core.Path.{_≡_};
+ghost use mathlib.Core.Bool.{false};
+ghost use Prim.Native.Nat.{_+_, _-_, _*_, _<_, _≤_};
+ghost use lib.ListN.{length};
+ghost use Rattle.image.specs.Image.{count};
+ghost use Rattle.image.specs.Sound.{Sound};
+ghost use Rattle.session.specs.Parts.{top};
+ghost use Rattle.session.specs.Relation.{moverWrong};
+ghost use Rattle.session.specs.TapeService.{movedTo};
+ghost use Rattle.moves.specs.Moves.{outside, walk, sought, inRecord, pauses, reading, onFound, seeking, fromTape, HandedAs};
+ghost use Rattle.from_tape.specs.Facts.{Seekable, Start, Amount};
+use moves::Found;
+use moves::Move;
+use session::types::Data;
+use session::types::Mover;
+use session::types::Tape;
+
+// Whether the seek position is outside the window.
+fn is_outside(seek: u64, offset: u64, length: u64) -> bool
+    requires { ⌜ offset + length ≤ top ⌝ }
+    ensures { λ r. ⌜ r ≡ outside seek offset length ⌝ }
+{
+    if seek < offset {
+        return true;
+    }
+    if seek < offset + length {
+        return false;
+    }
+    true
+}
+
+// Walks from an origin over k records to the one after them, in a table of n entries.
+fn find_record(image: &[u8], n: usize, origin: usize, k: u64) -> Found
+    requires { ⌜ (16 + n * 8 ≤ length (now image)) × (n ≤ 4096) × (origin ≤ n) ⌝ }
+    ensures { λ r. ⌜ r ≡ walk (now (image .entry)) (n - origin) origin k ⌝ }
+{
+    let mut at = origin;
+    let mut left = k;
+    let mut rest = n - origin;
+    loop {
+        if rest == 0 {
+            break Found::End;
+        }
+        let len = image::field(image, 16 + at * 8);
+        if len == 0 {
+            break Found::Mark(at + 1);
+        }
+        if left == 0 {
+            break Found::Target(at);
+        }
+        at += 1;
+        left -= 1;
+        rest -= 1;
+    }
+}
+
+// Where the bytes of record i begin.
+fn record_start(image: &[u8], i: usize) -> usize
+    requires { ⌜ Sound (now image) × (i < count (now image)) ⌝ }
+    ensures { λ r. ⌜ Start (now (image .entry)) i r ⌝ }
+{
+    16 + image::field(image, 4) * 8 + image::field(image, 20 + i * 8)
+}
+
+// The place of the seek position in its record.
+fn into_record(m: Mover) -> usize
+    requires { ⌜ (1 ≤ m .size) × (m .offset ≤ m .seek) ⌝ }
+    ensures { λ r. ⌜ (r ≡ inRecord m) × (r < m .size) ⌝ }
+{
+    ((m.seek - m.offset) % (m.size as u64)) as usize
+}
+
+// How much is handed over where there is room for so much.
+fn amount(m: Mover, room: usize) -> usize
+    requires { ⌜ (1 ≤ m .size) × (m .offset ≤ m .seek) ⌝ }
+    ensures { λ r. ⌜ Amount m room r ⌝ }
+{
+    let size = m.size as usize;
+    let into = into_record(m);
+    let rest = size - into;
+    let some = cartridge::lesser(m.left as usize, rest);
+    cartridge::lesser(some, room)
+}
+
+// Hands over what is asked for of record i.
+fn read_record(i: usize, d: Data, m: Mover, t: Tape, image: &[u8], dest: &mut [u8]) -> Move
+    requires { ⌜ Seekable m (now image) × (m .offset ≤ m .seek) × (i < count (now image)) ⌝ }
+    ensures { λ r. ⌜ HandedAs (reading i d m t (now (image .entry)) (now (dest .entry))) r (now (dest .exit)) ⌝ }
+{
+    let size = m.size as usize;
+    let len = image::field(image, 16 + i * 8);
+    if len != size {
+        return moves::halt_both(4, 5, d, m, t);
+    }
+    let into = into_record(m);
+    let n = amount(m, dest.len());
+    let begin = record_start(image, i) + into;
+    let end = begin + n;
+    xdr::copy_blocks(dest, 0, &image[begin..end]);
+    moves::hand_over(n, i, d, m, t)
+}
+
+// The mover pauses, and the tape stands at a position.
+fn pause_there(why: u32, position: usize, d: Data, m: Mover, t: Tape) -> Move
+    ensures { λ r. ⌜ r ≡ pauses why d m (movedTo position t) ⌝ }
+{
+    let tape = Tape {
+        opened: t.opened,
+        writable: t.writable,
+        position,
+    };
+    moves::pause_at(why, d, m, tape)
+}
+
+// A move after its tests: the walk, and what it comes to.
+fn walk_back(d: Data, m: Mover, t: Tape, image: &[u8], dest: &mut [u8]) -> Move
+    requires { ⌜ Seekable m (now image) × (m .offset ≤ m .seek) ⌝ }
+    ensures { λ r. ⌜ HandedAs (onFound (sought m (now (image .entry))) d m t (now (image .entry)) (now (dest .entry))) r (now (dest .exit)) ⌝ }
+{
+    let n = image::field(image, 8);
+    let k = (m.seek - m.offset) / (m.size as u64);
+    let found = find_record(image, n, m.origin, k);
+    match found {
+        Found::Target(i) => read_record(i, d, m, t, image, dest),
+        Found::Mark(j) => pause_there(2, j, d, m, t),
+        Found::End => pause_there(1, n, d, m, t),
+    }
+}
+
+// The test of the seek position, and the walk.
+fn seek_back(d: Data, m: Mover, t: Tape, image: &[u8], dest: &mut [u8]) -> Move
+    requires { ⌜ Seekable m (now image) ⌝ }
+    ensures { λ r. ⌜ HandedAs (seeking d m t (now (image .entry)) (now (dest .entry))) r (now (dest .exit)) ⌝ }
+{
+    if is_outside(m.seek, m.offset, m.length) {
+        return moves::pause_at(3, d, m, t);
+    }
+    walk_back(d, m, t, image, dest)
+}
+
+// One move from tape, of a session that keeps the relation.
+pub fn from_tape(d: Data, m: Mover, t: Tape, image: &[u8], dest: &mut [u8]) -> Move
+    requires { ⌜ moverWrong m t ≡ false ⌝ }
+    ensures { λ r. ⌜ HandedAs (fromTape d m t (now (image .entry)) (now (dest .entry))) r (now (dest .exit)) ⌝ }
+{
+    if moves::is_idle(1, 2, d, m) {
+        return moves::no_move(d, m, t);
+    }
+    let position = t.position;
+    if image::is_faulty(image, position) {
+        return moves::halt_both(4, 5, d, m, t);
+    }
+    if m.left == 0 {
+        return moves::no_move(d, m, t);
+    }
+    if dest.len() == 0 {
+        return moves::no_move(d, m, t);
+    }
+    seek_back(d, m, t, image, dest)
+}

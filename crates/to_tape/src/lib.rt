@@ -1,0 +1,70 @@
+// One move to tape, on the parts of a session: the rules are asked in the order of `toTape`, and the first that applies decides.
+ghost use mathlib.Core.Path.{_≡_};
+ghost use mathlib.Core.Bool.{false};
+ghost use Rattle.cartridge.specs.Step.{Told};
+ghost use Rattle.session.specs.Relation.{moverWrong};
+ghost use Rattle.moves.specs.Moves.{ending, scant, filling, toTape};
+ghost use Rattle.to_tape.specs.Fillable.{Fillable};
+use moves::Move;
+use session::types::Data;
+use session::types::Mover;
+use session::types::Tape;
+
+// The stream has come to its end.
+fn is_ending(last: bool, n: usize) -> bool
+    ensures { λ r. ⌜ r ≡ ending last n ⌝ }
+{
+    if last {
+        return n == 0;
+    }
+    false
+}
+
+// The stream part is less than a record, and more is to come.
+fn is_scant(last: bool, n: usize, size: usize) -> bool
+    ensures { λ r. ⌜ r ≡ scant last n size ⌝ }
+{
+    if last {
+        return false;
+    }
+    n < size
+}
+
+// Rules (4) to (7), with the tape at a position of a sound image.
+fn fill_tape(d: Data, m: Mover, t: Tape, image: &mut [u8], stream: &[u8], last: bool) -> Move
+    requires { ⌜ Fillable m (now image) (t .position) ⌝ }
+    ensures { λ r. ⌜ Told (filling d m t (now (image .entry)) (now (stream .entry)) last) r (now (image .exit)) ⌝ }
+{
+    let end = m.offset + m.length;
+    let size = m.size as usize;
+    let part = cartridge::lesser(stream.len(), size);
+    if m.moved == end {
+        return moves::pause_at(5, d, m, t);
+    }
+    if is_scant(last, stream.len(), size) {
+        return moves::no_move(d, m, t);
+    }
+    if !writing::write_filled(image, t.position, &stream[..part], size) {
+        return moves::pause_at(1, d, m, t);
+    }
+    moves::take_record(part, d, m, t)
+}
+
+// One move to tape.
+pub fn to_tape(d: Data, m: Mover, t: Tape, image: &mut [u8], stream: &[u8], last: bool) -> Move
+    requires { ⌜ moverWrong m t ≡ false ⌝ }
+    ensures { λ r. ⌜ Told (toTape d m t (now (image .entry)) (now (stream .entry)) last) r (now (image .exit)) ⌝ }
+{
+    if moves::is_idle(0, 1, d, m) {
+        return moves::no_move(d, m, t);
+    }
+    let faulty = image::is_faulty(image, t.position);
+    let ends = is_ending(last, stream.len());
+    if faulty {
+        return moves::halt_both(4, 5, d, m, t);
+    }
+    if ends {
+        return moves::halt_both(1, 1, d, m, t);
+    }
+    fill_tape(d, m, t, image, stream, last)
+}
