@@ -239,7 +239,7 @@ module _ (d : Data) (m : Mover) (t : Tape) (l s : List ℕ) (k : PartsKept d m t
       let z = facts d m t k .sizes in
       sound-holds _ (written-sound l (t .position) _ (placed l (t .position) f) (omega arith) (room-facts l (t .position) _ (rw e r)))
 
-  writes-to : (last : Bool) → idle 0 1 d m ≡ false → faulty l (t .position) ≡ false → ending last (length s) ≡ false → eqb (m .moved) (m .offset + m .length) ≡ false
+  writes-to : (last : Bool) → idle 0 1 d m ≡ false → faulty l (t .position) ≡ false → ending last (length s) ≡ false → (m .moved ≡ m .offset + m .length → ⊥)
       → scant last (length s) (m .size) ≡ false → roomFor l (t .position) (m .size) ≡ true → ToTurn d m t l s (writing d m t l s)
   unfolding imageAfter
   writes-to last i f z w c r =
@@ -250,7 +250,7 @@ module _ (d : Data) (m : Mover) (t : Tape) (l s : List ℕ) (k : PartsKept d m t
       let some : 1 ≤ n = some-taken last (length s) (m .size) z c (u .some) in
       let part : n ≤ m .size = least-right (length s) (m .size) in
       let v = h .window (h .hold (active-holds (m .state) (g .active)) .window) in
-      let room : m .moved + m .size ≤ m .offset + m .length = one-more (m .size) (m .offset) (m .length) (m .moved) v u (eqb-false _ _ w) in
+      let room : m .moved + m .size ≤ m .offset + m .length = one-more (m .size) (m .offset) (m .length) (m .moved) v u w in
       record {
         turn = takes-turn g n some part room;
         image = rw (shown-moved m (Wrote (m .size) n) (moverRecords m) n some) refl;
@@ -262,13 +262,13 @@ module _ (d : Data) (m : Mover) (t : Tape) (l s : List ℕ) (k : PartsKept d m t
   unfolding toTape filling
   to-turn last =
       let P = ToTurn d m t l s in
-      by-test P (idle 0 1 d m) _ _ (λ _. still-to)
-      (λ i. by-test P (faulty l (t .position)) _ _ (λ _. halts-to 4 5)
-      (λ f. by-test P (ending last (length s)) _ _ (λ _. halts-to 1 1)
-      (λ z. by-test P (eqb (m .moved) (m .offset + m .length)) _ _ (λ _. pauses-to 5 (runs 0 1 d m i .active))
-      (λ w. by-test P (scant last (length s) (m .size)) _ _ (λ _. still-to)
-      (λ c. by-test P (not (roomFor l (t .position) (m .size))) _ _ (λ _. pauses-to 1 (runs 0 1 d m i .active))
-      (λ r. writes-to last i f z w c (yes r)))))))
+      by-test P _ _ _ (λ _. still-to)
+      (λ i. by-test P _ _ _ (λ _. halts-to 4 5)
+      (λ f. by-test P _ _ _ (λ _. halts-to 1 1)
+      (λ z. by-test P _ _ _ (λ _. pauses-to 5 (runs 0 1 d m i .active))
+      (λ w. by-test P _ _ _ (λ _. still-to)
+      (λ c. by-test P _ _ _ (λ _. pauses-to 1 (runs 0 1 d m i .active))
+      (λ r. writes-to last i f z (isnt w) c (yes r)))))))
 
 -- ---- from tape
 -- the walk passes records only: its target is so many entries after its start, and below the end
@@ -357,8 +357,8 @@ module _ (d : Data) (m : Mover) (t : Tape) (l b : List ℕ) (k : PartsKept d m t
       let f = facts d m t k in
       let w = f .window (f .hold (active-holds (m .state) (g .active)) .window) in
       let a = none-of _ inside in
-      let low : m .offset ≤ m .seek = ltb-false (m .seek) (m .offset) (a .0) in
-      let below : m .seek < m .offset + m .length = ltb-true (m .seek) (m .offset + m .length) (yes (a .1)) in
+      let low : m .offset ≤ m .seek = ltb-false _ _ (a .0) in
+      let below : m .seek < m .offset + m .length = ltb-true _ _ (yes (a .1)) in
       let s1 = w .some in
       let lt : inRecord m < m .size = mod-lt (m .seek - m .offset) {m = m .size} (omega arith) in
       let whole = div-add-mod' (m .seek - m .offset) (m .size) in
@@ -389,11 +389,11 @@ module _ (d : Data) (m : Mover) (t : Tape) (l b : List ℕ) (k : PartsKept d m t
   unfolding fromTape seeking
   from-turn =
       let P = FromTurn d m t l b in
-      by-test P (idle 1 2 d m) _ _ (λ _. still-from)
-      (λ h. by-test P (faulty l (t .position)) _ _ (λ _. halts-from 4 5)
-      (λ _. by-test P (eqb (m .left) 0) _ _ (λ _. still-from)
-      (λ left. by-test P (eqb (length b) 0) _ _ (λ _. still-from)
-      (λ room. by-test P (outside (m .seek) (m .offset) (m .length)) _ _ (λ _. pauses-from t 3 (runs 1 2 d m h .active))
+      by-test P _ _ _ (λ _. still-from)
+      (λ h. by-test P _ _ _ (λ _. halts-from 4 5)
+      (λ _. by-test P _ _ _ (λ _. still-from)
+      (λ left. by-test P _ _ _ (λ _. still-from)
+      (λ room. by-test P _ _ _ (λ _. pauses-from t 3 (runs 1 2 d m h .active))
       (λ inside. found-from (sought m l) h (isnt left) (isnt room) inside refl)))))
 
 -- ---- the method's end: it shows nothing and leaves the register
