@@ -31,7 +31,7 @@ use Rattle.session.proofs.Keeping.{clash, active-holds, halts-kept}
 use Rattle.moves.specs.declared.Move.{Move}
 use Rattle.moves.specs.declared.Found.{Found}
 use Rattle.moves.specs.Moves.{still, pauses, halts, takes, hands, idle, ending, scant, writing, filling, toTape, outside, ordinal, inRecord, walk, amount, Handing, untouched, reading, onFound, sought, seeking, fromTape, methodEnd}
-use Rattle.moves.specs.Sequence.{Seen, Wrote, Handed, Paused, Nothing, Register, partsRegister, after, Fits, WroteInside, HandedInside, moveShown, imageAfter, destAfter, countOf}
+use Rattle.moves.specs.Sequence.{Seen, Wrote, Handed, Paused, Nothing, Register, partsRegister, after, Fits, WroteInside, HandedInside, moveShown, imageAfter, soughtEntry, destAfter, countOf}
 
 -- the relation, on the parts that a move may change
 pub record PartsKept (d : Data) (m : Mover) (t : Tape) : Type 0 where
@@ -162,13 +162,14 @@ some-taken false n size e f h = let z : size ≤ n = ltb-false n size f in least
 pub record ToTurn (d : Data) (m : Mover) (t : Tape) (l s : List ℕ) (st : Step Move) : Type 0 where
   pub turn : Turn d m (λ n. Wrote (m .size) n) (st .gives)
   pub image : st .image ≡ imageAfter (moveShown m (st .gives .mover) (st .gives .count) (Wrote (m .size) (st .gives .count))) l (t .position) s
+  pub there : st .gives .count ≤ length s
   pub kept : PartsKept (st .gives .source) (st .gives .mover) (st .gives .tape)
   pub sound : isSound l ≡ true → isSound (st .image) ≡ true
 
 module _ (d : Data) (m : Mover) (t : Tape) (l s : List ℕ) (k : PartsKept d m t) where
   still-to : ToTurn d m t l s (keeping l (still d m t))
   unfolding imageAfter
-  still-to = record { turn = still-turn d m _ t; image = rw (shown-still m (Wrote (m .size) 0)) refl; kept = k; sound = λ h. h }
+  still-to = record { turn = still-turn d m _ t; image = rw (shown-still m (Wrote (m .size) 0)) refl; there = omega arith; kept = k; sound = λ h. h }
 
   halts-to : (dwhy mwhy : ℕ) → ToTurn d m t l s (keeping l (halts dwhy mwhy d m t))
   unfolding imageAfter
@@ -176,6 +177,7 @@ module _ (d : Data) (m : Mover) (t : Tape) (l s : List ℕ) (k : PartsKept d m t
       record {
         turn = halts-turn d m _ t dwhy mwhy;
         image = rw (shown-halt m (Wrote (m .size) 0) (moverHalts mwhy m) refl) refl;
+        there = omega arith;
         kept = halts-keep d m t k dwhy mwhy;
         sound = λ h. h;
       }
@@ -186,6 +188,7 @@ module _ (d : Data) (m : Mover) (t : Tape) (l s : List ℕ) (k : PartsKept d m t
       record {
         turn = pauses-turn d m _ t why e;
         image = rw (shown-pause m (Wrote (m .size) 0) why e) refl;
+        there = omega arith;
         kept = pauses-keep d m t k t why e;
         sound = λ h. h;
       }
@@ -254,6 +257,7 @@ module _ (d : Data) (m : Mover) (t : Tape) (l s : List ℕ) (k : PartsKept d m t
       record {
         turn = takes-turn g n some part room;
         image = rw (shown-moved m (Wrote (m .size) n) (moverRecords m) n some) refl;
+        there = least-left (length s) (m .size);
         kept = takes-keep g n some part room;
         sound = λ _. writes-sound f r;
       }
@@ -298,25 +302,27 @@ record-inside s q w n e h lt =
 pub record FromTurn (d : Data) (m : Mover) (t : Tape) (l b : List ℕ) (st : Handing) : Type 0 where
   pub turn : Turn d m (λ n. Handed (m .seek) n) (st .move)
   pub dest-end : st .dest ≡ destAfter (moveShown m (st .move .mover) (st .move .count) (Handed (m .seek) (st .move .count))) (partsRegister d m) (m .origin) l b
+  pub room : st .move .count ≤ length b
+  pub exact : (st .move .count ≡ 0 → ⊥) → entryLen l (soughtEntry m) ≡ m .size
   pub kept : PartsKept (st .move .source) (st .move .mover) (st .move .tape)
 
 module _ (d : Data) (m : Mover) (t : Tape) (l b : List ℕ) (k : PartsKept d m t) where
   still-from : FromTurn d m t l b (untouched b (still d m t))
   unfolding destAfter
-  still-from = record { turn = still-turn d m _ t; dest-end = rw (shown-still m (Handed (m .seek) 0)) refl; kept = k }
+  still-from = record { turn = still-turn d m _ t; dest-end = rw (shown-still m (Handed (m .seek) 0)) refl; room = omega arith; exact = λ z. absurd (z refl); kept = k }
 
   halts-from : (dwhy mwhy : ℕ) → FromTurn d m t l b (untouched b (halts dwhy mwhy d m t))
   unfolding destAfter
   halts-from dwhy mwhy =
-      record { turn = halts-turn d m _ t dwhy mwhy; dest-end = rw (shown-halt m (Handed (m .seek) 0) (moverHalts mwhy m) refl) refl; kept = halts-keep d m t k dwhy mwhy }
+      record { turn = halts-turn d m _ t dwhy mwhy; dest-end = rw (shown-halt m (Handed (m .seek) 0) (moverHalts mwhy m) refl) refl; room = omega arith; exact = λ z. absurd (z refl); kept = halts-keep d m t k dwhy mwhy }
 
   pauses-from : (u : Tape) (why : ℕ) → m .state ≡ 2 → FromTurn d m t l b (untouched b (pauses why d m u))
   unfolding destAfter
   pauses-from u why e =
-      record { turn = pauses-turn d m _ u why e; dest-end = rw (shown-pause m (Handed (m .seek) 0) why e) refl; kept = pauses-keep d m t k u why e }
+      record { turn = pauses-turn d m _ u why e; dest-end = rw (shown-pause m (Handed (m .seek) 0) why e) refl; room = omega arith; exact = λ z. absurd (z refl); kept = pauses-keep d m t k u why e }
 
   module _ (r : Runs 1 2 d m) (n i : ℕ) (some : 1 ≤ n) (asked : n ≤ m .left) (low : m .offset ≤ m .seek) (high : m .seek + n ≤ m .offset + m .length)
-      (at : i ≡ m .origin + ordinal m) where
+      (part : inRecord m + n ≤ m .size) (at : i ≡ m .origin + ordinal m) where
     hands-held : Held m t
     hands-held = facts d m t k .hold (active-holds (m .state) (r .active))
 
@@ -324,7 +330,7 @@ module _ (d : Data) (m : Mover) (t : Tape) (l b : List ℕ) (k : PartsKept d m t
     unfolding after countOf
     hands-turn =
         turn-by d m _ (hands n i d m t) (Handed (m .seek) n) (shown-moved m (Handed (m .seek) n) (moverHands n m) n some)
-        (record { window = hands-held .window; some = some; from = low; to = high }) refl refl
+        (record { window = hands-held .window; some = some; part = part; from = low; to = high }) refl refl
 
     hands-kept : MoverKept (moverHands n m) (movedTo (i + 1) t)
     hands-kept =
@@ -371,11 +377,14 @@ module _ (d : Data) (m : Mover) (t : Tape) (l b : List ℕ) (k : PartsKept d m t
       let n3 : inner ≤ m .size - inRecord m = least-right (m .left) (m .size - inRecord m) in
       let n4 : n ≤ m .left = omega arith in
       let high : m .seek + n ≤ m .offset + m .length = omega arith in
+      let part : inRecord m + n ≤ m .size = omega arith in
       by-test (FromTurn d m t l b) (not (eqb (entryLen l i) (m .size))) _ _ (λ _. halts-from 4 5)
-      (λ _. record {
-        turn = hands-turn g n i some n4 low high at;
+      (λ e. record {
+        turn = hands-turn g n i some n4 low high part at;
         dest-end = rw (shown-moved m (Handed (m .seek) n) (moverHands n m) n some, at) refl;
-        kept = hands-keep g n i some n4 low high at;
+        room = least-right inner (length b);
+        exact = λ _. ap (entryLen l) (sym at) ∙ is e;
+        kept = hands-keep g n i some n4 low high part at;
       })
 
   found-from : (f : Found) → idle 1 2 d m ≡ false → (m .left ≡ 0 → ⊥) → (length b ≡ 0 → ⊥) → outside (m .seek) (m .offset) (m .length) ≡ false → sought m l ≡ f

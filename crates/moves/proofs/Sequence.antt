@@ -1,13 +1,14 @@
 -- What holds over any sequence of calls. Assumes nothing.
-use Prim.Native.Nat.{ℕ}
+use Prim.Native.Nat.{ℕ, _≤_}
 use mathlib.Core.Bool.{Bool, true, false, not}
 use mathlib.Core.List.{List, [], _∷_}
 use mathlib.Core.Path.{_≡_, refl, sym, ap, _∙_}
 use native.Mathlib.Omega.{arith}
+use lib.ListN.{length}
 use lib.Dec.{eqb, ltb}
 use Rattle.xdr.specs.Choose.{choose}
 use Rattle.xdr.proofs.Tests.{by-test}
-use Rattle.image.specs.Image.{isSound}
+use Rattle.image.specs.Image.{isSound, entryLen}
 use Rattle.cartridge.specs.Step.{Step}
 use Rattle.replies.specs.declared.Notice.{Notice}
 use Rattle.session.specs.declared.types.Session.{Session}
@@ -22,7 +23,7 @@ use Rattle.session.proofs.Calls.{calls-keep}
 use Rattle.moves.specs.declared.Move.{Move}
 use Rattle.moves.specs.Moves.{Handing, toTape, fromTape, methodEnd}
 use Rattle.moves.specs.Events.{Moving, idling, announced, moved, guarded, movedToTape, movedFromTape, methodEnded}
-use Rattle.moves.specs.Sequence.{World, Event, Asked, ToTape, FromTape, Ended, Loaded, next, runs, Seen, Wrote, Handed, Nothing, Register, partsRegister, registerOf, after, Fits, Legitimate, moveShown, seen, imageAfter, destAfter, countOf, ToTapeLeaves, FromTapeLeaves, Leaves, At, Inside, done, more, WindowHolds}
+use Rattle.moves.specs.Sequence.{World, Event, Asked, ToTape, FromTape, Ended, Loaded, next, runs, Seen, Wrote, Handed, Nothing, Register, partsRegister, registerOf, after, Fits, Legitimate, moveShown, seen, imageAfter, soughtEntry, destAfter, countOf, ToTapeLeaves, FromTapeLeaves, Leaves, At, Inside, done, more, WindowHolds}
 use Rattle.moves.specs.Keeping.{Idle, Guards, Sounds, MovesKeep}
 use Rattle.moves.proofs.Asking.{asked-register, asked-fits}
 use Rattle.moves.proofs.Moving.{PartsKept, shown-still, Turn, ToTurn, to-turn, FromTurn, from-turn, EndTurn, end-turn}
@@ -90,6 +91,7 @@ record ToCall (s : Session) (image stream : List ℕ) (e : Moving) : Type 0 wher
   register : registerOf (e .answer .next) ≡ after (registerOf s) (moveShown (s .mover) (e .answer .next .mover) (e .count) (Wrote (s .mover .size) (e .count)))
   image-end : e .answer .image ≡ imageAfter (moveShown (s .mover) (e .answer .next .mover) (e .count) (Wrote (s .mover .size) (e .count))) image (s .tape .position) stream
   taken : e .count ≡ countOf (moveShown (s .mover) (e .answer .next .mover) (e .count) (Wrote (s .mover .size) (e .count)))
+  there : e .count ≤ length stream
   kept : keeps (e .answer .next) ≡ true
   sound : isSound image ≡ true → isSound (e .answer .image) ≡ true
 
@@ -105,7 +107,7 @@ module _ (s : Session) (image stream : List ℕ) (h : keeps s ≡ true) where
   unfolding after imageAfter countOf
   to-idle code =
       let e = shown-still (s .mover) (Wrote (s .mover .size) 0) in
-      record { fits = rw e tt; register = rw e refl; image-end = rw e refl; taken = rw e refl; kept = h; sound = λ k. k }
+      record { fits = rw e tt; register = rw e refl; image-end = rw e refl; taken = rw e refl; there = omega arith; kept = h; sound = λ k. k }
 
   to-moved : (st : Step Move) (a : Answered) → Carries (st .gives) (st .image) a → ToTurn (s .source) (s .mover) (s .tape) image stream st
       → ToCall s image stream (record { answer = a; count = st .gives .count; dest = [] })
@@ -115,6 +117,7 @@ module _ (s : Session) (image stream : List ℕ) (h : keeps s ≡ true) where
         register = rw (c .source, c .mover) (t .turn .register);
         image-end = rw (c .mover) (c .image-end ∙ t .image);
         taken = rw (c .mover) (t .turn .taken);
+        there = t .there;
         kept = carried-kept (st .gives) (st .image) a c (t .kept);
         sound = λ k. rw (c .image-end) (t .sound k);
       }
@@ -132,6 +135,8 @@ record FromCall (s : Session) (image dest : List ℕ) (e : Moving) : Type 0 wher
   register : registerOf (e .answer .next) ≡ after (registerOf s) (moveShown (s .mover) (e .answer .next .mover) (e .count) (Handed (s .mover .seek) (e .count)))
   dest-end : e .dest ≡ destAfter (moveShown (s .mover) (e .answer .next .mover) (e .count) (Handed (s .mover .seek) (e .count))) (registerOf s) (s .mover .origin) image dest
   given : e .count ≡ countOf (moveShown (s .mover) (e .answer .next .mover) (e .count) (Handed (s .mover .seek) (e .count)))
+  room : e .count ≤ length dest
+  exact : (e .count ≡ 0 → ⊥) → entryLen image (soughtEntry (s .mover)) ≡ s .mover .size
   kept : keeps (e .answer .next) ≡ true
 
 module _ (s : Session) (image dest : List ℕ) (h : keeps s ≡ true) where
@@ -139,7 +144,7 @@ module _ (s : Session) (image dest : List ℕ) (h : keeps s ≡ true) where
   unfolding after destAfter countOf
   from-idle code =
       let e = shown-still (s .mover) (Handed (s .mover .seek) 0) in
-      record { fits = rw e tt; register = rw e refl; dest-end = rw e refl; given = rw e refl; kept = h }
+      record { fits = rw e tt; register = rw e refl; dest-end = rw e refl; given = rw e refl; room = omega arith; exact = λ z. absurd (z refl); kept = h }
 
   from-moved : (st : Handing) (a : Answered) → Carries (st .move) image a → FromTurn (s .source) (s .mover) (s .tape) image dest st
       → FromCall s image dest (record { answer = a; count = st .move .count; dest = st .dest })
@@ -149,6 +154,8 @@ module _ (s : Session) (image dest : List ℕ) (h : keeps s ≡ true) where
         register = rw (c .source, c .mover) (t .turn .register);
         dest-end = rw (c .mover) (t .dest-end);
         given = rw (c .mover) (t .turn .taken);
+        room = t .room;
+        exact = t .exact;
         kept = carried-kept (st .move) image a c (t .kept);
       }
 
@@ -193,10 +200,10 @@ goes w h (Asked c) =
     }
 goes w h (ToTape stream last time room) =
     let t = to-call (w .session) (w .image) stream h last time room in
-    record { fits = t .fits; register = t .register; leaves = record { image = t .image-end; taken = t .taken }; kept = t .kept; sound = λ k _. t .sound k }
+    record { fits = t .fits; register = t .register; leaves = record { image = t .image-end; taken = t .taken; there = t .there }; kept = t .kept; sound = λ k _. t .sound k }
 goes w h (FromTape dest time room) =
     let t = from-call (w .session) (w .image) dest h time room in
-    record { fits = t .fits; register = t .register; leaves = record { dest-end = t .dest-end; given = t .given }; kept = t .kept; sound = λ k _. k }
+    record { fits = t .fits; register = t .register; leaves = record { dest-end = t .dest-end; given = t .given; room = t .room; exact = t .exact }; kept = t .kept; sound = λ k _. k }
 goes w h (Ended ok time room) =
     let t = end-call (w .session) h ok time room in
     record { fits = tt; register = t .register; leaves = tt; kept = t .kept; sound = λ k _. k }

@@ -9,7 +9,7 @@ use lib.ListN.{length, take, drop}
 use lib.Dec.{eqb, ltb}
 use Rattle.xdr.specs.Choose.{choose}
 use Rattle.xdr.specs.Xdr.{overlay}
-use Rattle.image.specs.Image.{isSound, entryBytes}
+use Rattle.image.specs.Image.{entryLen, entryBytes}
 use Rattle.writing.specs.Writing.{written, fillTo}
 use Rattle.frame.specs.Frame.{wellFramed, kindOf, bodyOf}
 use Rattle.frame.specs.declared.Message.{Message}
@@ -191,9 +191,11 @@ pub record WroteInside (r : Register) (n k : ℕ) : Type 0 where
   pub from : r .offset ≤ r .moved
   pub to : r .moved + n ≤ r .offset + r .length
 
+-- Bytes are handed over: there is a window, they lie in it, and in one of its records.
 pub record HandedInside (r : Register) (a k : ℕ) : Type 0 where
   pub window : r .length ≡ 0 → ⊥
   pub some : 1 ≤ k
+  pub part : (a - r .offset) % r .size + k ≤ r .size
   pub from : r .offset ≤ a
   pub to : a + k ≤ r .offset + r .length
 
@@ -222,6 +224,10 @@ imageAfter DataStopped l position stream = l
 imageAfter Paused l position stream = l
 imageAfter Nothing l position stream = l
 
+-- the entry that the seek position is in: so many records after the one at the origin
+abbrev pub soughtEntry : Mover → ℕ
+soughtEntry m = m .origin + (m .seek - m .offset) / m .size
+
 -- the byte at position a of the stream is in the record (a - offset) / size after the one at the origin, at (a - offset) % size
 unfoldable pub destAfter : Seen → Register → ℕ → List ℕ → List ℕ → List ℕ
 destAfter (Handed a k) r origin l b = overlay 0 (take k (drop ((a - r .offset) % r .size) (entryBytes l (origin + (a - r .offset) / r .size)))) b
@@ -246,10 +252,14 @@ countOf Nothing = 0
 pub record ToTapeLeaves (w : World) (x : Seen) (stream image′ : List ℕ) (count : ℕ) : Type 0 where
   pub image : image′ ≡ imageAfter x (w .image) (w .session .tape .position) stream
   pub taken : count ≡ countOf x
+  pub there : count ≤ length stream
 
 pub record FromTapeLeaves (w : World) (x : Seen) (dest dest′ : List ℕ) (count : ℕ) : Type 0 where
   pub dest-end : dest′ ≡ destAfter x (registerOf (w .session)) (w .session .mover .origin) (w .image) dest
   pub given : count ≡ countOf x
+  pub room : count ≤ length dest
+  -- what is handed over is of a record that has the record size
+  pub exact : (count ≡ 0 → ⊥) → entryLen (w .image) (soughtEntry (w .session .mover)) ≡ w .session .mover .size
 
 abbrev pub Leaves : World → Event → Type 0
 Leaves w (ToTape stream last time room) =
