@@ -7,7 +7,7 @@ ghost use Rattle.cartridge.specs.Operations.{least};
 ghost use Rattle.session.specs.Judge.{first};
 ghost use Rattle.session.specs.Telling.{Told};
 ghost use Rattle.session.specs.DataService.{textOf, TextIn};
-ghost use Rattle.session.specs.ScsiService.{changer0, scsiOpenTests, scsiOpen, scsiClose, scsiState, scsiReset, cdbTests, senseLength, runCdb, scsiCdb, scsiStep, ScsiTexts};
+ghost use Rattle.session.specs.ScsiService.{changer0, scsiOpenTests, scsiOpen, scsiClear, scsiState, cdbTests, senseLength, runCdb, scsiCdb, scsiStep, ScsiTexts};
 use replies::Reply;
 use requests::ScsiRequest;
 use requests::Text;
@@ -72,8 +72,9 @@ fn open_changer(known: bool, c: Changer, named: bool) -> ScsiDone
     }
 }
 
-fn close_changer(known: bool, c: Changer) -> ScsiDone
-    ensures { λ r. ⌜ Told (scsiClose known c) (r .reply) (r .next) ⌝ }
+// Clears the pending sense: close, and reset, which leaves the changer open.
+fn clear(known: bool, c: Changer, opened: bool) -> ScsiDone
+    ensures { λ r. ⌜ Told (scsiClear known c opened) (r .reply) (r .next) ⌝ }
 {
     let e = tape_service::device_error(known, c.opened);
     if e != 0 {
@@ -83,7 +84,7 @@ fn close_changer(known: bool, c: Changer) -> ScsiDone
         };
     }
     let next = Changer {
-        opened: false,
+        opened,
         pending: false,
     };
     ScsiDone {
@@ -99,26 +100,6 @@ fn get_state(known: bool, c: Changer) -> ScsiDone
     ScsiDone {
         reply: Reply::ScsiState(e),
         next: c,
-    }
-}
-
-fn reset(known: bool, c: Changer) -> ScsiDone
-    ensures { λ r. ⌜ Told (scsiReset known c) (r .reply) (r .next) ⌝ }
-{
-    let e = tape_service::device_error(known, c.opened);
-    if e != 0 {
-        return ScsiDone {
-            reply: Reply::Plain(e),
-            next: c,
-        };
-    }
-    let next = Changer {
-        opened: true,
-        pending: false,
-    };
-    ScsiDone {
-        reply: Reply::Plain(0),
-        next,
     }
 }
 
@@ -205,9 +186,9 @@ pub fn serve(known: bool, c: Changer, q: ScsiRequest, body: &[u8]) -> ScsiDone
             let named = is_changer(body, name);
             open_changer(known, c, named)
         }
-        ScsiRequest::Close => close_changer(known, c),
+        ScsiRequest::Close => clear(known, c, false),
         ScsiRequest::State => get_state(known, c),
-        ScsiRequest::Reset => reset(known, c),
+        ScsiRequest::Reset => clear(known, c, true),
         ScsiRequest::Cdb(cdb, room) => {
             let start = cdb.start;
             let end = start + cdb.len;

@@ -35,7 +35,7 @@ use Rattle.session.specs.Parts.{restMover, moverPauses}
 use Rattle.session.specs.DataService.{dataState, dataListen, dataStart, dataStop, dataStep, textOf}
 use Rattle.session.specs.MoverService.{moverState, moverListen, moverContinue, moverStop, setWindow, moverRead, setSize, moverStep}
 use Rattle.session.specs.TapeService.{Loaded, loaded, movedTo, tapeTests, protects, tapeOpen, tapeClose, tapeState, tapeMtio, tapeWrite, tapeRead, deviceStep, TapePart, tapeStep}
-use Rattle.session.specs.ScsiService.{scsiOpen, scsiClose, scsiState, scsiReset, cdbTests, runCdb, scsiCdb, scsiStep}
+use Rattle.session.specs.ScsiService.{scsiOpen, scsiClear, scsiState, cdbTests, runCdb, scsiCdb, scsiStep}
 use Rattle.session.specs.Joint.{ends, dataConnect, moverConnect, dataAbort, moverAbort, moverClose, jointStep}
 use Rattle.session.specs.Promises.{RelationKept, WindowRules, RefusalsLeave, Promises}
 use Rattle.session.proofs.Kept.{mover-kept}
@@ -93,7 +93,7 @@ run-left c cdb room =
     (λ _. by-test (ScsiLeft c) (eqb (getD cdb 0 0) 3) _ _ (λ _ h. absurd (h refl)) (λ _ h. absurd (h refl)))
 
 scsi-left : (known : Bool) (c : Changer) (q : ScsiRequest) (body : List ℕ) → ScsiLeft c (scsiStep known c q body)
-unfolding scsiStep scsiOpen scsiClose scsiState scsiReset scsiCdb numberOf ScsiLeft
+unfolding scsiStep scsiOpen scsiClear scsiState scsiCdb numberOf ScsiLeft
 scsi-left known c (ScsiRequest.Open name) body = λ h. left _ _ _ h
 scsi-left known c ScsiRequest.Close body = λ h. left _ _ _ h
 scsi-left known c ScsiRequest.State body = λ h. left _ _ _ h

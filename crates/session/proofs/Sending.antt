@@ -36,7 +36,7 @@ use Rattle.session.specs.Judge.{first, Served}
 use Rattle.session.specs.DataService.{textOf, dataState, dataListen, dataStart, dataStop, dataStep}
 use Rattle.session.specs.MoverService.{moverState, moverListen, moverContinue, moverStop, setWindow, moverRead, setSize, moverStep}
 use Rattle.session.specs.TapeService.{Loaded, openTests, tapeTests, tapeOpen, tapeClose, tapeState, tapeMtio, protects, tapeWrite, tapeRead, deviceStep, TapePart, tapeStep, moverPartStep}
-use Rattle.session.specs.ScsiService.{scsiOpen, scsiClose, scsiState, scsiReset, cdbTests, senseLength, runCdb, scsiCdb, scsiStep}
+use Rattle.session.specs.ScsiService.{scsiOpen, scsiClear, scsiState, cdbTests, senseLength, runCdb, scsiCdb, scsiStep}
 use Rattle.session.specs.Joint.{dataConnect, moverConnect, dataAbort, moverAbort, moverClose, jointStep}
 use Rattle.session.specs.Connection.{connectOpen, clientAuth, configReply}
 use Rattle.session.specs.Answer.{Account, onData, onTape, onMover, onScsi, onJoint, onConnect, onConfig, dataOn, tapeOn, scsiOn, jointOn, controlOn}
@@ -76,7 +76,7 @@ joint-step-sendable known d m t JointRequest.MoverClose image = tt
 joint-step-sendable known d m t (JointRequest.MoverConnect mode address) image = tt
 
 pub scsi-step-sendable : (known : Bool) (c : Changer) (q : ScsiRequest) (body image : List ℕ) → Sendable (scsiStep known c q body .reply) image
-unfolding scsiStep scsiOpen scsiClose scsiState scsiReset scsiCdb runCdb Sendable
+unfolding scsiStep scsiOpen scsiClear scsiState scsiCdb runCdb Sendable
 scsi-step-sendable known c (ScsiRequest.Open name) body image = tt
 scsi-step-sendable known c ScsiRequest.Close body image = tt
 scsi-step-sendable known c ScsiRequest.State body image = tt

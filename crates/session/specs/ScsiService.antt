@@ -14,7 +14,6 @@ use Rattle.replies.specs.declared.Reply.{Reply}
 use Rattle.replies.specs.declared.Reply.the-variants as Reply
 use Rattle.session.specs.declared.types.Changer.{Changer}
 use Rattle.session.specs.Judge.{Test, test, first, Served, served}
-use Rattle.session.specs.Parts.{closedChanger}
 use Rattle.session.specs.DataService.{textOf, TextIn}
 use Rattle.session.specs.TapeService.{openTests}
 
@@ -22,32 +21,28 @@ use Rattle.session.specs.TapeService.{openTests}
 unfoldable pub changer0 : List ℕ
 changer0 = 0x63 ∷ 0x68 ∷ 0x61 ∷ 0x6E ∷ 0x67 ∷ 0x65 ∷ 0x72 ∷ 0x30 ∷ []
 
-abbrev pub openChanger : Bool → Changer
-openChanger pending = record { opened = true; pending = pending }
+-- a changer with no sense pending
+abbrev pub clearedChanger : Bool → Changer
+clearedChanger opened = record { opened = opened; pending = false }
 
--- "Open, close and reset clear it": the pending sense
 abbrev pub scsiOpenTests : Bool → Bool → Bool → List Test
 scsiOpenTests known named opened = test (not known) 4 ∷ test (not named) 16 ∷ test opened 3 ∷ []
 
 unfoldable pub scsiOpen : Bool → Changer → Bool → Served Changer
 scsiOpen known c named =
     let e = first (scsiOpenTests known named (c .opened)) in
-    served e (Reply.Plain e) (openChanger false) c
+    served e (Reply.Plain e) (clearedChanger true) c
 
-unfoldable pub scsiClose : Bool → Changer → Served Changer
-scsiClose known c =
+-- "Open, close and reset clear it": close and reset. Reset leaves the device open
+unfoldable pub scsiClear : Bool → Changer → Bool → Served Changer
+scsiClear known c opened =
     let e = first (openTests known (c .opened)) in
-    served e (Reply.Plain e) closedChanger c
+    served e (Reply.Plain e) (clearedChanger opened) c
 
 unfoldable pub scsiState : Bool → Changer → Served Changer
 scsiState known c =
     let e = first (openTests known (c .opened)) in
     served e (Reply.ScsiState e) c c
-
-unfoldable pub scsiReset : Bool → Changer → Served Changer
-scsiReset known c =
-    let e = first (openTests known (c .opened)) in
-    served e (Reply.Plain e) (openChanger false) c
 
 -- "CDB length 0 or above 16: 9."
 abbrev pub cdbTests : Bool → Bool → ℕ → List Test
@@ -73,9 +68,9 @@ scsiCdb known c cdb room =
 -- the SCSI step
 unfoldable pub scsiStep : Bool → Changer → ScsiRequest → List ℕ → Served Changer
 scsiStep known c (Open name) body = scsiOpen known c (sameBytes (textOf body name) changer0)
-scsiStep known c Close body = scsiClose known c
+scsiStep known c Close body = scsiClear known c false
 scsiStep known c State body = scsiState known c
-scsiStep known c Reset body = scsiReset known c
+scsiStep known c Reset body = scsiClear known c true
 scsiStep known c (Cdb cdb room) body = scsiCdb known c (textOf body cdb) room
 
 -- the text of a request lies in its body

@@ -6,12 +6,11 @@ use Rattle.scsi_service.proofs.serve.Statement.{statement}
 use Rattle.scsi_service.proofs.serve.Tie as tie
 use Rattle.scsi_service.proofs.serve.Reads as reads
 use Rattle.scsi_service.proofs.serve.Lts as lts
-use Rattle.scsi_service.proofs.close_changer.Reads as close-changer-reads
+use Rattle.scsi_service.proofs.clear.Reads as clear-reads
 use Rattle.scsi_service.proofs.execute_cdb.Reads as execute-cdb-reads
 use Rattle.scsi_service.proofs.get_state.Reads as get-state-reads
 use Rattle.scsi_service.proofs.is_changer.Reads as is-changer-reads
 use Rattle.scsi_service.proofs.open_changer.Reads as open-changer-reads
-use Rattle.scsi_service.proofs.reset.Reads as reset-reads
 
 enum-known-q : tie.Need-enum-known-q
 enum-known-q c = search needs
@@ -26,8 +25,8 @@ open-changer-requires c κs = search needs
 enum-told : tie.Need-enum-told
 enum-told c = search needs
 
-close-changer-requires : tie.Need-close-changer-requires
-close-changer-requires c κs = search needs
+clear-requires : tie.Need-clear-requires
+clear-requires c κs = search needs
 
 enum-told-2 : tie.Need-enum-told-2
 enum-told-2 c = search needs
@@ -38,8 +37,8 @@ get-state-requires c κs = search needs
 enum-told-3 : tie.Need-enum-told-3
 enum-told-3 c = search needs
 
-reset-requires : tie.Need-reset-requires
-reset-requires c κs = search needs
+clear-requires-2 : tie.Need-clear-requires-2
+clear-requires-2 c κs = search needs
 
 enum-known-q-2 : tie.Need-enum-known-q-2
 enum-known-q-2 c = search needs
@@ -67,7 +66,7 @@ returns c = rw (c .before .before .before .q .given .1, ← (c .before .is-chang
 
 returns-2 : tie.Need-returns-2
 unfolding scsiStep
-returns-2 c = rw (c .before .enum-told .given .1) (c .close-changer .ensures)
+returns-2 c = rw (c .before .enum-told .given .1) (c .clear .ensures)
 
 returns-3 : tie.Need-returns-3
 unfolding scsiStep
@@ -75,7 +74,7 @@ returns-3 c = rw (c .before .enum-told2 .given .1) (c .get-state .ensures)
 
 returns-4 : tie.Need-returns-4
 unfolding scsiStep
-returns-4 c = rw (c .before .enum-told3 .given .1) (c .reset .ensures)
+returns-4 c = rw (c .before .enum-told3 .given .1) (c .clear2 .ensures)
 
 returns-5 : tie.Need-returns-5
 unfolding scsiStep
@@ -89,11 +88,11 @@ serve-spec =
     is-changer-requires
     open-changer-requires
     enum-told
-    close-changer-requires
+    clear-requires
     enum-told-2
     get-state-requires
     enum-told-3
-    reset-requires
+    clear-requires-2
     enum-known-q-2
     add-end
     sub-execute-cdb
