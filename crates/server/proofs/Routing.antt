@@ -32,10 +32,8 @@ use Rattle.requests.specs.declared.ConnectRequest.the-variants as ConnectReques
 use Rattle.requests.specs.declared.ConfigRequest.{ConfigRequest}
 use Rattle.requests.proofs.Within.{texts-within}
 use Rattle.xdr.specs.Choose.{choose}
-use Rattle.replies.specs.Replies.{replyBytes, shapeOf}
 use Rattle.replies.specs.declared.Reply.{Reply}
 use Rattle.replies.specs.declared.Reply.the-variants as Reply
-use Rattle.replies.specs.declared.Notice.the-variants as Notice
 use Rattle.replies.specs.Fit.{Sendable}
 use Rattle.session.specs.declared.types.Data.{Data}
 use Rattle.session.specs.declared.types.Mover.{Mover}
@@ -48,15 +46,23 @@ use Rattle.session.specs.DataService.{TextIn, DataTexts}
 use Rattle.session.specs.MoverService.{moverStep}
 use Rattle.session.specs.TapeService.{Loaded, loaded, TapeTexts, deviceStep, TapePart, tapeStep, moverPartStep}
 use Rattle.session.specs.ScsiService.{ScsiTexts}
-use Rattle.session.specs.Joint.{Ends, ends}
+use Rattle.session.specs.Joint.{ends}
 use Rattle.session.specs.Connection.{connectOpen, clientAuth, configReply}
-use Rattle.session.specs.Answer.{Service, DataService, TapeService, ScsiService, JointService, ControlService, Account, messageIn, serviceOf, routeOf, handled, isClose, closes, closing, onConnect, onConfig, controlOn, byControl, tapePart, withParts, replying, noticed, onData, onTape, onMover, onScsi, onJoint, dataOn, tapeOn, scsiOn, jointOn, byData, byTape, byScsi, byJoint}
+use Rattle.session.specs.Answer.{Answered, Service, DataService, TapeService, ScsiService, JointService, ControlService, Account, messageIn, serviceOf, routeOf, handled, isClose, closes, closing, onConnect, onConfig, controlOn, byControl, tapePart, replying, onData, onTape, onMover, onScsi, onJoint, dataOn, tapeOn, scsiOn, jointOn, byData, byTape, byScsi, byJoint}
 use Rattle.session.proofs.Serving.{told-same}
+use Rattle.session.proofs.Calls.{unhandled-at}
 use Rattle.session.proofs.Sending.{data-sendable, tape-sendable, scsi-sendable, joint-sendable, config-sendable}
 use Rattle.answering.specs.declared.Answer.{Answer}
 use Rattle.answering.specs.Call.{CallTold}
 use Rattle.server.specs.Call.{authorizing, controlled}
-use Rattle.answering.proofs.Calling.{same-reply}
+
+-- a call, by what its step gave over the part of the record that is lent: `by` answers with a step's reply and part
+pub arm : {A : Type 0} (by : Served A → Answered) (step : List ℕ → Served A) (r body : List ℕ) (reply : Reply) (n : A) (v : Answer) (image l l′ : List ℕ) → body ≡ drop 28 r
+    → Told (step body) reply n → CallTold (by (record { reply = reply; part = n })) v image l l′ → CallTold (by (step (drop 28 r))) v image l l′
+arm by step r body reply n v image l l′ h t c =
+    let t′ : Told (step (drop 28 r)) reply n = rw h at t in
+    let e : step (drop 28 r) ≡ record { reply = reply; part = n } = λ i. record { reply = sym (t′ .reply) i; part = sym (t′ .part) i } in
+    rw e c
 
 -- ---- DATA
 abbrev no-data : List ℕ
@@ -92,18 +98,6 @@ pub data-sends : (known : Bool) (d : Data) (k : DataKind) (body : List ℕ) (q :
 unfolding dataOn
 data-sends known d k body q r seen e f = rw (f, e) (data-sendable known d (Message.Data k) body seen)
 
--- a call of the data interface, by what its parts gave
-pub data-arm : (s : Session) (k : DataKind) (r body : List ℕ) (time : ℕ) (q : Request) (reply : Reply) (next : Data) (session : Session) (v : Answer) (l l′ : List ℕ)
-    → body ≡ drop 28 r → q ≡ dataBody k body → Told (onData (s .authorized) (s .source) body q) reply next
-    → session ≡ withParts s (s .authorized) next (s .mover) (s .tape) (s .changer)
-    → (image : List ℕ) → CallTold (replying r time reply [] session image) v image l l′
-    → CallTold (byData s image r time (dataOn (s .authorized) (s .source) (Message.Data k) (drop 28 r))) v image l l′
-unfolding dataOn
-data-arm s k r body time q reply next session v l l′ hb hq t hs image c =
-    let t′ : Told (onData (s .authorized) (s .source) (drop 28 r) (dataBody k (drop 28 r))) reply next = rw (hq, hb) at t in
-    same-reply r time [] image _ _ _ _ v l l′ (t′ .reply)
-    (hs ∙ ap (λ (x : Data). withParts s (s .authorized) x (s .mover) (s .tape) (s .changer)) (t′ .part)) c
-
 -- ---- SCSI
 abbrev no-scsi : List ℕ
 no-scsi = 0 ∷ 1 ∷ 3 ∷ 4 ∷ 5 ∷ 6 ∷ 7 ∷ 8 ∷ []
@@ -136,32 +130,6 @@ pub scsi-sends : (known : Bool) (c : Changer) (k : ScsiKind) (body : List ℕ) (
     → r ≡ onScsi known c body q .reply → Sendable r seen
 unfolding scsiOn
 scsi-sends known c k body q r seen e f = rw (f, e) (scsi-sendable known c (Message.Scsi k) body seen)
-
-pub scsi-arm : (s : Session) (k : ScsiKind) (r body : List ℕ) (time : ℕ) (q : Request) (reply : Reply) (next : Changer) (session : Session) (v : Answer) (l l′ : List ℕ)
-    → body ≡ drop 28 r → q ≡ scsiBody k body → Told (onScsi (s .authorized) (s .changer) body q) reply next
-    → session ≡ withParts s (s .authorized) (s .source) (s .mover) (s .tape) next
-    → (image : List ℕ) → CallTold (replying r time reply [] session image) v image l l′
-    → CallTold (byScsi s image r time (scsiOn (s .authorized) (s .changer) (Message.Scsi k) (drop 28 r))) v image l l′
-unfolding scsiOn
-scsi-arm s k r body time q reply next session v l l′ hb hq t hs image c =
-    let t′ : Told (onScsi (s .authorized) (s .changer) (drop 28 r) (scsiBody k (drop 28 r))) reply next = rw (hq, hb) at t in
-    same-reply r time [] image _ _ _ _ v l l′ (t′ .reply)
-    (hs ∙ ap (λ (x : Changer). withParts s (s .authorized) (s .source) (s .mover) (s .tape) x) (t′ .part)) c
-
--- a reply of the service with the tape, by what its step gave
-part-told : (s : Session) (r : List ℕ) (time : ℕ) (st : Served TapePart) (reply : Reply) (n : TapePart) (session : Session) (v : Answer) (l l′ : List ℕ)
-    → Told st reply n → session ≡ withParts s (s .authorized) (s .source) (n .mover) (n .tape) (s .changer)
-    → CallTold (replying r time reply (n .image) session (n .image)) v (n .image) l l′ → CallTold (byTape s r time st) v (n .image) l l′
-part-told s r time st reply n session v l l′ t hs c =
-    let c′ : CallTold (byTape s r time (record { reply = reply; part = n })) v (n .image) l l′ = rw hs at c in
-    let e : st ≡ record { reply = reply; part = n } = λ i. record { reply = sym (t .reply) i; part = sym (t .part) i } in
-    rw e c′
-
-joint-told : (s : Session) (r : List ℕ) (time : ℕ) (st : Served Ends) (reply : Reply) (n : Ends) (image : List ℕ) (v : Answer) (l l′ : List ℕ) → Told st reply n
-    → CallTold (byJoint s image r time (record { reply = reply; part = n })) v image l l′ → CallTold (byJoint s image r time st) v image l l′
-joint-told s r time st reply n image v l l′ t c =
-    let e : st ≡ record { reply = reply; part = n } = λ i. record { reply = sym (t .reply) i; part = sym (t .part) i } in
-    rw e c
 
 -- ---- TAPE
 abbrev no-tape : List ℕ
@@ -207,16 +175,6 @@ tape-sends known p k body q r n e t =
     let t′ : Told (onTape known p body (tapeBody k body)) r n = rw e at t in
     rw (t′ .reply, t′ .part) (tape-sendable known p (Message.Tape k) body)
 
-pub tape-arm : (s : Session) (k : TapeKind) (image r body : List ℕ) (time : ℕ) (q : Request) (reply : Reply) (next : Tape) (image′ : List ℕ) (session : Session) (v : Answer) (l l′ : List ℕ)
-    → body ≡ drop 28 r → q ≡ tapeBody k body
-    → Told (onTape (s .authorized) (tapePart s image) body q) reply (record { mover = s .mover; tape = next; image = image′ })
-    → session ≡ withParts s (s .authorized) (s .source) (s .mover) next (s .changer)
-    → CallTold (replying r time reply image′ session image′) v image′ l l′
-    → CallTold (byTape s r time (tapeOn (s .authorized) (tapePart s image) (Message.Tape k) (drop 28 r))) v image′ l l′
-unfolding tapeOn
-tape-arm s k image r body time q reply next image′ session v l l′ hb hq t hs c =
-    part-told s r time _ reply (record { mover = s .mover; tape = next; image = image′ }) session v l l′ (rw (hq, hb) at t) hs c
-
 -- ---- MOVER
 abbrev no-mover : List ℕ
 no-mover = 0 ∷ 1 ∷ 2 ∷ 3 ∷ 4 ∷ 6 ∷ 7 ∷ 8 ∷ []
@@ -247,16 +205,6 @@ mover-sends known p k body q r n e t =
     let t′ : Told (onMover known p (moverBody k body)) r n = rw e at t in
     rw (t′ .reply, t′ .part) (tape-sendable known p (Message.Mover k) body)
 
-pub mover-arm : (s : Session) (k : MoverKind) (image r body : List ℕ) (time : ℕ) (q : Request) (reply : Reply) (next : Mover) (session : Session) (v : Answer) (l l′ : List ℕ)
-    → body ≡ drop 28 r → q ≡ moverBody k body
-    → Told (onMover (s .authorized) (tapePart s image) q) reply (record { mover = next; tape = s .tape; image = image })
-    → session ≡ withParts s (s .authorized) (s .source) next (s .tape) (s .changer)
-    → CallTold (replying r time reply image session image) v image l l′
-    → CallTold (byTape s r time (tapeOn (s .authorized) (tapePart s image) (Message.Mover k) (drop 28 r))) v image l l′
-unfolding tapeOn
-mover-arm s k image r body time q reply next session v l l′ hb hq t hs c =
-    part-told s r time _ reply (record { mover = next; tape = s .tape; image = image }) session v l l′ (rw (hq, hb) at t) hs c
-
 -- ---- the joint requests
 abbrev no-joint : List ℕ
 no-joint = 0 ∷ 1 ∷ 2 ∷ 3 ∷ 4 ∷ 5 ∷ 7 ∷ 8 ∷ []
@@ -277,18 +225,6 @@ pub joint-sends : (known : Bool) (d : Data) (m : Mover) (t : Tape) (k : JointKin
     → r ≡ onJoint known d m t q .reply → Sendable r seen
 unfolding jointOn
 joint-sends known d m t k body q r seen e f = rw (f, e) (joint-sendable known d m t (Message.Joint k) body seen)
-
--- the reply and the two notices, with what the definition gives for what the code gave
-pub joint-arm : (s : Session) (k : JointKind) (r body : List ℕ) (time : ℕ) (q : Request) (reply : Reply) (n : Ends) (session : Session) (v : Answer) (l l′ : List ℕ)
-    → body ≡ drop 28 r → q ≡ jointBody k body → Told (onJoint (s .authorized) (s .source) (s .mover) (s .tape) q) reply n
-    → session ≡ withParts s (s .authorized) (n .source) (n .mover) (s .tape) (s .changer)
-    → (image : List ℕ)
-    → CallTold (noticed time (n .mwhy) (Notice.MoverHalted (n .mwhy)) (noticed time (n .dwhy) (Notice.DataHalted (n .dwhy)) (replying r time reply [] session image))) v image l l′
-    → CallTold (byJoint s image r time (jointOn (s .authorized) (s .source) (s .mover) (s .tape) (Message.Joint k) (drop 28 r))) v image l l′
-unfolding jointOn
-joint-arm s k r body time q reply n session v l l′ hb hq t hs image c =
-    let t′ : Told (onJoint (s .authorized) (s .source) (s .mover) (s .tape) (jointBody k (drop 28 r))) reply n = rw (hq, hb) at t in
-    joint-told s r time _ reply n image v l l′ t′ (rw hs at c)
 
 -- ---- CONNECT and CONFIG
 abbrev no-connect : List ℕ
@@ -395,17 +331,6 @@ auth-sends known right reply part seen t = plain-sends _ reply seen (t .reply)
 pub config-sends : (known : Bool) (q : ConfigRequest) (reply : Reply) (seen : List ℕ) → reply ≡ configReply known q → Sendable reply seen
 config-sends known q reply seen h = rw h (config-sendable known q seen)
 
--- a login, by what was compared
-pub auth-arm : (s : Session) (r body : List ℕ) (time : ℕ) (name word : Text) (id password : List ℕ) (reply : Reply) (known : Bool) (session : Session) (v : Answer) (l l′ : List ℕ)
-    → body ≡ drop 28 r → Told (authorizing (s .authorized) body name word id password) reply known
-    → session ≡ withParts s known (s .source) (s .mover) (s .tape) (s .changer)
-    → (image : List ℕ) → CallTold (replying r time reply [] session image) v image l l′
-    → CallTold (byControl s image r time (authorizing (s .authorized) (drop 28 r) name word id password)) v image l l′
-auth-arm s r body time name word id password reply known session v l l′ hb t hs image c =
-    let t′ : Told (authorizing (s .authorized) (drop 28 r) name word id password) reply known = rw hb at t in
-    same-reply r time [] image _ _ _ _ v l l′ (t′ .reply)
-    (hs ∙ ap (λ (x : Bool). withParts s x (s .source) (s .mover) (s .tape) (s .changer)) (t′ .part)) c
-
 -- ---- a request at the service of its message
 module _ (s : Session) (a : Account) (image r : List ℕ) (time : ℕ) (v : Answer) (image′ l l′ : List ℕ) where
   abbrev Told-here : Type 0
@@ -443,13 +368,5 @@ module _ (s : Session) (a : Account) (image r : List ℕ) (time : ℕ) (v : Answ
   unfolding handled serviceOf isClose controlOn choose
   at-config k e c = at-service ControlService (rw e refl) (rw e c)
 
-  unknown-at : (d : Service) → messageIn r ≡ Message.Unknown → CallTold (replying r time (Reply.Header 1) [] s image) v image′ l l′ → CallTold (handled d s a image r time) v image′ l l′
-  unfolding handled dataOn tapeOn scsiOn jointOn controlOn isClose noticed choose replyBytes shapeOf
-  unknown-at DataService e c = rw e c
-  unknown-at TapeService e c = rw e c
-  unknown-at ScsiService e c = rw e c
-  unknown-at JointService e c = rw e c
-  unknown-at ControlService e c = rw e c
-
   pub at-unknown : messageIn r ≡ Message.Unknown → CallTold (replying r time (Reply.Header 1) [] s image) v image′ l l′ → Told-here
-  at-unknown e c = unknown-at (routeOf r) e c
+  at-unknown e c = rw (unhandled-at s a image r time (routeOf r) e) c

@@ -1,7 +1,11 @@
 use denote.Ref.{now}
+use Prim.Native.Nat.{ℕ}
+use mathlib.Core.List.{List}
 use native.Mathlib.Omega.{arith}
+use Rattle.session.specs.Answer.{byControl}
+use Rattle.server.specs.Call.{authorizing}
 use Rattle.server.proofs.Framing.{body-is}
-use Rattle.server.proofs.Routing.{auth-sends, auth-arm}
+use Rattle.server.proofs.Routing.{auth-sends, arm}
 use borrow.Author.Needs.{needs}
 use Rattle.server.proofs.auth_call.Statement.{statement}
 use Rattle.server.proofs.auth_call.Tie as tie
@@ -33,7 +37,12 @@ same-length : tie.Need-same-length
 same-length c = search needs
 
 returns : tie.Need-returns
-returns c = λ image. auth-arm (c .before .before .before .before .before .before .before .before .before .before .before .before .before .before .before .before .args .s) _ _ _ _ _ _ _ _ _ _ _ _ _ (body-is (now (c .before .before .before .before .before .before .before .before .before .before .before .before .before .before .before .before .args .input))) (c .before .before .before .before .before .before .before .before .before .before .client-auth .ensures) (c .before .before .before .before .before .with-parts .ensures) image (c .before .before .finish .ensures .1 image)
+returns c =
+    λ image.
+    let a = c .before .before .before .before .before .before .before .before .before .before .before .before .before .before .before .before .args in
+    arm (byControl (a .s) image (now (a .input)) (a .time)) (λ (body : List ℕ). authorizing (a .s .authorized) body (a .name) (a .word) (now (a .id)) (now (a .password))) (now (a .input)) _ _ _ _ _ _ _
+    (body-is (now (a .input))) (c .before .before .before .before .before .before .before .before .before .before .client-auth .ensures)
+    (rw (c .before .before .before .before .before .with-parts .ensures) at (c .before .before .finish .ensures .1 image))
 
 pub auth-call-spec : {M : Type 1} → statement M
 auth-call-spec = tie.close (tie.spec sub-client-auth part-client-auth-start part-client-auth-end client-auth-requires with-parts-requires slice-aggregate-finish finish-requires same-length returns)

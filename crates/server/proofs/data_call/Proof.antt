@@ -1,7 +1,9 @@
 use denote.Ref.{now}
 use native.Mathlib.Omega.{arith}
+use Rattle.frame.specs.declared.Message.the-variants as Message
+use Rattle.session.specs.Answer.{byData, dataOn}
 use Rattle.server.proofs.Framing.{body-is}
-use Rattle.server.proofs.Routing.{data-within, data-sends, data-arm}
+use Rattle.server.proofs.Routing.{data-within, data-sends, arm}
 use borrow.Author.Needs.{needs}
 use Rattle.server.proofs.data_call.Statement.{statement}
 use Rattle.server.proofs.data_call.Tie as tie
@@ -49,7 +51,13 @@ same-length : tie.Need-same-length
 same-length c = search needs
 
 returns : tie.Need-returns
-returns c = λ image. data-arm (c .before .before .before .before .before .before .before .before .before .before .before .before .before .before .before .before .before .args .s) _ _ _ _ _ _ _ _ _ _ _ (body-is (now (c .before .before .before .before .before .before .before .before .before .before .before .before .before .before .before .before .before .args .input))) (c .before .before .before .before .before .before .before .before .before .before .before .before .decode-data .ensures) (c .before .before .before .before .before .before .before .before .before .before .data-answer .ensures) (c .before .before .before .before .before .with-parts .ensures) image (c .before .before .finish .ensures .1 image)
+unfolding dataOn
+returns c =
+    λ image.
+    let a = c .before .before .before .before .before .before .before .before .before .before .before .before .before .before .before .before .before .args in
+    arm (byData (a .s) image (now (a .input)) (a .time)) (dataOn (a .s .authorized) (a .s .source) (Message.Data (a .k))) (now (a .input)) _ _ _ _ _ _ _ (body-is (now (a .input)))
+    (rw (c .before .before .before .before .before .before .before .before .before .before .before .before .decode-data .ensures) at (c .before .before .before .before .before .before .before .before .before .before .data-answer .ensures))
+    (rw (c .before .before .before .before .before .with-parts .ensures) at (c .before .before .finish .ensures .1 image))
 
 pub data-call-spec : {M : Type 1} → statement M
 data-call-spec =

@@ -1,7 +1,9 @@
 use denote.Ref.{now}
 use native.Mathlib.Omega.{arith}
+use Rattle.frame.specs.declared.Message.the-variants as Message
+use Rattle.session.specs.Answer.{byJoint, jointOn}
 use Rattle.server.proofs.Framing.{body-is}
-use Rattle.server.proofs.Routing.{joint-sends, joint-arm}
+use Rattle.server.proofs.Routing.{joint-sends, arm}
 use borrow.Author.Needs.{needs}
 use Rattle.server.proofs.joint_call.Statement.{statement}
 use Rattle.server.proofs.joint_call.Tie as tie
@@ -47,7 +49,14 @@ same-length : tie.Need-same-length
 same-length c = search needs
 
 returns : tie.Need-returns
-returns c = λ image. joint-arm (c .before .before .before .before .before .before .before .before .before .before .before .before .before .before .before .before .before .before .before .before .before .before .before .before .before .args .s) _ _ _ _ _ _ _ _ _ _ _ (body-is (now (c .before .before .before .before .before .before .before .before .before .before .before .before .before .before .before .before .before .before .before .before .before .before .before .before .before .args .input))) (c .before .before .before .before .before .before .before .before .before .before .before .before .before .before .before .before .before .before .decode-joint .ensures) (c .before .before .before .before .before .before .before .before .before .before .before .before .before .before .before .before .before .joint-answer .ensures) (c .before .before .before .before .before .before .before .before .before .before .before .before .before .with-parts .ensures) image (c .before .before .notify2 .ensures .1 _ image _ (c .before .before .before .before .before .before .notify .ensures .1 _ image _ (c .before .before .before .before .before .before .before .before .before .before .finish .ensures .1 image)))
+unfolding jointOn
+returns c =
+    λ image.
+    let a = c .before .before .before .before .before .before .before .before .before .before .before .before .before .before .before .before .before .before .before .before .before .before .before .before .before .args in
+    let sent = rw (c .before .before .before .before .before .before .before .before .before .before .before .before .before .with-parts .ensures) at (c .before .before .before .before .before .before .before .before .before .before .finish .ensures .1 image) in
+    arm (byJoint (a .s) image (now (a .input)) (a .time)) (jointOn (a .s .authorized) (a .s .source) (a .s .mover) (a .s .tape) (Message.Joint (a .k))) (now (a .input)) _ _ _ _ _ _ _ (body-is (now (a .input)))
+    (rw (c .before .before .before .before .before .before .before .before .before .before .before .before .before .before .before .before .before .before .decode-joint .ensures) at (c .before .before .before .before .before .before .before .before .before .before .before .before .before .before .before .before .before .joint-answer .ensures))
+    (c .before .before .notify2 .ensures .1 _ image _ (c .before .before .before .before .before .before .notify .ensures .1 _ image _ sent))
 
 pub joint-call-spec : {M : Type 1} → statement M
 joint-call-spec =

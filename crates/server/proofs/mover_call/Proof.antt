@@ -1,7 +1,9 @@
 use denote.Ref.{now}
 use native.Mathlib.Omega.{arith}
+use Rattle.frame.specs.declared.Message.the-variants as Message
+use Rattle.session.specs.Answer.{tapePart, byTape, tapeOn}
 use Rattle.server.proofs.Framing.{body-is}
-use Rattle.server.proofs.Routing.{mover-sends, mover-arm}
+use Rattle.server.proofs.Routing.{mover-sends, arm}
 use borrow.Author.Needs.{needs}
 use Rattle.server.proofs.mover_call.Statement.{statement}
 use Rattle.server.proofs.mover_call.Tie as tie
@@ -37,7 +39,12 @@ same-length : tie.Need-same-length
 same-length c = search needs
 
 returns : tie.Need-returns
-returns c = mover-arm (c .before .before .before .before .before .before .before .before .before .before .before .before .before .before .before .before .args .s) _ _ _ _ _ _ _ _ _ _ _ _ (body-is (now (c .before .before .before .before .before .before .before .before .before .before .before .before .before .before .before .before .args .input))) (c .before .before .before .before .before .before .before .before .before .decode-mover .ensures) (c .before .before .before .before .before .before .before .before .mover-answer .ensures _) (c .before .before .before .before .with-parts .ensures) (c .before .before .finish .ensures .1 _)
+unfolding tapeOn
+returns c =
+    let a = c .before .before .before .before .before .before .before .before .before .before .before .before .before .before .before .before .args in
+    arm (byTape (a .s) (now (a .input)) (a .time)) (tapeOn (a .s .authorized) (tapePart (a .s) (now (a .image))) (Message.Mover (a .k))) (now (a .input)) _ _ _ _ _ _ _ (body-is (now (a .input)))
+    (rw (c .before .before .before .before .before .before .before .before .before .decode-mover .ensures) at (c .before .before .before .before .before .before .before .before .mover-answer .ensures (now (a .image))))
+    (rw (c .before .before .before .before .with-parts .ensures) at (c .before .before .finish .ensures .1 (now (a .image))))
 
 pub mover-call-spec : {M : Type 1} → statement M
 mover-call-spec =

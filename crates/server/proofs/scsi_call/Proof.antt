@@ -1,7 +1,9 @@
 use denote.Ref.{now}
 use native.Mathlib.Omega.{arith}
+use Rattle.frame.specs.declared.Message.the-variants as Message
+use Rattle.session.specs.Answer.{byScsi, scsiOn}
 use Rattle.server.proofs.Framing.{body-is}
-use Rattle.server.proofs.Routing.{scsi-within, scsi-sends, scsi-arm}
+use Rattle.server.proofs.Routing.{scsi-within, scsi-sends, arm}
 use borrow.Author.Needs.{needs}
 use Rattle.server.proofs.scsi_call.Statement.{statement}
 use Rattle.server.proofs.scsi_call.Tie as tie
@@ -49,7 +51,13 @@ same-length : tie.Need-same-length
 same-length c = search needs
 
 returns : tie.Need-returns
-returns c = λ image. scsi-arm (c .before .before .before .before .before .before .before .before .before .before .before .before .before .before .before .before .before .args .s) _ _ _ _ _ _ _ _ _ _ _ (body-is (now (c .before .before .before .before .before .before .before .before .before .before .before .before .before .before .before .before .before .args .input))) (c .before .before .before .before .before .before .before .before .before .before .before .before .decode-scsi .ensures) (c .before .before .before .before .before .before .before .before .before .before .scsi-answer .ensures) (c .before .before .before .before .before .with-parts .ensures) image (c .before .before .finish .ensures .1 image)
+unfolding scsiOn
+returns c =
+    λ image.
+    let a = c .before .before .before .before .before .before .before .before .before .before .before .before .before .before .before .before .before .args in
+    arm (byScsi (a .s) image (now (a .input)) (a .time)) (scsiOn (a .s .authorized) (a .s .changer) (Message.Scsi (a .k))) (now (a .input)) _ _ _ _ _ _ _ (body-is (now (a .input)))
+    (rw (c .before .before .before .before .before .before .before .before .before .before .before .before .decode-scsi .ensures) at (c .before .before .before .before .before .before .before .before .before .before .scsi-answer .ensures))
+    (rw (c .before .before .before .before .before .with-parts .ensures) at (c .before .before .finish .ensures .1 image))
 
 pub scsi-call-spec : {M : Type 1} → statement M
 scsi-call-spec =

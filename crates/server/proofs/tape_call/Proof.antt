@@ -1,7 +1,11 @@
 use denote.Ref.{now}
+use mathlib.Core.Path.{refl}
 use native.Mathlib.Omega.{arith}
+use Rattle.frame.specs.declared.Message.the-variants as Message
+use Rattle.session.specs.Answer.{tapePart, byTape, tapeOn}
+use Rattle.answering.proofs.Calling.{same-reply}
 use Rattle.server.proofs.Framing.{body-is}
-use Rattle.server.proofs.Routing.{tape-within, tape-sends, tape-arm}
+use Rattle.server.proofs.Routing.{tape-within, tape-sends, arm}
 use borrow.Author.Needs.{needs}
 use Rattle.server.proofs.tape_call.Statement.{statement}
 use Rattle.server.proofs.tape_call.Tie as tie
@@ -49,7 +53,12 @@ same-length-2 : tie.Need-same-length-2
 same-length-2 c = search needs
 
 returns : tie.Need-returns
-returns c = tape-arm (c .before .before .before .before .before .before .before .before .before .before .before .before .before .before .before .before .before .before .before .before .before .args .s) _ _ _ _ _ _ _ _ _ _ _ _ _ (body-is (now (c .before .before .before .before .before .before .before .before .before .before .before .before .before .before .before .before .before .before .before .before .before .args .input))) (c .before .before .before .before .before .before .before .before .before .before .before .before .before .before .decode-tape .ensures) (c .before .before .before .before .before .before .before .before .before .before .before .tape-answer .ensures) (c .before .before .before .before .before .with-parts .ensures) (c .before .before .finish .ensures .1 _)
+unfolding tapeOn
+returns c =
+    let a = c .before .before .before .before .before .before .before .before .before .before .before .before .before .before .before .before .before .before .before .before .before .args in
+    arm (byTape (a .s) (now (a .input)) (a .time)) (tapeOn (a .s .authorized) (tapePart (a .s) (now (a .image))) (Message.Tape (a .k))) (now (a .input)) _ _ _ _ _ _ _ (body-is (now (a .input)))
+    (rw (c .before .before .before .before .before .before .before .before .before .before .before .before .before .before .decode-tape .ensures) at (c .before .before .before .before .before .before .before .before .before .before .before .tape-answer .ensures))
+    (same-reply _ _ _ _ _ _ _ _ _ _ _ refl (c .before .before .before .before .before .with-parts .ensures) (c .before .before .finish .ensures .1 _))
 
 pub tape-call-spec : {M : Type 1} → statement M
 tape-call-spec =
