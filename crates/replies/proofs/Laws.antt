@@ -159,6 +159,11 @@ reply-sent next n s t m e err r image l x y p c h f g w =
       small = omega (arith, p .end, body-small r image c);
     }
 
+-- "An unknown message's 1, and 18, stand in the header with no body": nothing of the image is sent
+pub header-bare : (s t m e err : ℕ) (image : List ℕ) → replyBytes s t m e (Header err) image ≡ replyBytes s t m e (Header err) []
+unfolding replyBytes shapeOf
+header-bare s t m e err image = refl
+
 pub notice-sent : (at next s t m : ℕ) (ws l x y : List ℕ) → Put (at + 28) (be32s ws) l next x → at + 40 ≤ length l → length ws ≤ 3
     → y ≡ overlay at (be32s (headerWords (4 * length ws) s t 0 m 0 0)) x → Sent (at + 40) at (recordBytes s t 0 m 0 0 (be32s ws)) l next y
 notice-sent at next s t m ws l x y p h k w =

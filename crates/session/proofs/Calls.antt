@@ -27,7 +27,7 @@ use Rattle.requests.specs.declared.TapeRequest.{TapeRequest}
 use Rattle.requests.specs.declared.TapeRequest.the-variants as TapeRequest
 use Rattle.requests.specs.declared.Request.{Request}
 use Rattle.requests.specs.declared.Request.the-variants as Request
-use Rattle.replies.specs.Replies.{replyBytes, shapeOf}
+use Rattle.replies.proofs.Laws.{header-bare}
 use Rattle.replies.specs.declared.Reply.the-variants as Reply
 use Rattle.replies.specs.declared.Notice.{Notice}
 use Rattle.session.specs.declared.types.Data.{Data}
@@ -308,9 +308,9 @@ module _ (s : Session) (a : Account) (image r : List ℕ) (time : ℕ) where
   to d e h = ap (λ (y : Service). handled y s a image r time) e ∙ h
 
   pub unhandled-at : (d : Service) → messageIn r ≡ Message.Unknown → handled d s a image r time ≡ replying r time (Reply.Header 1) [] s image
-  unfolding handled dataOn tapeOn scsiOn jointOn controlOn isClose noticed choose replyBytes shapeOf
+  unfolding handled dataOn tapeOn scsiOn jointOn controlOn isClose noticed choose
   unhandled-at DataService e = rw e
-  unhandled-at TapeService e = rw e
+  unhandled-at TapeService e = rw (e, header-bare)
   unhandled-at ScsiService e = rw e
   unhandled-at JointService e = rw e
   unhandled-at ControlService e = rw e
@@ -319,13 +319,13 @@ module _ (s : Session) (a : Account) (image r : List ℕ) (time : ℕ) where
   unhandled room h e = heard room h ∙ unhandled-at (routeOf r) e
 
   undecoded-at : (m : Message) → messageIn r ≡ m → decoded m (bodyOf r) ≡ Request.Bad → handled (routeOf r) s a image r time ≡ replying r time (Reply.Header 18) [] s image
-  unfolding handled serviceOf decoded dataOn tapeOn scsiOn jointOn controlOn onData onTape onMover onScsi onJoint onConnect onConfig isClose closes noticed choose replyBytes shapeOf
+  unfolding handled serviceOf decoded dataOn tapeOn scsiOn jointOn controlOn onData onTape onMover onScsi onJoint onConnect onConfig isClose closes noticed choose
   undecoded-at (Message.Connect k) e h = to ControlService (rw e refl) (rw (e, h))
   undecoded-at (Message.Config k) e h = to ControlService (rw e refl) (rw (e, h))
   undecoded-at (Message.Scsi k) e h = to ScsiService (rw e refl) (rw (e, h))
-  undecoded-at (Message.Tape k) e h = to TapeService (rw e refl) (rw (e, h))
+  undecoded-at (Message.Tape k) e h = to TapeService (rw e refl) (rw (e, h, header-bare))
   undecoded-at (Message.Data k) e h = to DataService (rw e refl) (rw (e, h))
-  undecoded-at (Message.Mover k) e h = to TapeService (rw e refl) (rw (e, h))
+  undecoded-at (Message.Mover k) e h = to TapeService (rw e refl) (rw (e, h, header-bare))
   undecoded-at (Message.Joint k) e h = to JointService (rw e refl) (rw (e, h))
   undecoded-at Message.Unknown e h = absurd (let z : _≡_ {A = ℕ} 0 1 = cc in omega arith)
 
