@@ -1,19 +1,16 @@
 -- From what the writers leave to what a call promises. Assumes nothing.
-use Prim.Native.Nat.{ℕ, zero, suc, _+_, _-_, _≤_}
-use mathlib.Core.Bool.{Bool, true, false, not}
-use mathlib.Core.List.{List, [], _∷_, _++_, append-nil, append-assoc}
+use Prim.Native.Nat.{ℕ, _+_}
+use mathlib.Core.Bool.{Bool, true, false}
+use mathlib.Core.List.{List, [], _++_, append-nil, append-assoc}
 use mathlib.Core.Path.{_≡_, refl, sym, ap, _∙_}
 use native.Mathlib.Omega.{arith}
 use native.Mathlib.Nat.{zero-add}
-use lib.ListN.{length, take, drop, length-append}
-use lib.Dec.{eqb}
+use lib.ListN.{length, length-append}
 use borrow.Author.Tests.{eq-eqb, ne-eqb}
 use Rattle.xdr.specs.Choose.{choose}
 use Rattle.xdr.specs.Xdr.{word, overlay}
-use Rattle.xdr.proofs.Laws.{more, rest, overlay-none}
+use Rattle.xdr.proofs.Laws.{more, overlay-none}
 use Rattle.xdr_opaque.specs.Put.{Put}
-use Rattle.frame.specs.Frame.{wellFramed, kindOf, framed}
-use Rattle.frame.specs.declared.Framed.the-variants as Framed
 use Rattle.replies.specs.declared.Reply.{Reply}
 use Rattle.replies.specs.declared.Notice.{Notice}
 use Rattle.replies.specs.Replies.{replyBytes, noticeBytes}

@@ -2,9 +2,8 @@
 use Prim.Native.Nat.{ℕ}
 use mathlib.Core.Bool.{Bool, true, false}
 use mathlib.Core.List.{List}
-use mathlib.Core.Path.{_≡_, refl}
+use mathlib.Core.Path.{_≡_}
 use Rattle.xdr.specs.Choose.{choose}
-use Rattle.xdr.proofs.Tests.{asked, asked-not, tests}
 use Rattle.answering.specs.declared.Answer.{Answer}
 use Rattle.answering.specs.Call.{CallTold}
 use Rattle.session.specs.declared.types.Session.{Session}

@@ -2,7 +2,7 @@
 use Prim.Native.Nat.{ℕ}
 use mathlib.Core.Bool.{Bool, true, false, not}
 use mathlib.Core.List.{List}
-use mathlib.Core.Path.{_≡_, refl, ap, _∙_}
+use mathlib.Core.Path.{_≡_, refl, ap}
 use lib.Dec.{eqb, ltb}
 use Rattle.xdr.specs.Choose.{choose}
 use Rattle.xdr.specs.Xdr.{sameBytes}
@@ -29,10 +29,10 @@ use Rattle.session.specs.Judge.{first}
 use Rattle.session.specs.Parts.{dataTo, dataStarts, dataJoined, moverJoined}
 use Rattle.session.specs.DataService.{textOf, dump, knownTests, dataState, dataListenTests, dataListen, startTests, dataStart, dataStopTests, dataStop, dataStep}
 use Rattle.session.specs.MoverService.{moverState, joinOf, moverListen, continueTests, moverContinue, moverStopTests, moverStop, windowTests, setWindow, moverReadTests, moverRead, sizeTests, setSize, moverStep}
-use Rattle.session.specs.TapeService.{TapePart, moverPartStep, tapeStep}
+use Rattle.session.specs.TapeService.{moverPartStep, tapeStep}
 use Rattle.session.specs.Joint.{Ends, ends, dataConnectTests, dataConnect, moverConnect, abortTests, dataAborted, dataAbort, moverAborted, moverAbort, closeTests, moverClose, jointStep}
 use Rattle.session.specs.Relation.{keeps}
-use Rattle.session.specs.Answer.{Service, DataService, TapeService, ScsiService, JointService, ControlService, serviceOf, routeOf, Account, Answered, answered, requested, handled, noticed, silent, tapePart, messageIn, isClose, dataOn, tapeOn, jointOn}
+use Rattle.session.specs.Answer.{Service, DataService, TapeService, ScsiService, JointService, ControlService, serviceOf, routeOf, Account, Answered, answered, requested, handled, noticed, tapePart, messageIn, isClose, dataOn, tapeOn, jointOn}
 use Rattle.session.specs.Answer as answer
 use Rattle.session.proofs.Calls.{unhandled-at}
 use Rattle.moves.specs.Sequence.{Seen, Sized, Windowed, MoverStopped, DataStopped, Nothing, Register, partsRegister, registerOf, after, Fits, isHeard, moverShown, dataShown, onMover, onData, shown}

@@ -1,10 +1,10 @@
 -- The counts over any sequence of moves. Assumes nothing.
-use Prim.Native.Nat.{ℕ, _+_, _*_, _/_, _%_, _≤_, _<_}
-use mathlib.Core.Bool.{Bool, true, false, not}
+use Prim.Native.Nat.{ℕ, _+_, _*_, _/_, _%_}
+use mathlib.Core.Bool.{true, not}
 use mathlib.Core.List.{List, [], _∷_}
 use mathlib.Core.Path.{_≡_, refl, sym, ap, _∙_}
 use native.Mathlib.Omega.{arith}
-use native.Mathlib.Nat.{add-zero, add-assoc, add-mul, zero-mul, one-mul, mod-eq-of-lt, add-mod, mod-mod, add-mul-div-right}
+use native.Mathlib.Nat.{add-zero, add-assoc, add-mul, zero-mul, one-mul, mod-eq-of-lt, add-mul-div-right}
 use lib.Dec.{eqb}
 use borrow.Author.Tests.{ne-eqb}
 use Rattle.xdr.specs.Choose.{choose}
@@ -16,7 +16,7 @@ use Rattle.session.specs.Relation.{keeps}
 use Rattle.session.specs.Order.{Each}
 use Rattle.moves.specs.Sequence.{World, Event, Asked, ToTape, FromTape, Ended, Loaded, next, runs, Seen, Sized, Windowed, MoverStopped, DataStopped, Paused, Wrote, Handed, Nothing, Register, registerOf, after, seen, Fits, Legitimate, moveShown, countOf}
 use Rattle.moves.specs.Counts.{trace, replay, movedBy, recordsIn, sum, IsMove, IsToTape, Counted, Recorded, CountsHold}
-use Rattle.moves.proofs.Sequence.{Goes, goes, legitimate}
+use Rattle.moves.proofs.Sequence.{goes, legitimate}
 
 replayed : (w : World) → keeps (w .session) ≡ true → (es : List Event) → registerOf (runs w es .session) ≡ replay (registerOf (w .session)) (trace w es)
 unfolding runs trace replay

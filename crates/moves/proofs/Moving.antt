@@ -6,15 +6,14 @@ use mathlib.Core.List.{List}
 use mathlib.Core.Path.{_≡_, refl, sym, ap, _∙_}
 use native.Mathlib.Omega.{arith}
 use native.Mathlib.Nat.{div-add-mod', mul-le-mul-right, lt-of-mul-lt-mul-right, add-mul, add-mod-right, mod-eq-of-lt, mod-lt}
-use lib.ListN.{length, take, drop, length-take}
+use lib.ListN.{length, take, length-take}
 use lib.Dec.{eqb, ltb}
-use borrow.Author.Tests.{eq-eqb, ne-eqb, eqb-true, eqb-false, ltb-true, ltb-false, le-ltb, not-false}
+use borrow.Author.Tests.{eq-eqb, ne-eqb, eqb-true, eqb-false, ltb-true, ltb-false}
 use Rattle.xdr.specs.Choose.{choose}
-use Rattle.xdr.proofs.Tests.{by-test, when, unless, none-of, is, isnt, yes}
-use Rattle.image.specs.Image.{isSound, count, entryLen, entryBytes, faulty}
-use Rattle.image.specs.Sound.{Sound, Placed}
+use Rattle.xdr.proofs.Tests.{by-test, none-of, is, isnt, yes}
+use Rattle.image.specs.Image.{isSound, count, entryLen, faulty}
 use Rattle.image.proofs.Laws.{placed, sound-holds}
-use Rattle.writing.specs.Writing.{roomFor, written, fillTo}
+use Rattle.writing.specs.Writing.{roomFor, fillTo}
 use Rattle.writing.proofs.Laws.{length-fill, room-facts}
 use Rattle.writing.proofs.Theorems.{written-sound}
 use Rattle.cartridge.specs.Step.{Step, keeping}
@@ -23,7 +22,7 @@ use Rattle.cartridge.proofs.Reading.{least-left, least-right}
 use Rattle.session.specs.declared.types.Data.{Data}
 use Rattle.session.specs.declared.types.Mover.{Mover}
 use Rattle.session.specs.declared.types.Tape.{Tape}
-use Rattle.session.specs.Parts.{top, wrapped, moverPauses, moverHalts, moverRecords, moverHands, dataJoined, moverJoined, holdsTape}
+use Rattle.session.specs.Parts.{wrapped, moverPauses, moverHalts, moverRecords, moverHands, dataJoined, moverJoined, holdsTape}
 use Rattle.session.specs.TapeService.{movedTo}
 use Rattle.session.specs.Relation.{dataWrong, moverWrong, sameFlag, Legal, Held, Within, MoverKept}
 use Rattle.session.proofs.Kept.{mover-kept, kept-mover}
@@ -31,7 +30,7 @@ use Rattle.session.proofs.Keeping.{clash, active-holds, halts-kept}
 use Rattle.moves.specs.declared.Move.{Move}
 use Rattle.moves.specs.declared.Found.{Found}
 use Rattle.moves.specs.Moves.{still, pauses, halts, takes, hands, idle, ending, scant, writing, filling, toTape, outside, ordinal, inRecord, walk, amount, Handing, untouched, reading, onFound, sought, seeking, fromTape, methodEnd}
-use Rattle.moves.specs.Sequence.{Seen, Wrote, Handed, Paused, Nothing, Register, partsRegister, after, Fits, WroteInside, HandedInside, moveShown, imageAfter, soughtEntry, destAfter, countOf}
+use Rattle.moves.specs.Sequence.{Seen, Wrote, Handed, Paused, Nothing, partsRegister, after, Fits, moveShown, imageAfter, soughtEntry, destAfter, countOf}
 
 -- the relation, on the parts that a move may change
 pub record PartsKept (d : Data) (m : Mover) (t : Tape) : Type 0 where

@@ -2,7 +2,7 @@
 use Prim.Native.Nat.{ℕ, _≤_}
 use mathlib.Core.Bool.{Bool, true, false, not}
 use mathlib.Core.List.{List, [], _∷_}
-use mathlib.Core.Path.{_≡_, refl, sym, ap, _∙_}
+use mathlib.Core.Path.{_≡_, refl, _∙_}
 use native.Mathlib.Omega.{arith}
 use lib.ListN.{length}
 use lib.Dec.{eqb, ltb}
@@ -12,21 +12,20 @@ use Rattle.image.specs.Image.{isSound, entryLen}
 use Rattle.cartridge.specs.Step.{Step}
 use Rattle.replies.specs.declared.Notice.{Notice}
 use Rattle.session.specs.declared.types.Session.{Session}
-use Rattle.session.specs.Relation.{keeps, Legal}
-use Rattle.session.specs.Answer.{Answered, answered, silent, noticed}
-use Rattle.session.specs.Calls.{Unmoved}
-use Rattle.session.specs.Order.{Call, Each}
+use Rattle.session.specs.Relation.{keeps}
+use Rattle.session.specs.Answer.{Answered, noticed}
+use Rattle.session.specs.Order.{Each}
 use Rattle.session.proofs.Kept.{mover-kept}
 use Rattle.session.proofs.Keeping.{clash}
-use Rattle.session.proofs.Order.{Kept, kept-facts, facts-kept}
+use Rattle.session.proofs.Order.{kept-facts, facts-kept}
 use Rattle.session.proofs.Calls.{calls-keep}
 use Rattle.moves.specs.declared.Move.{Move}
 use Rattle.moves.specs.Moves.{Handing, toTape, fromTape, methodEnd}
 use Rattle.moves.specs.Events.{Moving, idling, announced, moved, guarded, movedToTape, movedFromTape, methodEnded}
-use Rattle.moves.specs.Sequence.{World, Event, Asked, ToTape, FromTape, Ended, Loaded, next, runs, Seen, Wrote, Handed, Nothing, Register, partsRegister, registerOf, after, Fits, Legitimate, moveShown, seen, imageAfter, soughtEntry, destAfter, countOf, ToTapeLeaves, FromTapeLeaves, Leaves, At, Inside, done, more, WindowHolds}
+use Rattle.moves.specs.Sequence.{World, Event, Asked, ToTape, FromTape, Ended, Loaded, next, runs, Wrote, Handed, registerOf, after, Fits, Legitimate, moveShown, seen, imageAfter, soughtEntry, destAfter, countOf, Leaves, Inside, done, more, WindowHolds}
 use Rattle.moves.specs.Keeping.{Idle, Guards, Sounds, MovesKeep}
 use Rattle.moves.proofs.Asking.{asked-register, asked-fits}
-use Rattle.moves.proofs.Moving.{PartsKept, shown-still, Turn, ToTurn, to-turn, FromTurn, from-turn, EndTurn, end-turn}
+use Rattle.moves.proofs.Moving.{PartsKept, shown-still, ToTurn, to-turn, FromTurn, from-turn, end-turn}
 
 -- ---- an answer that carries a move's parts
 record Carries (mv : Move) (image : List ℕ) (a : Answered) : Type 0 where

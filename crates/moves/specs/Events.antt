@@ -2,7 +2,7 @@
 use Prim.Native.Nat.{ℕ}
 use mathlib.Core.Bool.{Bool, not}
 use mathlib.Core.List.{List, []}
-use lib.Dec.{eqb, ltb}
+use lib.Dec.{ltb}
 use Rattle.xdr.specs.Choose.{choose}
 use Rattle.replies.specs.declared.Notice.the-variants as Notice
 use Rattle.session.specs.declared.types.Session.{Session}

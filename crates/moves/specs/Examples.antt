@@ -1,6 +1,6 @@
 -- Paper 01, "Examples to hold": cases a to j in one list, and one statement over it. A case is a list of calls on a new session, each
 -- request a record as it stands on the wire.
-use Prim.Native.Nat.{ℕ, zero, suc, _+_, _-_, _*_, _/_, _%_}
+use Prim.Native.Nat.{ℕ, zero, suc, _+_, _%_}
 use mathlib.Core.Bool.{Bool, true, false}
 use mathlib.Core.List.{List, [], _∷_, _++_}
 use mathlib.Core.Path.{_≡_}

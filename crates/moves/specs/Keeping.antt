@@ -1,7 +1,7 @@
 -- What moves and the method's end keep: the relation and a sound image; and what a call leaves that is refused.
 use Prim.Native.Nat.{ℕ}
 use mathlib.Core.Bool.{Bool, true}
-use mathlib.Core.List.{List, [], _∷_}
+use mathlib.Core.List.{List, []}
 use mathlib.Core.Path.{_≡_}
 use lib.Dec.{ltb}
 use Rattle.xdr.specs.Choose.{choose}
@@ -11,7 +11,7 @@ use Rattle.session.specs.Relation.{keeps}
 use Rattle.session.specs.Calls.{Unmoved}
 use Rattle.session.specs.Order.{Each}
 use Rattle.moves.specs.Events.{Moving, movedToTape, movedFromTape, methodEnded}
-use Rattle.moves.specs.Sequence.{World, Event, Asked, ToTape, FromTape, Ended, Loaded, next, runs}
+use Rattle.moves.specs.Sequence.{World, Event, Asked, ToTape, FromTape, Ended, Loaded, runs}
 
 -- nothing is sent or moved, and session, image and destination are as they were
 pub record Idle (s : Session) (image dest : List ℕ) (e : Moving) : Type 0 where

@@ -1,7 +1,7 @@
 -- What holds over any sequence of calls (demand 2): requests, moves and the method's end, in any order, with any image handed to any of them.
 -- What is seen of each call is a value; a register, which is replayed from what was seen and from nothing else, says which window is in
 -- force and what the counts are; and each thing seen must fit the register.
-use Prim.Native.Nat.{ℕ, _+_, _-_, _*_, _/_, _%_, _≤_}
+use Prim.Native.Nat.{ℕ, _+_, _-_, _/_, _%_, _≤_}
 use mathlib.Core.Bool.{Bool, true, false, not}
 use mathlib.Core.List.{List, [], _∷_}
 use mathlib.Core.Path.{_≡_}
@@ -28,7 +28,7 @@ use Rattle.session.specs.declared.types.Tape.{Tape}
 use Rattle.session.specs.declared.types.Session.{Session}
 use Rattle.session.specs.Parts.{wrapped}
 use Rattle.session.specs.DataService.{dataStop}
-use Rattle.session.specs.MoverService.{setSize, setWindow, moverStop, recordNumber}
+use Rattle.session.specs.MoverService.{setSize, setWindow, moverStop}
 use Rattle.session.specs.Relation.{keeps, Legal}
 use Rattle.session.specs.Answer.{answered, messageIn}
 use Rattle.session.specs.Order.{Call}

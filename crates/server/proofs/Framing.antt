@@ -1,24 +1,16 @@
 -- What a record was found to be, and its body. Assumes nothing.
-use Prim.Native.Nat.{ℕ, zero, suc, _+_, _-_, _≤_}
+use Prim.Native.Nat.{ℕ, _-_}
 use mathlib.Core.Bool.{Bool, true, false, not}
-use mathlib.Core.List.{List, [], _∷_, _++_, append-nil, append-assoc}
-use mathlib.Core.Path.{_≡_, refl, sym, ap, _∙_}
+use mathlib.Core.List.{List}
+use mathlib.Core.Path.{_≡_, refl}
 use native.Mathlib.Omega.{arith}
-use native.Mathlib.Nat.{zero-add}
-use lib.ListN.{length, take, drop, length-append}
+use lib.ListN.{length, take, drop}
 use lib.Dec.{eqb}
-use borrow.Author.Tests.{eq-eqb, ne-eqb}
 use Rattle.xdr.specs.Choose.{choose}
-use Rattle.xdr.specs.Xdr.{word, overlay}
-use Rattle.xdr.proofs.Laws.{more, rest, overlay-none}
-use Rattle.xdr_opaque.specs.Put.{Put}
+use Rattle.xdr.specs.Xdr.{word}
+use Rattle.xdr.proofs.Laws.{rest}
 use Rattle.frame.specs.Frame.{wellFramed, kindOf, framed}
 use Rattle.frame.specs.declared.Framed.the-variants as Framed
-use Rattle.replies.specs.declared.Reply.{Reply}
-use Rattle.replies.specs.declared.Notice.{Notice}
-use Rattle.replies.specs.Replies.{replyBytes, noticeBytes}
-use Rattle.session.specs.declared.types.Session.{Session}
-use Rattle.session.specs.Answer.{Answered, replied, counted, silent, replying, noticed}
 
 -- the body of a record, as the part of it that is lent
 pub body-is : (r : List ℕ) → take (length r - 28) (drop 28 r) ≡ drop 28 r

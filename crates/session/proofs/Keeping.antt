@@ -1,16 +1,15 @@
 -- Every request keeps the relation: one law for each service, and one for the joint requests. Assumes nothing.
-use Prim.Native.Nat.{ℕ, zero, suc, _+_, _-_, _%_, _≤_, _<_}
+use Prim.Native.Nat.{ℕ, _+_, _%_, _≤_}
 use mathlib.Core.Bool.{Bool, true, false, not}
-use mathlib.Core.List.{List, [], _∷_}
+use mathlib.Core.List.{List}
 use mathlib.Core.Path.{_≡_, refl, sym, ap, _∙_}
 use native.Mathlib.Omega.{arith}
 use lib.ListN.{length}
-use lib.Dec.{eqb, ltb}
-use borrow.Author.Tests.{eq-eqb, ne-eqb, lt-ltb, le-ltb, ltb-true, ltb-false, eqb-true, eqb-false}
+use lib.Dec.{eqb}
+use borrow.Author.Tests.{eq-eqb, ne-eqb, le-ltb, ltb-false, eqb-true}
 use Rattle.xdr.specs.Choose.{choose}
 use Rattle.xdr.specs.Xdr.{sameBytes}
-use Rattle.xdr.proofs.Tests.{by-test, when, unless, none-of, none, if-not, if-so, is, isnt, yes, eq-not, yes-not}
-use Rattle.cartridge.specs.Operations.{writeStep, readPart, mtioStep, standingAt}
+use Rattle.xdr.proofs.Tests.{by-test, when, is, isnt, yes}
 use Rattle.image.specs.Image.{isSound}
 use Rattle.requests.specs.declared.DataRequest.{DataRequest}
 use Rattle.requests.specs.declared.DataRequest.the-variants as DataRequest
@@ -23,13 +22,13 @@ use Rattle.requests.specs.declared.JointRequest.the-variants as JointRequest
 use Rattle.session.specs.declared.types.Data.{Data}
 use Rattle.session.specs.declared.types.Mover.{Mover}
 use Rattle.session.specs.declared.types.Tape.{Tape}
-use Rattle.session.specs.Judge.{Test, test, first, Served, served}
+use Rattle.session.specs.Judge.{Test, first, Served}
 use Rattle.session.specs.Parts.{top, restData, restMover, closedTape, dataTo, dataStarts, dataHalts, moverListens, moverRuns, moverWindow, moverSize, moverSeeks, moverHalts, dataJoined, moverJoined, holdsTape, unwritable}
 use Rattle.session.specs.DataService.{knownTests, dataState, dataListenTests, dataListen, startTests, dataStart, dataStopTests, dataStop, dataStep, textOf, dump}
-use Rattle.session.specs.MoverService.{moverState, offsetWrong, joinOf, moverListen, continueTests, moverContinue, moverStopTests, moverStop, busy, elsewhere, pastTop, windowTests, setWindow, moverReadTests, moverRead, sizeTests, setSize, moverStep}
-use Rattle.session.specs.TapeService.{Loaded, loaded, movedTo, tapeOpenTests, tapeOpen, tapeTests, tapeClose, tapeState, protects, tapeMtio, tapeWrite, tapeRead, deviceStep, TapePart, onTape, onMover, tapeStep, moverPartStep, tape0}
-use Rattle.session.specs.Joint.{Ends, ends, dataConnectTests, dataConnect, moverConnect, atRest, abortTests, dataAborted, dataAbort, moverAborted, moverAbort, closeTests, moverClose, jointStep}
-use Rattle.session.specs.Relation.{dataWrong, moverWrong, sameFlag, Legal, Held, Within, MoverKept}
+use Rattle.session.specs.MoverService.{moverState, offsetWrong, joinOf, moverListen, continueTests, moverContinue, moverStopTests, moverStop, busy, elsewhere, windowTests, setWindow, moverReadTests, moverRead, sizeTests, setSize, moverStep}
+use Rattle.session.specs.TapeService.{Loaded, loaded, tapeOpenTests, tapeOpen, tapeTests, tapeClose, tapeState, protects, tapeMtio, tapeWrite, tapeRead, deviceStep, TapePart, tapeStep, moverPartStep, tape0}
+use Rattle.session.specs.Joint.{Ends, ends, dataConnectTests, dataConnect, moverConnect, abortTests, dataAborted, dataAbort, moverAborted, moverAbort, closeTests, moverClose, jointStep}
+use Rattle.session.specs.Relation.{dataWrong, moverWrong, sameFlag, Legal, Within, MoverKept}
 use Rattle.session.specs.Promises.{Keeps, JointKeeps, dataSide, partWrong, partSide}
 use Rattle.session.proofs.JudgeLaws.{flagAt, numbered, clear}
 use Rattle.session.proofs.Kept.{mover-kept, kept-mover, past-top, writes}

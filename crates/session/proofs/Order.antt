@@ -1,19 +1,18 @@
 -- The requests of the three services may be merged in any order. Each merge of the lists ends where the services end that serve their lists alone
 -- (`Ends`), so two merges end alike. Of the services' steps it uses that they keep the relation and nothing else: no step unfolds here. Assumes nothing.
-use Prim.Native.Nat.{ℕ, zero, suc, _+_, _≤_, _<_}
-use mathlib.Core.Path.{_≡_, refl, sym, _∙_, ap, subst}
-use mathlib.Core.Bool.{Bool, true, false, not}
+use Prim.Native.Nat.{ℕ, zero, suc, _+_, _≤_}
+use mathlib.Core.Path.{_≡_, refl, sym, _∙_, ap}
+use mathlib.Core.Bool.{Bool, true, false}
 use mathlib.Core.List.{List, [], _∷_, _++_}
 use native.Mathlib.Omega.{arith}
 use lib.ListN.{length}
-use lib.Dec.{ltb, eqb}
 use borrow.Author.Tests.{le-ltb}
 use Rattle.xdr.specs.Choose.{choose}
 use Rattle.xdr.specs.Xdr.{be32, be32s}
-use Rattle.frame.specs.Frame.{wellFramed, kindOf, messageWord, sequenceOf, bodyOf, recordBytes}
+use Rattle.frame.specs.Frame.{messageWord, sequenceOf, bodyOf, recordBytes}
 use Rattle.frame.specs.declared.Message.{Message}
 use Rattle.frame.specs.declared.Message.the-variants as Message
-use Rattle.requests.specs.Bodies.{tapeBody, moverBody, dataBody, scsiBody}
+use Rattle.requests.specs.Bodies.{tapeBody, moverBody, dataBody}
 use Rattle.requests.specs.declared.Request.{Request}
 use Rattle.requests.specs.declared.Request.the-variants as Request
 use Rattle.replies.specs.declared.Reply.{Reply}
@@ -27,9 +26,9 @@ use Rattle.session.specs.Judge.{Served}
 use Rattle.session.specs.Parts.{dataJoined, moverJoined}
 use Rattle.session.specs.TapeService.{TapePart}
 use Rattle.session.specs.Relation.{dataWrong, moverWrong, sameFlag, keeps}
-use Rattle.session.specs.Promises.{Keeps, dataSide, partWrong, partSide}
-use Rattle.session.specs.Answer.{Service, DataService, TapeService, ScsiService, JointService, ControlService, routeOf, Account, Answered, answered, requested, handled, silent, bump, tapePart, messageIn, onData, onTape, onMover, onScsi, dataOn, tapeOn, scsiOn}
-use Rattle.session.specs.Order.{sameService, Call, Merge, done, left, middle, right, Each, Asks, Roomy, unstamped, Given, given, Run, run, repliesTo, refusal, SameEnd, AnyOrder}
+use Rattle.session.specs.Promises.{dataSide, partWrong, partSide}
+use Rattle.session.specs.Answer.{Service, DataService, TapeService, ScsiService, routeOf, Account, Answered, answered, requested, handled, silent, bump, tapePart, messageIn, onData, onTape, onMover, dataOn, tapeOn, scsiOn}
+use Rattle.session.specs.Order.{sameService, Call, Merge, done, left, middle, right, Each, Asks, Roomy, unstamped, Given, given, Run, run, repliesTo, refusal, AnyOrder}
 use Rattle.session.proofs.Keeping.{DataKeeps, PartKeeps, stays, data-keeps, tape-keeps, mover-part-keeps}
 
 -- ---- the steps keep the relation, whatever the message and its body

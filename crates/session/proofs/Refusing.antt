@@ -1,16 +1,13 @@
 -- What a refusal leaves, and the rules of windows. Assumes nothing.
-use Prim.Native.Nat.{ℕ, zero, suc, _+_, _≤_}
+use Prim.Native.Nat.{ℕ}
 use mathlib.Core.Bool.{Bool, true, false, not}
-use mathlib.Core.List.{List, [], _∷_}
-use mathlib.Core.Path.{_≡_, refl, sym, ap, _∙_}
-use native.Mathlib.Omega.{arith}
+use mathlib.Core.List.{List}
+use mathlib.Core.Path.{_≡_, refl, ap}
 use lib.ListN.{length, getD}
 use lib.Dec.{eqb}
-use borrow.Author.Tests.{eq-eqb, ne-eqb, eqb-true, eqb-false}
+use borrow.Author.Tests.{eq-eqb, ne-eqb}
 use Rattle.xdr.specs.Choose.{choose}
-use Rattle.xdr.specs.Xdr.{sameBytes}
 use Rattle.xdr.proofs.Tests.{by-test}
-use Rattle.cartridge.specs.Operations.{writeStep, readPart, mtioStep, standingAt}
 use Rattle.cartridge.specs.Promises.{Refused}
 use Rattle.cartridge.proofs.Promises as cartridge
 use Rattle.requests.specs.declared.DataRequest.{DataRequest}
@@ -30,14 +27,14 @@ use Rattle.session.specs.declared.types.Data.{Data}
 use Rattle.session.specs.declared.types.Mover.{Mover}
 use Rattle.session.specs.declared.types.Tape.{Tape}
 use Rattle.session.specs.declared.types.Changer.{Changer}
-use Rattle.session.specs.Judge.{Test, test, first, Served, served}
-use Rattle.session.specs.Parts.{restMover, moverPauses}
+use Rattle.session.specs.Judge.{first, Served}
+use Rattle.session.specs.Parts.{restMover}
 use Rattle.session.specs.DataService.{dataState, dataListen, dataStart, dataStop, dataStep, textOf}
 use Rattle.session.specs.MoverService.{moverState, moverListen, moverContinue, moverStop, setWindow, moverRead, setSize, moverStep}
 use Rattle.session.specs.TapeService.{Loaded, loaded, movedTo, tapeTests, protects, tapeOpen, tapeClose, tapeState, tapeMtio, tapeWrite, tapeRead, deviceStep, TapePart, tapeStep}
 use Rattle.session.specs.ScsiService.{scsiOpen, scsiClear, scsiState, cdbTests, runCdb, scsiCdb, scsiStep}
 use Rattle.session.specs.Joint.{ends, dataConnect, moverConnect, dataAbort, moverAbort, moverClose, jointStep}
-use Rattle.session.specs.Promises.{RelationKept, WindowRules, RefusalsLeave, Promises}
+use Rattle.session.specs.Promises.{Promises}
 use Rattle.session.proofs.Kept.{mover-kept}
 use Rattle.session.proofs.Keeping.{data-keeps, tape-keeps, mover-part-keeps, joint-keeps}
 

@@ -8,11 +8,10 @@ use lib.ListN.{take, drop}
 use lib.Dec.{eqb}
 use borrow.Author.Tests.{eq-eqb, ne-eqb}
 use Rattle.xdr.specs.Choose.{choose}
-use Rattle.xdr.proofs.Tests.{picking}
 use Rattle.xdr.specs.Xdr.{sameBytes}
 use Rattle.requests.specs.declared.Text.{Text}
 use Rattle.replies.specs.declared.Reply.{Reply}
-use Rattle.session.specs.Judge.{Test, first, Served, served}
+use Rattle.session.specs.Judge.{Served, served}
 use Rattle.session.specs.DataService.{textOf}
 use Rattle.session.specs.Telling.{Told}
 

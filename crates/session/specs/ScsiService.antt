@@ -1,5 +1,5 @@
 -- The requests of the SCSI interface (paper 01, "The changer"). They see the changer alone.
-use Prim.Native.Nat.{ℕ, _+_}
+use Prim.Native.Nat.{ℕ}
 use mathlib.Core.Bool.{Bool, true, false, not}
 use mathlib.Core.List.{List, [], _∷_}
 use lib.ListN.{length, getD}
@@ -7,7 +7,6 @@ use lib.Dec.{eqb, ltb}
 use Rattle.xdr.specs.Choose.{choose}
 use Rattle.xdr.specs.Xdr.{sameBytes}
 use Rattle.cartridge.specs.Operations.{least}
-use Rattle.requests.specs.declared.Text.{Text}
 use Rattle.requests.specs.declared.ScsiRequest.{ScsiRequest}
 use Rattle.requests.specs.declared.ScsiRequest.the-variants.{Open, Close, State, Reset, Cdb}
 use Rattle.replies.specs.declared.Reply.{Reply}
