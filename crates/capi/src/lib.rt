@@ -1,0 +1,73 @@
+// The calls for a host in Rust or C. None asks anything of its caller: each promises what the call of the same name below promises.
+ghost use mathlib.Core.List.{[]};
+ghost use lib.ListN.{length};
+ghost use Rattle.session.specs.Answer.{answered};
+ghost use Rattle.session.specs.Calls.{opening};
+ghost use Rattle.answering.specs.Call.{CallTold};
+ghost use Rattle.server.specs.Call.{account};
+ghost use Rattle.moves.specs.Events.{movedToTape, movedFromTape, methodEnded};
+ghost use Rattle.events.specs.Told.{MoveTold};
+use answering::Answer;
+use events::Moved;
+use session::types::Session;
+
+// A new session.
+#[no_mangle]
+pub extern "C" fn mossgoblin_open(time: u32, out: &mut [u8]) -> Answer
+    ensures { λ r. ⌜ CallTold (opening time (length (now (out .entry)))) r [] (now (out .entry)) (now (out .exit)) ⌝ }
+{
+    server::open(time, out)
+}
+
+// One request: the session, the account's id and password, the cartridge, the record, the time stamp and the output.
+#[no_mangle]
+pub extern "C" fn mossgoblin_request(
+    s: Session,
+    id: &[u8],
+    password: &[u8],
+    image: &mut [u8],
+    input: &[u8],
+    time: u32,
+    out: &mut [u8],
+) -> Answer
+    ensures { λ r. ⌜ CallTold (answered s (account (now (id .entry)) (now (password .entry))) (now (image .entry)) (now (input .entry)) time (length (now (out .entry)))) r (now (image .exit)) (now (out .entry)) (now (out .exit)) ⌝ }
+{
+    server::request(s, id, password, image, input, time, out)
+}
+
+// One move to tape: the session, the cartridge, a part of the stream and whether it is the last, the time stamp and the output.
+#[no_mangle]
+pub extern "C" fn mossgoblin_move_to_tape(
+    s: Session,
+    image: &mut [u8],
+    stream: &[u8],
+    last: bool,
+    time: u32,
+    out: &mut [u8],
+) -> Moved
+    ensures { λ r. ⌜ MoveTold (movedToTape s (now (image .entry)) (now (stream .entry)) last time (length (now (out .entry)))) r (now (image .exit)) [] (now (out .entry)) (now (out .exit)) ⌝ }
+{
+    events::move_to_tape(s, image, stream, last, time, out)
+}
+
+// One move from tape: the session, the cartridge, which is only read, the destination, the time stamp and the output.
+#[no_mangle]
+pub extern "C" fn mossgoblin_move_from_tape(
+    s: Session,
+    image: &[u8],
+    dest: &mut [u8],
+    time: u32,
+    out: &mut [u8],
+) -> Moved
+    ensures { λ r. ⌜ MoveTold (movedFromTape s (now (image .entry)) (now (dest .entry)) time (length (now (out .entry)))) r (now (image .entry)) (now (dest .exit)) (now (out .entry)) (now (out .exit)) ⌝ }
+{
+    events::move_from_tape(s, image, dest, time, out)
+}
+
+// The end of the method that reads or writes the stream, in success or not.
+#[no_mangle]
+pub extern "C" fn mossgoblin_end_method(s: Session, ok: bool, time: u32, out: &mut [u8]) -> Answer
+    ensures { λ r. ⌜ CallTold (methodEnded s ok time (length (now (out .entry))) .answer) r [] (now (out .entry)) (now (out .exit)) ⌝ }
+{
+    events::end_method(s, ok, time, out)
+}
