@@ -1,74 +1,37 @@
 //! Compares the proved tape operations with the same in plain Rust: first what they give, then how long they take.
+mod common;
 mod plain;
 mod proved;
+mod tape;
 
 use std::collections::BTreeMap;
 use std::hint::black_box;
-use std::time::{Duration, Instant};
 
+use common::{RECORD, Random, head, image, medians, row, timed};
 use proved::Wrote;
 
-const RECORD: usize = 32768;
 const BSR: u32 = 3;
-
-/// An image with the given entries and body length; bytes that nothing wrote follow a pattern.
-fn image(capacity: usize, lens: &[usize], body: usize) -> Vec<u8> {
-    let mut words = vec![1, capacity, lens.len(), lens.iter().sum()];
-    let mut start = 0;
-    for len in lens {
-        words.extend([*len, start]);
-        start += len;
-    }
-    let mut v: Vec<u8> = words.iter().flat_map(|w| (*w as u32).to_be_bytes()).collect();
-    let n = 16 + capacity * 8 + body;
-    v.extend((v.len()..n).map(|i| (i * 7 + i / 251) as u8));
-    v
-}
 
 // ---- do both give the same?
 
-struct Random(u64);
-
-impl Random {
-    fn below(&mut self, n: usize) -> usize {
-        self.0 ^= self.0 << 13;
-        self.0 ^= self.0 >> 7;
-        self.0 ^= self.0 << 17;
-        (self.0 >> 16) as usize % n
-    }
-
-    fn one<T: Copy>(&mut self, of: &[T]) -> T {
-        of[self.below(of.len())]
-    }
-
-    fn image(&mut self) -> Vec<u8> {
-        let capacity = 1 + self.below(12);
-        let lens: Vec<usize> = (0..self.below(capacity + 1))
-            .map(|_| match self.below(8) {
-                0..=2 => 0,
-                3 => RECORD,
-                _ => 1 + self.below(60),
-            })
-            .collect();
-        let room = self.one(&[0, 20, 100, 2 * RECORD]);
-        let mut v = image(capacity, &lens, lens.iter().sum::<usize>() + room);
-        match self.below(6) {
-            // one wrong bit or byte in the header or the table, or an end too soon
-            0 => v[self.below(16)] ^= 1,
-            1 => {
-                let n = 16 + 8 * lens.len();
-                v[self.below(n)] = self.below(256) as u8
-            }
-            2 => v.truncate(self.below(v.len())),
-            _ => {}
-        }
-        v
-    }
+fn random_image(random: &mut Random) -> Vec<u8> {
+    let capacity = 1 + random.below(12);
+    let lens: Vec<usize> = (0..random.below(capacity + 1))
+        .map(|_| match random.below(8) {
+            0..=2 => 0,
+            3 => RECORD,
+            _ => 1 + random.below(60),
+        })
+        .collect();
+    let room = random.one(&[0, 20, 100, 2 * RECORD]);
+    let mut v = image(capacity, &lens, lens.iter().sum::<usize>() + room);
+    random.damage(&mut v, lens.len());
+    v
 }
 
 /// Runs both on copies of the same image and the same buffer, and stops at the first difference.
 fn same(seen: &mut BTreeMap<(&'static str, u32), u32>, random: &mut Random) {
-    let mut image = random.image();
+    let mut image = random_image(random);
     let was = plain::sound(&image);
     assert_eq!(proved::sound(&image), was, "sound differs");
     assert_eq!(plain::sound_by_index(&image), was, "sound by index differs");
@@ -208,45 +171,11 @@ const READ: [Kind; 3] = [
     },
 ];
 
-/// The kinds in turn, in changing order, after a warm-up: the median time of each, in nanoseconds.
-fn medians(bed: &mut Bed, kinds: &[Kind], rounds: usize) -> Vec<f64> {
-    let begun = Instant::now();
-    while begun.elapsed() < Duration::from_millis(300) {
-        for kind in kinds {
-            let at = bed.rewind();
-            kind(bed, at);
-        }
-    }
-    let n = kinds.len();
-    let mut times = vec![Vec::new(); n];
-    for round in 0..rounds {
-        for k in 0..n {
-            let k = if round / n % 2 == 0 { (round + k) % n } else { (round + n - k) % n };
-            let at = bed.rewind();
-            let begun = Instant::now();
-            kinds[k](bed, at);
-            times[k].push(begun.elapsed().as_nanos() as f64);
-        }
-    }
-    times
-        .iter_mut()
-        .map(|t| {
-            t.sort_by(f64::total_cmp);
-            t[t.len() / 2]
-        })
-        .collect()
-}
-
-fn row(what: &str, calls: usize, proved: f64, plain: f64, copy: f64) {
-    let each = |t: f64| t / calls as f64 / 1000.0;
-    println!(
-        "{what:50}{:8.2}{:8.2}{:8.2}{:14.2}{:15.2}",
-        each(proved),
-        each(plain),
-        each(copy),
-        proved / plain,
-        proved / copy
-    );
+fn in_turn(bed: &mut Bed, kinds: &[Kind], rounds: usize) -> Vec<f64> {
+    medians(kinds.len(), rounds, |k| {
+        let at = bed.rewind();
+        timed(|| kinds[k](bed, at))
+    })
 }
 
 /// On the inputs that are measured, every kind leaves the same image and the same buffer.
@@ -268,19 +197,19 @@ fn compare_bed(bed: &mut Bed) {
 
 fn measure() {
     println!();
-    println!("{:50}{:>8}{:>8}{:>8}{:>14}{:>15}", "microseconds a call, medians", "proved", "plain", "memcpy", "proved/plain", "proved/memcpy");
+    head();
     let mut few = Bed::new(0, 16);
     let mut many = Bed::new(4080, 16);
     let mut whole = Bed::new(0, 4096);
     for bed in [&mut few, &mut many, &mut whole] {
         compare_bed(bed);
     }
-    let t = medians(&mut many, &SOUND, 2000);
+    let t = in_turn(&mut many, &SOUND, 2000);
     row("sound, 4,096 entries", 1, t[0], t[1], t[3]);
     row("  the same, plain Rust by index", 1, t[0], t[2], t[3]);
     for (what, kinds) in [("write", &WRITE), ("read", &READ)] {
         for (where_, bed, rounds) in [("16 entries", &mut few, 1000), ("4,096 entries", &mut many, 500), ("a whole tape, 4,096 records", &mut whole, 41)] {
-            let t = medians(bed, kinds, rounds);
+            let t = in_turn(bed, kinds, rounds);
             row(&format!("{what} 32,768 bytes, {where_}"), bed.count, t[0], t[1], t[2]);
         }
     }

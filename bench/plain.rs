@@ -1,49 +1,8 @@
 //! The same rules in plain Rust, with bounds checks: what the proved code is compared with.
+use crate::common::RECORD;
 use crate::proved::{Part, Spaced, Wrote};
-
-const RECORD: usize = 32768;
-
-fn word(s: &[u8], at: usize) -> usize {
-    u32::from_be_bytes(s[at..at + 4].try_into().unwrap()) as usize
-}
-
-fn put(s: &mut [u8], at: usize, v: usize) {
-    s[at..at + 4].copy_from_slice(&(v as u32).to_be_bytes());
-}
-
-struct Header {
-    entries: usize,
-    used: usize,
-}
-
-fn header(image: &[u8]) -> Option<Header> {
-    if image.len() < 16 {
-        return None;
-    }
-    let (capacity, entries, used) = (word(image, 4), word(image, 8), word(image, 12));
-    if word(image, 0) != 1 || !(1..=4096).contains(&capacity) || entries > capacity {
-        return None;
-    }
-    let body = image.len().checked_sub(16 + capacity * 8)?;
-    if body > 134_217_728 || used > body {
-        return None;
-    }
-    Some(Header { entries, used })
-}
-
-#[inline(never)]
-pub fn sound(image: &[u8]) -> bool {
-    let Some(h) = header(image) else { return false };
-    let mut sum = 0;
-    for entry in image[16..16 + h.entries * 8].chunks_exact(8) {
-        let (len, start) = (word(entry, 0), word(entry, 4));
-        if len > RECORD || start != sum {
-            return false;
-        }
-        sum += len;
-    }
-    sum == h.used
-}
+pub use crate::tape::sound;
+use crate::tape::{faulty, header, kept, put_entry, word};
 
 /// `sound` with each word read by its index, which is checked.
 #[inline(never)]
@@ -58,21 +17,6 @@ pub fn sound_by_index(image: &[u8]) -> bool {
         sum += len;
     }
     sum == h.used
-}
-
-fn faulty(image: &[u8], position: usize) -> bool {
-    !sound(image) || word(image, 8) < position
-}
-
-fn kept(image: &[u8], position: usize) -> usize {
-    if position < word(image, 8) { word(image, 20 + position * 8) } else { word(image, 12) }
-}
-
-fn put_entry(image: &mut [u8], position: usize, keep: usize, len: usize) {
-    put(image, 8, position + 1);
-    put(image, 12, keep + len);
-    put(image, 16 + position * 8, len);
-    put(image, 20 + position * 8, keep);
 }
 
 #[inline(never)]
