@@ -358,9 +358,9 @@ fn compare_bed(bed: &mut Bed) {
     }
 }
 
-/// The whole tape again and again, in pieces that the kinds take in turn. The first pass is the warm-up. Gives the sum of the medians of
-/// the pieces, and the sum of all times.
-fn passes(bed: &mut Bed, mode: u32, kinds: &[Kind; 3], times: usize) -> [(f64, f64); 3] {
+/// The whole tape again and again, in pieces that the kinds take in turn: the sum of the medians of the pieces, in nanoseconds. The first
+/// pass is the warm-up.
+fn passes(bed: &mut Bed, mode: u32, kinds: &[Kind; 3], times: usize) -> [f64; 3] {
     const PIECE: usize = 256;
     let pieces = bed.count / PIECE;
     let mut taken = vec![vec![Vec::new(); pieces]; 3];
@@ -377,16 +377,14 @@ fn passes(bed: &mut Bed, mode: u32, kinds: &[Kind; 3], times: usize) -> [(f64, f
         }
         bed.meet_end(mode);
     }
-    [0, 1, 2].map(|k| {
-        let total = taken[k].iter().flatten().sum();
-        (taken[k].iter_mut().map(|t| median(t)).sum(), total)
-    })
+    [0, 1, 2].map(|k| taken[k].iter_mut().map(|t| median(t)).sum())
 }
 
 fn measure() {
     println!();
     head();
-    for (mode, kinds, what) in [(TO_TAPE, &TO, "to tape"), (FROM_TAPE, &FROM, "from tape")] {
+    let ways = [(TO_TAPE, &TO, "to tape"), (FROM_TAPE, &FROM, "from tape")];
+    for (mode, kinds, what) in ways {
         for (entries, named) in [(16, "16"), (256, "256"), (4096, "4,096")] {
             let mut bed = Bed::new(entries - 16, 16);
             compare_bed(&mut bed);
@@ -400,15 +398,15 @@ fn measure() {
     }
     let mut whole = Bed::new(0, 4096);
     compare_bed(&mut whole);
-    let mut seconds = Vec::new();
-    for (mode, kinds, what) in [(TO_TAPE, &TO, "to tape"), (FROM_TAPE, &FROM, "from tape")] {
-        let [proved, plain, copy] = passes(&mut whole, mode, kinds, 8);
-        row(&format!("{what}, 1 GiB, eight tapes of 4,096 records"), whole.count, proved.0, plain.0, copy.0);
-        let [a, b, c] = [proved.1, plain.1, copy.1].map(|t| t / 1e9);
-        seconds.push(format!("{what}, 1 GiB in all: proved {a:.3} s, plain {b:.3} s, memcpy {c:.3} s; proved/plain {:.2}", a / b));
+    let mut rates = Vec::new();
+    for (mode, kinds, what) in ways {
+        let t = passes(&mut whole, mode, kinds, 8);
+        row(&format!("{what}, 1 GiB, eight tapes of 4,096 records"), whole.count, t[0], t[1], t[2]);
+        let [proved, plain, copy] = t.map(|t| (whole.count * RECORD) as f64 / t * 1e9 / (1 << 30) as f64);
+        rates.push(format!("{what}, 1 GiB: proved {proved:.1}, plain {plain:.1}, memcpy {copy:.1} GiB a second"));
     }
     println!();
-    seconds.iter().for_each(|line| println!("{line}"));
+    rates.iter().for_each(|line| println!("{line}"));
     measure_idle();
 }
 

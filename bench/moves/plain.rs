@@ -140,16 +140,15 @@ enum Found {
     End(usize),
 }
 
-fn walk(image: &[u8], origin: usize, mut records: u64) -> Found {
+fn walk(image: &[u8], origin: usize, records: u64) -> Found {
     let n = word(image, 8);
-    for at in origin..n {
-        if word(image, 16 + at * 8) == 0 {
-            return Found::Mark(at + 1);
+    for (passed, entry) in image[16 + origin * 8..16 + n * 8].chunks_exact(8).enumerate() {
+        if word(entry, 0) == 0 {
+            return Found::Mark(origin + passed + 1);
         }
-        if records == 0 {
-            return Found::Target(at);
+        if passed as u64 == records {
+            return Found::Target(origin + passed);
         }
-        records -= 1;
     }
     Found::End(n)
 }
