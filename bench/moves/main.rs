@@ -2,6 +2,8 @@
 #[path = "../common.rs"]
 mod common;
 mod plain;
+#[path = "../../host/src/proved.rs"]
+#[allow(dead_code)]
 mod proved;
 #[path = "../tape.rs"]
 mod tape;

@@ -16,7 +16,7 @@ use Rattle.replies.specs.declared.Notice.{Notice}
 use Rattle.replies.specs.Replies.{replyBytes, noticeBytes}
 use Rattle.session.specs.declared.types.Session.{Session}
 use Rattle.session.specs.Answer.{Answered, replied, counted, silent, replying, noticed}
-use Rattle.answering.specs.declared.Answer.{Answer}
+use Rattle.session.specs.declared.types.Answer.{Answer}
 use Rattle.answering.specs.Call.{CallTold}
 
 -- a reply

@@ -5,7 +5,7 @@ use mathlib.Core.Path.{_≡_}
 use lib.ListN.{length}
 use Rattle.xdr.specs.Xdr.{overlay}
 use Rattle.session.specs.Answer.{Answered}
-use Rattle.answering.specs.declared.Answer.{Answer}
+use Rattle.session.specs.declared.types.Answer.{Answer}
 
 -- "Bytes of the output after the answer stay": what is sent is written at the output's start, and nothing else
 pub record CallTold (a : Answered) (r : Answer) (image′ out out′ : List ℕ) : Type 0 where

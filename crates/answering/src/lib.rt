@@ -8,19 +8,12 @@ ghost use Rattle.session.specs.Answer.{Answered, bump, withParts, silent, closi
 ghost use Rattle.answering.specs.Call.{CallTold, Ready};
 use replies::Notice;
 use replies::Reply;
+use session::types::Answer;
 use session::types::Changer;
 use session::types::Data;
 use session::types::Mover;
 use session::types::Session;
 use session::types::Tape;
-
-// What a call returns: 0, 1001 or 1002; how many bytes of the output were written; and the next session.
-#[repr(C)]
-pub struct Answer {
-    pub code: u32,
-    pub len: usize,
-    pub session: Session,
-}
 
 // The session after one message sent, with the first-request mark as told.
 fn after_message(s: Session, first: bool) -> Session

@@ -7,8 +7,8 @@ ghost use Rattle.answering.specs.Call.{CallTold};
 ghost use Rattle.server.specs.Call.{account};
 ghost use Rattle.moves.specs.Events.{movedToTape, movedFromTape, methodEnded};
 ghost use Rattle.events.specs.Told.{MoveTold};
-use answering::Answer;
-use events::Moved;
+use session::types::Answer;
+use session::types::Moved;
 use session::types::Session;
 
 // A new session.

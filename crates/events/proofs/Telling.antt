@@ -4,12 +4,12 @@ use mathlib.Core.Bool.{Bool, true, false}
 use mathlib.Core.List.{List}
 use mathlib.Core.Path.{_≡_}
 use Rattle.xdr.specs.Choose.{choose}
-use Rattle.answering.specs.declared.Answer.{Answer}
+use Rattle.session.specs.declared.types.Answer.{Answer}
 use Rattle.answering.specs.Call.{CallTold}
 use Rattle.session.specs.declared.types.Session.{Session}
 use Rattle.moves.specs.declared.Move.{Move}
 use Rattle.moves.specs.Events.{Moving, moved}
-use Rattle.events.specs.declared.Moved.{Moved}
+use Rattle.session.specs.declared.types.Moved.{Moved}
 use Rattle.events.specs.Told.{MoveTold}
 
 pub moved-if : {b : Bool} {x : Moving} (y : Moving) {r : Moved} {image dest l l′ : List ℕ} → b ≡ true → MoveTold x r image dest l l′ → MoveTold (choose b x y) r image dest l l′

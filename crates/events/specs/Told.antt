@@ -2,10 +2,10 @@
 use Prim.Native.Nat.{ℕ}
 use mathlib.Core.List.{List}
 use mathlib.Core.Path.{_≡_}
-use Rattle.answering.specs.declared.Answer.{Answer}
+use Rattle.session.specs.declared.types.Answer.{Answer}
 use Rattle.answering.specs.Call.{CallTold}
 use Rattle.moves.specs.Events.{Moving}
-use Rattle.events.specs.declared.Moved.{Moved}
+use Rattle.session.specs.declared.types.Moved.{Moved}
 
 -- what every call returns of it
 abbrev pub answerOf : Moved → Answer

@@ -8,22 +8,14 @@ ghost use Rattle.session.specs.Relation.{keeps};
 ghost use Rattle.answering.specs.Call.{CallTold};
 ghost use Rattle.moves.specs.Events.{idling, announced, moved, feeding, handing, movedToTape, movedFromTape, methodEnded};
 ghost use Rattle.events.specs.Told.{MoveTold};
-use answering::Answer;
 use moves::Move;
 use replies::Notice;
+use session::types::Answer;
 use session::types::Data;
+use session::types::Moved;
 use session::types::Mover;
 use session::types::Session;
 use session::types::Tape;
-
-// What a move returns: 0, 1001 or 1002; the bytes taken or handed over; how many bytes of the output were written; and the next session.
-#[repr(C)]
-pub struct Moved {
-    pub code: u32,
-    pub count: usize,
-    pub len: usize,
-    pub session: Session,
-}
 
 // The session with a move's parts, and the notices of what it came to: data first, mover second.
 fn announce(s: Session, mv: Move, time: u32, out: &mut [u8]) -> Answer

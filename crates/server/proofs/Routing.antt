@@ -52,7 +52,7 @@ use Rattle.session.specs.Answer.{Answered, Service, DataService, TapeService, S
 use Rattle.session.proofs.Serving.{told-same}
 use Rattle.session.proofs.Calls.{unhandled-at}
 use Rattle.session.proofs.Sending.{data-sendable, tape-sendable, scsi-sendable, joint-sendable, config-sendable}
-use Rattle.answering.specs.declared.Answer.{Answer}
+use Rattle.session.specs.declared.types.Answer.{Answer}
 use Rattle.answering.specs.Call.{CallTold}
 use Rattle.server.specs.Call.{authorizing, controlled}
 

@@ -20,7 +20,7 @@ ghost use Rattle.session.specs.Calls.{opening};
 ghost use Rattle.joint_service.specs.Done.{endsOf};
 ghost use Rattle.answering.specs.Call.{CallTold, Ready};
 ghost use Rattle.server.specs.Call.{account, authorizing, controlled};
-use answering::Answer;
+use session::types::Answer;
 use data_service::DataDone;
 use frame::ConfigKind;
 use frame::ConnectKind;

@@ -9,8 +9,10 @@ ghost use Rattle.session.specs.Calls.{CallsKeep};
 
 pub mod types;
 
+pub use types::Answer;
 pub use types::Changer;
 pub use types::Data;
+pub use types::Moved;
 pub use types::Mover;
 pub use types::Session;
 pub use types::Tape;

@@ -1,4 +1,5 @@
-// The session and its parts, by value. This file holds nothing but the declarations, so that a host in Rust can include it as it is.
+// The session and its parts, and what calls return, by value. This file holds nothing but the declarations, so that a host in Rust can include
+// it as it is.
 
 // The data end. The reason is why it halted; processed counts the stream's bytes.
 #[repr(C)]
@@ -52,4 +53,21 @@ pub struct Session {
     pub mover: Mover,
     pub tape: Tape,
     pub changer: Changer,
+}
+
+// What a call returns: 0, 1001 or 1002; how many bytes of the output were written; and the next session.
+#[repr(C)]
+pub struct Answer {
+    pub code: u32,
+    pub len: usize,
+    pub session: Session,
+}
+
+// What a move returns: 0, 1001 or 1002; the bytes taken or handed over; how many bytes of the output were written; and the next session.
+#[repr(C)]
+pub struct Moved {
+    pub code: u32,
+    pub count: usize,
+    pub len: usize,
+    pub session: Session,
 }

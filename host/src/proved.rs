@@ -1,5 +1,5 @@
-//! The proved calls. The session's parts are the declarations of crates/session; nothing checks the other two structs and the functions
-//! against crates/capi, but the comparison in main.rs does.
+//! The proved calls, for a host in Rust. The structs are the declarations of crates/session as they stand; that the functions below are those of
+//! crates/capi is checked by nothing but the tests that call them.
 
 mod types {
     include!("../../crates/session/src/types.rt");
@@ -7,7 +7,7 @@ mod types {
 
 use std::fmt;
 
-pub use types::{Changer, Data, Mover, Session, Tape};
+pub use types::{Answer, Changer, Data, Moved, Mover, Session, Tape};
 
 /// The declarations hold nothing that Rust could derive from, so what is needed of them stands here, field by field.
 macro_rules! by_value {
@@ -38,27 +38,26 @@ by_value! {
     Tape { opened, writable, position }
     Changer { opened, pending }
     Session { closed, first, authorized, sequence, source, mover, tape, changer }
-}
-
-#[repr(C)]
-#[derive(Clone, Copy, Debug, PartialEq)]
-pub struct Answer {
-    pub code: u32,
-    pub len: usize,
-    pub session: Session,
-}
-
-#[repr(C)]
-#[derive(Clone, Copy, Debug, PartialEq)]
-pub struct Moved {
-    pub code: u32,
-    pub count: usize,
-    pub len: usize,
-    pub session: Session,
+    Answer { code, len, session }
+    Moved { code, count, len, session }
 }
 
 unsafe extern "C" {
     fn mossgoblin_open(time: u32, out: *mut u8, n: usize) -> Answer;
+    fn mossgoblin_request(
+        s: Session,
+        id: *const u8,
+        id_len: usize,
+        password: *const u8,
+        password_len: usize,
+        image: *mut u8,
+        n: usize,
+        input: *const u8,
+        m: usize,
+        time: u32,
+        out: *mut u8,
+        k: usize,
+    ) -> Answer;
     fn mossgoblin_move_to_tape(
         s: Session,
         image: *mut u8,
@@ -74,10 +73,29 @@ unsafe extern "C" {
     fn mossgoblin_end_method(s: Session, ok: bool, time: u32, out: *mut u8, n: usize) -> Answer;
 }
 
-// Safety, of all four: the slices are whole and apart, and the functions ask for nothing else.
+// Safety, of all five: the slices are whole and apart, and the functions ask for nothing else.
 
 pub fn open(time: u32, out: &mut [u8]) -> Answer {
     unsafe { mossgoblin_open(time, out.as_mut_ptr(), out.len()) }
+}
+
+pub fn request(s: Session, id: &[u8], password: &[u8], image: &mut [u8], input: &[u8], time: u32, out: &mut [u8]) -> Answer {
+    unsafe {
+        mossgoblin_request(
+            s,
+            id.as_ptr(),
+            id.len(),
+            password.as_ptr(),
+            password.len(),
+            image.as_mut_ptr(),
+            image.len(),
+            input.as_ptr(),
+            input.len(),
+            time,
+            out.as_mut_ptr(),
+            out.len(),
+        )
+    }
 }
 
 pub fn move_to_tape(s: Session, image: &mut [u8], stream: &[u8], last: bool, time: u32, out: &mut [u8]) -> Moved {
