@@ -1,0 +1,122 @@
+/* The session core of a tape vault that speaks NDMP version 4: five calls, as C functions of the static library `capi` (`rt staticlib capi`).
+ *
+ * No call asks anything of its caller but that each pointer leads to as many bytes as the length beside it says (a length of 0 may have any
+ * pointer), and that no two buffers of a call overlap where one of them is written: image, out and dest are written. Whatever the bytes are, there is
+ * an answer. A call keeps nothing: the session goes in and comes back by value, and the buffers are the caller's again when it returns.
+ *
+ * The code of every call is 0, 1001 or 1002, and comes before all else:
+ *   1001  the output is shorter than MOSSGOBLIN_OUTPUT bytes
+ *   1002  the session breaks the relation of docs/RELATION.md; no session that these calls give does
+ * With 1001 and 1002 nothing is written and nothing changes: the session comes back as it went in.
+ * On a closed session the code is 0, and nothing is written, moved or changed.
+ *
+ * `len` is how many bytes stand at the output's start: a reply and the notices behind it, or nothing. They are to be sent to the client as they are. The bytes
+ * behind them stay as they were. `time` is the time stamp that they carry, in seconds since 1970. The words of records and of the image are
+ * big-endian (RFC 4506). */
+#ifndef MOSSGOBLIN_H
+#define MOSSGOBLIN_H
+
+#include <stdbool.h>
+#include <stddef.h>
+#include <stdint.h>
+
+#ifdef __cplusplus
+extern "C" {
+#endif
+
+/* The least length of an output. */
+#define MOSSGOBLIN_OUTPUT 36864
+
+/* The data end. State: 0 IDLE, 1 ACTIVE, 2 HALTED, 3 LISTEN, 4 CONNECTED. Operation: 0 none, 1 backup, 2 recover. */
+struct mossgoblin_data {
+    uint32_t state;
+    uint32_t operation;
+    uint32_t reason;
+    uint64_t processed;
+};
+
+/* The mover. State: 0 IDLE, 1 LISTEN, 2 ACTIVE, 3 PAUSED, 4 HALTED. Mode: 0 to tape, 1 from tape, 2 none. A window of length 0 is none. */
+struct mossgoblin_mover {
+    uint32_t state;
+    uint32_t mode;
+    uint32_t pause;
+    uint32_t halt;
+    uint32_t size;
+    uint64_t offset;
+    uint64_t length;
+    uint64_t moved;
+    uint64_t seek;
+    uint64_t left;
+    size_t origin;
+};
+
+/* The tape; position counts the entries before it. */
+struct mossgoblin_tape {
+    bool opened;
+    bool writable;
+    size_t position;
+};
+
+/* The changer; pending is whether a sense is pending. */
+struct mossgoblin_changer {
+    bool opened;
+    bool pending;
+};
+
+/* A session. Its fields may be read; a session is to be made by mossgoblin_open, and handed from call to call. */
+struct mossgoblin_session {
+    bool closed;
+    bool first;
+    bool authorized;
+    uint32_t sequence;
+    struct mossgoblin_data source;
+    struct mossgoblin_mover mover;
+    struct mossgoblin_tape tape;
+    struct mossgoblin_changer changer;
+};
+
+/* What a call returns. */
+struct mossgoblin_answer {
+    uint32_t code;
+    size_t len;
+    struct mossgoblin_session session;
+};
+
+/* What a move returns; count is how many bytes were taken or handed over. */
+struct mossgoblin_moved {
+    uint32_t code;
+    size_t count;
+    size_t len;
+    struct mossgoblin_session session;
+};
+
+/* A new session. The notice of the connection status is written to the output, as message number 1. With 1001 the session that comes back is closed. */
+struct mossgoblin_answer mossgoblin_open(uint32_t time, uint8_t *out, size_t out_len);
+
+/* One request: `input` is one whole record, the mark with it, of any bytes. `id` and `password` are the account that a text login is compared with. The image
+ * changes only by a tape write or written marks. A badly framed record closes the session without a reply, and so does an accepted CONNECT close; a
+ * message that is no request is ignored. Everything else is answered: one reply, then its notices. */
+struct mossgoblin_answer mossgoblin_request(struct mossgoblin_session session, const uint8_t *id, size_t id_len, const uint8_t *password,
+                                            size_t password_len, uint8_t *image, size_t image_len, const uint8_t *input, size_t input_len,
+                                            uint32_t time, uint8_t *out, size_t out_len);
+
+/* One move to tape, in a backup: `stream` is what waits of the stream, `last` whether nothing will follow it. At most one record is written to the image, and `count` bytes
+ * of the stream are taken from its front. At the window's end or where the tape is full the mover pauses; an empty last part, or a damaged image, halts both ends.
+ * Otherwise, and in any other state, nothing happens. A pause and a halt send their notices. */
+struct mossgoblin_moved mossgoblin_move_to_tape(struct mossgoblin_session session, uint8_t *image, size_t image_len, const uint8_t *stream,
+                                                size_t stream_len, bool last, uint32_t time, uint8_t *out, size_t out_len);
+
+/* One move from tape, in a recover: of the record that the seek position is in, `count` bytes are written to the front of `dest`; its other bytes stay. The image is only read.
+ * Outside the window, at a mark and at the tape's end the mover pauses; a damaged image or a record of another size halts both ends. With nothing left to read, no room, and in
+ * any other state, nothing happens. */
+struct mossgoblin_moved mossgoblin_move_from_tape(struct mossgoblin_session session, const uint8_t *image, size_t image_len, uint8_t *dest,
+                                                  size_t dest_len, uint32_t time, uint8_t *out, size_t out_len);
+
+/* The end of the method that makes or takes the stream, in success or not: while the data end is ACTIVE both ends halt, with their notices; otherwise nothing happens. */
+struct mossgoblin_answer mossgoblin_end_method(struct mossgoblin_session session, bool ok, uint32_t time, uint8_t *out, size_t out_len);
+
+#ifdef __cplusplus
+}
+#endif
+
+#endif
