@@ -74,27 +74,18 @@ wrap-more a b c = omega arith
 wrap-none : (a b : ℕ) → wrapped (a + b) ≡ wrapped (a + (0 + b))
 wrap-none a b = omega arith
 
-moved-after : (r : Register) (x : Seen) (k : ℕ) → Moves x → wrapped (after r x .moved + k) ≡ wrapped (r .moved + (movedBy x + k))
-unfolding after movedBy
-moved-after r (Wrote n j) k i = wrap-more (r .moved) n k
-moved-after r (Handed a j) k i = wrap-more (r .moved) j k
-moved-after r Paused k i = wrap-none (r .moved) k
-moved-after r Nothing k i = wrap-none (r .moved) k
-moved-after r (Sized n) k i = absurd i
-moved-after r (Windowed o n) k i = absurd i
-moved-after r MoverStopped k i = absurd i
-moved-after r DataStopped k i = absurd i
-
-processed-after : (r : Register) (x : Seen) (k : ℕ) → Moves x → wrapped (after r x .processed + k) ≡ wrapped (r .processed + (countOf x + k))
-unfolding after countOf
-processed-after r (Wrote n j) k i = wrap-more (r .processed) j k
-processed-after r (Handed a j) k i = wrap-more (r .processed) j k
-processed-after r Paused k i = wrap-none (r .processed) k
-processed-after r Nothing k i = wrap-none (r .processed) k
-processed-after r (Sized n) k i = absurd i
-processed-after r (Windowed o n) k i = absurd i
-processed-after r MoverStopped k i = absurd i
-processed-after r DataStopped k i = absurd i
+-- one more seen, before what is still to be added
+counts-after : (r : Register) (x : Seen) (j k : ℕ) → Moves x
+    → (wrapped (after r x .moved + j) ≡ wrapped (r .moved + (movedBy x + j))) × (wrapped (after r x .processed + k) ≡ wrapped (r .processed + (countOf x + k)))
+unfolding after movedBy countOf
+counts-after r (Wrote n i) j k m = (wrap-more (r .moved) n j, wrap-more (r .processed) i k)
+counts-after r (Handed a i) j k m = (wrap-more (r .moved) i j, wrap-more (r .processed) i k)
+counts-after r Paused j k m = (wrap-none (r .moved) j, wrap-none (r .processed) k)
+counts-after r Nothing j k m = (wrap-none (r .moved) j, wrap-none (r .processed) k)
+counts-after r (Sized n) j k m = absurd m
+counts-after r (Windowed o n) j k m = absurd m
+counts-after r MoverStopped j k m = absurd m
+counts-after r DataStopped j k m = absurd m
 
 counted : (w : World) → keeps (w .session) ≡ true → (es : List Event) → Each IsMove es → Counted w es
 unfolding runs trace sum
@@ -103,12 +94,12 @@ counted w h (e ∷ es) is =
     let g = goes w h e in
     let x = moves e w (is .0) in
     let c = counted (next e w) (g .kept) es (is .1) in
-    let R = registerOf (w .session) in
+    let n = counts-after (registerOf (w .session)) (seen e w) (sum movedBy (trace (next e w) es)) (sum countOf (trace (next e w) es)) x in
     let a = ap (λ (r : Register). wrapped (r .moved + sum movedBy (trace (next e w) es))) (g .register) in
     let b = ap (λ (r : Register). wrapped (r .processed + sum countOf (trace (next e w) es))) (g .register) in
     record {
-      moved = c .moved ∙ a ∙ moved-after R (seen e w) (sum movedBy (trace (next e w) es)) x;
-      processed = c .processed ∙ b ∙ processed-after R (seen e w) (sum countOf (trace (next e w) es)) x;
+      moved = c .moved ∙ a ∙ n .0;
+      processed = c .processed ∙ b ∙ n .1;
     }
 
 -- ---- records to tape
