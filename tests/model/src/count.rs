@@ -3,6 +3,7 @@
 use std::collections::BTreeMap;
 
 use crate::model::requests::HANDLED;
+use crate::proved::Session;
 use crate::script::Step;
 use crate::world::{Seen, World};
 
@@ -42,6 +43,18 @@ fn numbers(message: u32) -> &'static [u32] {
         _ => unreachable!(),
     }
 }
+
+/// Sizes and numbers at their limits.
+const EDGES: [&str; 8] = [
+    "window's end near 2^64",
+    "to tape near 2^64",
+    "from tape near 2^64",
+    "to tape, record of 32,768",
+    "from tape, record of 32,768",
+    "tape read of 32,768",
+    "tape write of 32,768",
+    "a table of 4,096 entries",
+];
 
 /// Everything that has to be reached at least once.
 pub fn wanted() -> Vec<String> {
@@ -99,6 +112,7 @@ pub fn wanted() -> Vec<String> {
     }
     all.push("open 1001".into());
     all.extend((1..=8).map(|line| format!("1002 line {line}")));
+    all.extend(EDGES.map(|e| format!("edge {e}")));
     all.extend(["counter wraps", "moved wraps", "processed wraps", "closed and 1001", "closed and 1002"].map(String::from));
     all
 }
@@ -112,7 +126,7 @@ impl Counts {
         *self.0.entry(key).or_insert(0) += 1;
     }
 
-    pub fn note(&mut self, step: &Step, seen: &Seen, before: &crate::proved::Session, world: &World) {
+    pub fn note(&mut self, step: &Step, seen: &Seen, before: &Session, world: &World) {
         let given = &seen.given;
         let call = match step {
             Step::Open { .. } => "open",
@@ -146,8 +160,34 @@ impl Counts {
                 }
             }
         }
+        self.edges(step, given.count, &given.sent, before, world);
         let pair = format!("pair {} {}", DATA[after.source.state as usize], MOVER[after.mover.state as usize]);
         self.add(if world.natural { pair } else { format!("handed in: {pair}") });
+    }
+
+    fn edges(&mut self, step: &Step, count: usize, sent: &[u8], before: &Session, world: &World) {
+        let (now, near) = (&world.session.mover, u64::MAX - (1 << 20));
+        let accepted = |message: u32| sent.len() >= 32 && word(sent, 12) == 1 && word(sent, 16) == message && word(sent, 28) == 0;
+        let moves = match step {
+            Step::To { .. } if count > 0 => [now.moved > near, count == 32_768, false],
+            Step::From { .. } if count > 0 => [now.seek > near, false, count == 32_768],
+            _ => [false; 3],
+        };
+        let to = matches!(step, Step::To { .. });
+        for (what, reached) in [
+            ("window's end near 2^64", accepted(0xa05) && now.offset + now.length > near),
+            ("to tape near 2^64", to && moves[0]),
+            ("from tape near 2^64", !to && moves[0]),
+            ("to tape, record of 32,768", moves[1]),
+            ("from tape, record of 32,768", moves[2]),
+            ("tape read of 32,768", accepted(0x305) && word(sent, 32) == 32_768),
+            ("tape write of 32,768", accepted(0x304) && word(sent, 32) == 32_768),
+            ("a table of 4,096 entries", accepted(0x303) && before.tape.position != world.session.tape.position && world.image[8..12] == [0, 0, 16, 0]),
+        ] {
+            if reached {
+                self.add(format!("edge {what}"));
+            }
+        }
     }
 
     /// Reads what was sent back: replies by number and error, notices by number and reason.
@@ -213,6 +253,7 @@ impl Counts {
             ("notices, number reason", "notice "),
             ("1002 by line of docs/RELATION.md", "1002 "),
             ("closed and", "closed and "),
+            ("at the limits", "edge "),
         ] {
             println!("{title}: {}", self.with(start));
         }

@@ -424,7 +424,7 @@ impl Driver {
         let size = self.size;
         match self.r.below(10) {
             0 | 1 => {
-                let count = self.r.pick(&[0, 1, size, size, size + 1, 32_768]);
+                let count = self.r.pick(&[0, 1, size, size, size + 1, 32_768, 32_768]);
                 self.words(0x305, &[count])
             }
             2 | 3 => {
@@ -537,7 +537,12 @@ impl Driver {
             61..=68 => self.to_tape(s),
             69..=76 => self.from_tape(s),
             77..=78 => Step::End { time: self.time(), room: self.room(), ok: self.r.percent(50) },
-            79..=82 => self.swap(),
+            79..=81 => self.swap(),
+            // Each call may be lent another account.
+            82 => {
+                let (id, password) = (self.text(12), self.text(12));
+                Step::Account(id, password)
+            }
             83..=93 => {
                 self.hand_in(w);
                 self.queue.pop_front().unwrap()

@@ -13,10 +13,10 @@ fn get(image: &[u8], word: usize) -> u32 {
 /// A sound image, most of its records of the given size. Words past the entries and bytes past the end are rubbish.
 pub fn sound(r: &mut Random, size: u32) -> Vec<u8> {
     let big = size > 2000;
-    let capacity = if r.percent(1) { 4096 } else { r.pick(&[1, 2, 3, 5, 8, 12, if big { 6 } else { 40 }]) };
+    let capacity = if r.percent(2) { 4096 } else { r.pick(&[1, 2, 3, 5, 8, 12, if big { 6 } else { 40 }]) };
     let n = match r.below(4) {
         0 => 0,
-        1 if !big && size < 50 => capacity,
+        1 | 2 if size < 50 => capacity,
         1 => capacity.min(12),
         _ => r.within(0, capacity.min(20)),
     };
@@ -58,7 +58,15 @@ pub fn sound(r: &mut Random, size: u32) -> Vec<u8> {
 pub fn damaged(r: &mut Random, size: u32) -> Vec<u8> {
     let mut image = sound(r, size);
     let n = get(&image, 2);
-    match r.below(10) {
+    match r.below(11) {
+        // A table of as many entries as may be, or of one more; all else is sound.
+        10 => {
+            let capacity = r.pick(&[4096, 4097]);
+            image = vec![0; 16 + 8 * capacity as usize + 100];
+            for (i, x) in [1, capacity, 2, 9, 9, 0, 0, 9].into_iter().enumerate() {
+                put(&mut image, i, x);
+            }
+        }
         0 => put(&mut image, 0, r.pick(&[0, 2, 0x0100_0000])),
         1 => {
             let c = get(&image, 1);

@@ -5,6 +5,7 @@ mod proved;
 
 mod convert;
 mod count;
+mod cross;
 mod drive;
 mod images;
 mod model;
@@ -12,6 +13,7 @@ mod random;
 mod script;
 mod world;
 
+use std::panic::{AssertUnwindSafe, catch_unwind};
 use std::process::ExitCode;
 use std::time::{Duration, Instant};
 
@@ -42,7 +44,13 @@ fn usage() -> ExitCode {
     ExitCode::from(2)
 }
 
+/// One step of both; a panic of the model's own arithmetic is a difference too.
+fn step(w: &mut World, step: &Step) -> Result<Option<world::Seen>, String> {
+    catch_unwind(AssertUnwindSafe(|| w.step(step))).unwrap_or_else(|_| Err("the model panicked".into()))
+}
+
 fn run(calls: u64, seed: u64) -> ExitCode {
+    std::panic::set_hook(Box::new(|_| {}));
     let began = Instant::now();
     let mut counts = count::Counts::default();
     let mut driver = drive::Driver::new(seed);
@@ -58,7 +66,7 @@ fn run(calls: u64, seed: u64) -> ExitCode {
             let Some(step) = ahead.pop().or_else(|| driver.next(&w)) else { break };
             steps.push(step.clone());
             let before = w.session;
-            match w.step(&step) {
+            match self::step(&mut w, &step) {
                 Err(what) => return differs(steps, &what, made, seed),
                 Ok(None) => {}
                 Ok(Some(seen)) => {
@@ -71,14 +79,38 @@ fn run(calls: u64, seed: u64) -> ExitCode {
     for steps in large() {
         let mut w = World::new();
         for (i, step) in steps.iter().enumerate() {
-            if let Err(what) = w.step(step) {
+            if let Err(what) = self::step(&mut w, step) {
                 return differs(steps[..=i].to_vec(), &what, made, seed);
             }
             made += step.is_call() as u64;
         }
     }
+    let (mut crossed, mut kept) = (0u64, 0u64);
+    let mut found = None;
+    let mut w = World::new();
+    (w.id, w.password) = (b"id".to_vec(), b"word".to_vec());
+    cross::all(|image, session, call| {
+        w.session = *session;
+        w.image.clear();
+        w.image.extend(image);
+        crossed += 1;
+        let what = match step(&mut w, call) {
+            Ok(seen) => {
+                kept += seen.is_some_and(|s| s.given.code == 0) as u64;
+                return true;
+            }
+            Err(what) => what,
+        };
+        let account = Step::Account(w.id.clone(), w.password.clone());
+        found = Some((vec![account, Step::Image(image.to_vec()), Step::Session(*session), call.clone()], what));
+        false
+    });
+    if let Some((steps, what)) = found {
+        return differs(steps, &what, made + crossed, seed);
+    }
     counts.print();
-    println!("{made} calls in {sessions} sessions, {:.1} seconds, seed {seed}: no difference", began.elapsed().as_secs_f64());
+    println!("crossed: {crossed} calls, {kept} of them on sessions that keep the relation");
+    println!("{made} calls in {sessions} sessions and {crossed} crossed, {:.1} seconds, seed {seed}: no difference", began.elapsed().as_secs_f64());
     let missing = counts.missing();
     if missing.is_empty() {
         println!("all {} listed cases were reached", count::wanted().len());
@@ -115,7 +147,7 @@ fn large() -> Vec<Vec<Step>> {
 
 fn first_difference(steps: &[Step]) -> Option<(usize, String)> {
     let mut w = World::new();
-    steps.iter().enumerate().find_map(|(i, step)| w.step(step).err().map(|what| (i, what)))
+    steps.iter().enumerate().find_map(|(i, s)| step(&mut w, s).err().map(|what| (i, what)))
 }
 
 /// Leaves out what the difference does not need, and writes the rest down.
@@ -166,7 +198,7 @@ fn replay(file: &str) -> ExitCode {
             eprintln!("{file}, line {}: not a step", i + 1);
             return ExitCode::from(2);
         };
-        match w.step(&step) {
+        match self::step(&mut w, &step) {
             Err(what) => {
                 println!("line {}: DIFFERENCE\n{what}", i + 1);
                 return ExitCode::FAILURE;
