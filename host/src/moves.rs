@@ -1,0 +1,174 @@
+//! The stream's bytes: from the folder or file to tape, and back. A step moves some of them; between two steps the client is heard.
+use crate::proved;
+use crate::records;
+use crate::restore::Target;
+use crate::session::{Line, image, seconds};
+use crate::stream::Stream;
+
+/// Bytes of one step. The file on disk follows after each step, and before any notice is sent.
+const STEP: usize = 4 << 20;
+/// A record is not longer.
+const RECORD: usize = 32_768;
+
+const DATA_ACTIVE: u32 = 1;
+const BACKUP: u32 = 1;
+const MOVER_ACTIVE: u32 = 2;
+const TO_TAPE: u32 = 0;
+const FROM_TAPE: u32 = 1;
+const MOVER_PAUSED: u32 = 3;
+const END_OF_TAPE: u32 = 1;
+const MARK: u32 = 2;
+
+/// What data's method works on while it is ACTIVE.
+pub enum Job {
+    Backup(Stream),
+    Recover(Recover),
+}
+
+pub struct Recover {
+    target: Target,
+    dest: Vec<u8>,
+    /// Whether the client gave a mover read before it started: then those bytes are the stream.
+    given: bool,
+}
+
+impl Line<'_> {
+    /// One step. False when there is nothing to do before the client's next request.
+    pub fn run(&mut self) -> Result<bool, String> {
+        if self.core.source.state != DATA_ACTIVE {
+            self.job = None;
+            return Ok(false);
+        }
+        let job = match self.job.take() {
+            Some(job) => job,
+            None => match self.begin() {
+                Ok(job) => job,
+                Err(why) => return self.fail(&why),
+            },
+        };
+        if self.core.mover.state != MOVER_ACTIVE {
+            self.job = Some(job);
+            return Ok(false);
+        }
+        match job {
+            Job::Backup(mut stream) => {
+                let moved = self.feed(&mut stream);
+                self.job = Some(Job::Backup(stream));
+                moved
+            }
+            Job::Recover(mut recover) => {
+                let moved = self.hand(&mut recover);
+                self.job = Some(Job::Recover(recover));
+                moved
+            }
+        }
+    }
+
+    fn begin(&mut self) -> Result<Job, String> {
+        if self.core.source.operation == BACKUP {
+            let path = self.shared.stream.as_ref().ok_or("nothing to back up: started without --stream")?;
+            let warn = Box::new(|text: &str| crate::progress::error(text));
+            Ok(Job::Backup(Stream::open(path, warn).map_err(|e| format!("{}: {e}", path.display()))?))
+        } else {
+            let path = self.shared.restore_to.as_ref().ok_or("nowhere to restore: started without --restore-to")?;
+            let target = Target::open(path).map_err(|e| format!("{}: {e}", path.display()))?;
+            Ok(Job::Recover(Recover { target, dest: vec![0; RECORD], given: self.core.mover.left > 0 }))
+        }
+    }
+
+    /// A step of a backup.
+    fn feed(&mut self, stream: &mut Stream) -> Result<bool, String> {
+        if self.core.mover.mode != TO_TAPE {
+            return Ok(false);
+        }
+        let mut moved = 0;
+        while moved < STEP {
+            let (part, last) = match stream.part(self.core.mover.size as usize) {
+                Ok(part) => part,
+                Err(e) => return self.fail(&e.to_string()),
+            };
+            let before = self.core.tape.position;
+            let done = proved::move_to_tape(self.core, image(&mut self.held), part, last, seconds(), &mut self.out);
+            stream.taken(done.count);
+            self.became(done.code, done.session, Some(before))?;
+            moved += done.count;
+            if done.len > 0 {
+                self.store()?;
+                self.send(done.len)?;
+                return Ok(true);
+            }
+            if done.count == 0 {
+                break;
+            }
+        }
+        self.store()?;
+        Ok(moved > 0)
+    }
+
+    /// A step of a recover.
+    fn hand(&mut self, r: &mut Recover) -> Result<bool, String> {
+        if self.core.mover.mode != FROM_TAPE {
+            return Ok(false);
+        }
+        let mut moved = 0;
+        while moved < STEP {
+            if self.core.mover.left == 0 {
+                if r.given {
+                    return self.finish(r);
+                }
+                self.read_stream()?;
+            }
+            let done = proved::move_from_tape(self.core, image(&mut self.held), &mut r.dest, seconds(), &mut self.out);
+            self.became(done.code, done.session, None)?;
+            if let Err(e) = r.target.take(&r.dest[..done.count]) {
+                return self.fail(&e.to_string());
+            }
+            moved += done.count;
+            self.send(done.len)?;
+            let m = self.core.mover;
+            let over = m.state == MOVER_PAUSED && (m.pause == END_OF_TAPE || m.pause == MARK);
+            if r.target.done() || (over && r.target.is_file() && !r.given) {
+                return self.finish(r);
+            }
+            if done.count == 0 {
+                return Ok(done.len > 0);
+            }
+        }
+        Ok(true)
+    }
+
+    /// The mover read that covers the stream, from its start to the last place that there can be. Nothing asks the client for it, so the host hands it to the
+    /// core. Its reply is not sent, and so its number is given back: the vault numbers what it sends.
+    fn read_stream(&mut self) -> Result<(), String> {
+        let offset = self.core.mover.moved;
+        let body = [offset.to_be_bytes(), (u64::MAX - offset).to_be_bytes()].concat();
+        let record = records::request(0, records::MOVER_READ, &body);
+        let (id, password) = (&self.shared.id, &self.shared.password);
+        let done = proved::request(self.core, id, password, image(&mut self.held), &record, seconds(), &mut self.out);
+        let mut next = done.session;
+        next.sequence = self.core.sequence;
+        self.became(done.code, next, None)
+    }
+
+    /// The stream has been restored whole.
+    fn finish(&mut self, r: &mut Recover) -> Result<bool, String> {
+        match r.target.finish() {
+            Ok(()) => self.end(true),
+            Err(e) => self.fail(&e.to_string()),
+        }
+    }
+
+    fn fail(&mut self, why: &str) -> Result<bool, String> {
+        self.progress.error(why);
+        self.end(false)
+    }
+
+    /// The method's end, which halts both ends and tells the client.
+    fn end(&mut self, ok: bool) -> Result<bool, String> {
+        let done = proved::end_method(self.core, ok, seconds(), &mut self.out);
+        self.became(done.code, done.session, None)?;
+        self.store()?;
+        self.send(done.len)?;
+        Ok(true)
+    }
+}
