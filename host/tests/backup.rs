@@ -21,3 +21,152 @@ fn folder_comes_back() {
     assert!(pauses >= 2, "{pauses} pauses");
     assert_eq!(tree(&from), tree(&to));
 }
+
+#[test]
+fn several_record_sizes_and_one_large_window() {
+    let s = Scratch::new();
+    let (from, tape) = (s.folder("from"), s.path("tape"));
+    sample(&from);
+    fs::write(from.join("big"), noise(9, 3_000_000)).unwrap();
+    let to = s.folder("to");
+    let options = ["--new-cartridge", "8M", "--stream", from.to_str().unwrap(), "--restore-to", to.to_str().unwrap()];
+    let host = Host::start(&tape, &options);
+    for record in [1_000, 4_096, 32_768] {
+        let window = record as u64 * 5_000;
+        let mut c = host.client();
+        c.login();
+        // From the tape's start each time: the list is cut there and the room used again.
+        assert_eq!(c.backup(record, window), (0, 1));
+        assert_eq!(c.recover(record, window), (0, 1));
+        assert_eq!(tree(&from), tree(&to));
+        sound(&fs::read(&tape).unwrap()).unwrap();
+        fs::remove_dir_all(&to).unwrap();
+        fs::create_dir(&to).unwrap();
+    }
+}
+
+#[test]
+fn file_comes_back() {
+    let s = Scratch::new();
+    let (from, to, tape) = (s.path("from"), s.path("to"), s.path("tape"));
+    let bytes = noise(5, 100_000);
+    fs::write(&from, &bytes).unwrap();
+    let options = ["--new-cartridge", "1M", "--stream", from.to_str().unwrap(), "--restore-to", to.to_str().unwrap()];
+    let host = Host::start(&tape, &options);
+    let mut c = host.client();
+    c.login();
+    assert_eq!(c.backup(1_024, 51_200).1, 1);
+
+    // Up to the tape's end: the last record's fill is there too. The notice of the pause stands before that of the halt.
+    c.tape_open(0, 0);
+    c.join(1, 1_024, 1_024_000);
+    c.start_recover();
+    assert_eq!(c.run(0), (0, 101));
+    assert_eq!((c.notice().number, c.notice().number), (DATA_HALTED, MOVER_HALTED));
+    c.stop();
+    let mut filled = bytes.clone();
+    filled.resize(bytes.len().next_multiple_of(1_024), 0);
+    assert_eq!(fs::read(&to).unwrap(), filled);
+
+    // A client that knows the length says it in a mover read of its own.
+    c.tape_close();
+    c.tape_open(0, 0);
+    c.join(1, 1_024, 1_024_000);
+    c.good(0xa06, &[0u64.to_be_bytes(), 100_000u64.to_be_bytes()].concat());
+    c.start_recover();
+    assert_eq!(c.run(0), (0, 1));
+    assert_eq!(fs::read(&to).unwrap(), bytes);
+}
+
+#[test]
+fn tape_outlives_the_host() {
+    let s = Scratch::new();
+    let (from, to, tape) = (s.folder("from"), s.folder("to"), s.path("tape"));
+    sample(&from);
+    let host = Host::start(&tape, &["--new-cartridge", "4M", "--stream", from.to_str().unwrap()]);
+    let mut c = host.client();
+    c.login();
+    assert_eq!(c.backup(8_192, 81_920).1, 1);
+    drop(host);
+    let host = Host::start(&tape, &["--restore-to", to.to_str().unwrap()]);
+    let mut c = host.client();
+    c.login();
+    assert_eq!(c.recover(8_192, 81_920).1, 1);
+    assert_eq!(tree(&from), tree(&to));
+}
+
+#[test]
+fn full_tape_pauses_and_an_abort_is_heard() {
+    let s = Scratch::new();
+    let (from, tape) = (s.path("from"), s.path("tape"));
+    fs::write(&from, noise(6, 500_000)).unwrap();
+    let host = Host::start(&tape, &["--new-cartridge", "100K", "--stream", from.to_str().unwrap()]);
+    let mut c = host.client();
+    c.login();
+    c.tape_open(1, 0);
+    c.join(0, 1_024, 1_024_000);
+    c.start_backup();
+    assert_eq!(c.run(0), (0, 101));
+    c.good(0x403, b"");
+    assert_eq!((c.notice().number, c.notice().number), (DATA_HALTED, MOVER_HALTED));
+    c.stop();
+    assert_eq!(sound(&fs::read(&tape).unwrap()), Ok((100, 102_400)));
+}
+
+#[test]
+fn nothing_to_read_or_write_ends_the_method() {
+    let s = Scratch::new();
+    let host = Host::start(&s.path("tape"), &["--new-cartridge", "100K"]);
+    let mut c = host.client();
+    c.login();
+    assert_eq!(c.backup(1_024, 10_240), (0, 3));
+    assert_eq!(c.recover(1_024, 10_240), (0, 3));
+}
+
+#[test]
+fn archive_does_not_lead_out_of_the_folder() {
+    let s = Scratch::new();
+    let (to, tape) = (s.folder("to"), s.path("tape"));
+    let evil = s.folder("evil/sub");
+    fs::write(evil.join("x"), b"x").unwrap();
+    let archive = s.path("archive");
+    let options = ["--new-cartridge", "1M", "--stream", archive.to_str().unwrap(), "--restore-to", to.to_str().unwrap()];
+    // Archives as a stranger could make them: a path with `..`, a rooted one, and a file behind a link.
+    let tar = |name: &str, kind: u8, link: &str, body: &[u8]| {
+        let mut b = vec![0; 512];
+        b[..name.len()].copy_from_slice(name.as_bytes());
+        b[100..107].copy_from_slice(b"0000644");
+        b[124..135].copy_from_slice(format!("{:011o}", body.len()).as_bytes());
+        b[136..147].copy_from_slice(b"00000000000");
+        b[156] = kind;
+        b[157..157 + link.len()].copy_from_slice(link.as_bytes());
+        b[257..265].copy_from_slice(b"ustar\x0000");
+        b[148..156].fill(b' ');
+        let sum: u32 = b.iter().map(|x| *x as u32).sum();
+        b[148..155].copy_from_slice(format!("{sum:06o}\0").as_bytes());
+        b.extend(body);
+        b.resize(b.len().next_multiple_of(512), 0);
+        b
+    };
+    let outside = s.path("outside");
+    let rooted = format!("{}/file", outside.display());
+    let archives = [
+        tar("../outside", b'0', "", b"out"),
+        tar("a/../../outside", b'0', "", b"out"),
+        tar(&rooted, b'0', "", b"out"),
+        [tar("link", b'2', "..", b""), tar("link/outside", b'0', "", b"out")].concat(),
+        [tar("link", b'2', "../outside", b""), tar("link", b'0', "", b"in")].concat(),
+    ];
+    fs::write(&archive, b"").unwrap();
+    let host = Host::start(&tape, &options);
+    for (i, bytes) in archives.iter().enumerate() {
+        fs::write(&archive, [&bytes[..], &[0; 1024]].concat()).unwrap();
+        let mut c = host.client();
+        c.login();
+        assert_eq!(c.backup(512, 51_200).1, 1);
+        // The last replaces the link by a file, which is in the folder.
+        assert_eq!(c.recover(512, 51_200).1, if i == 4 { 1 } else { 3 }, "archive {i}");
+        assert!(!outside.exists());
+    }
+    assert_eq!(fs::read(to.join("link")).unwrap(), b"in");
+}
