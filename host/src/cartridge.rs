@@ -60,8 +60,9 @@ impl<D: Disk> Cartridge<D> {
         self.disk.sync()
     }
 
-    /// Brings the file up to date. In every state between two writes the file is a sound image: first the list is cut where new entries begin, then their
-    /// bytes and words are written, which nothing refers to yet, and then the header takes them in. What fails stays to be done by the next call.
+    /// Brings the file up to date. In every state between two writes the file is a sound image: first the list is cut where new entries begin,
+    /// then their bytes and words are written, which nothing refers to yet, and then the header takes them in. What fails stays to be done by
+    /// the next call.
     pub fn store(&mut self) -> io::Result<()> {
         let Some(low) = self.low else { return Ok(()) };
         let (capacity, n, used) = (self.number(4), self.number(8), self.number(12));
@@ -98,8 +99,12 @@ pub fn load(path: &Path) -> Result<Cartridge, String> {
         io::ErrorKind::NotFound => told(&"no such file; --new-cartridge SIZE makes one"),
         _ => told(&e),
     })?;
+    let meta = file.metadata().map_err(|e| told(&e))?;
+    if !meta.is_file() {
+        return Err(told(&"not a file"));
+    }
     file.try_lock().map_err(|_| told(&"in use by another program"))?;
-    let length = file.metadata().map_err(|e| told(&e))?.len();
+    let length = meta.len();
     if length > (HEADER + 8 * CAPACITY + MOST_BODY) as u64 {
         return Err(told(&"too long for a cartridge"));
     }

@@ -83,7 +83,7 @@ impl Frames {
     }
 
     /// The next record.
-    pub fn next(&mut self) -> Result<&[u8], End> {
+    pub fn record(&mut self) -> Result<&[u8], End> {
         if self.start == self.end && self.refill(self.idle)? == 0 {
             return Err(End::Closed);
         }

@@ -137,8 +137,8 @@ impl Line<'_> {
         Ok(true)
     }
 
-    /// The mover read that covers the stream, from its start to the last place that there can be. Nothing asks the client for it, so the host hands it to the
-    /// core. Its reply is not sent, and so its number is given back: the vault numbers what it sends.
+    /// The mover read that covers the stream, from its start to the last place that there can be. Nothing asks the client for it, so the host
+    /// hands it to the core. Its reply is not sent, and so its number is given back: the vault numbers what it sends.
     fn read_stream(&mut self) -> Result<(), String> {
         let offset = self.core.mover.moved;
         let body = [offset.to_be_bytes(), (u64::MAX - offset).to_be_bytes()].concat();

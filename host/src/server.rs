@@ -4,6 +4,7 @@ use crate::cartridge;
 use crate::progress;
 use crate::session::{Shared, serve};
 use crate::vault::Vault;
+use std::fs::File;
 use std::io::{Write, stdout};
 use std::net::TcpListener;
 use std::path::Path;
@@ -14,8 +15,16 @@ use std::time::Duration;
 const MOST_CONNECTIONS: usize = 64;
 
 fn check_stream(path: &Path) -> Result<(), String> {
-    let opened = if path.is_dir() { path.read_dir().map(|_| ()) } else { std::fs::File::open(path).map(|_| ()) };
-    opened.map_err(|e| format!("--stream {}: {e}", path.display()))
+    let kind = path.metadata().and_then(|m| match (m.is_dir(), m.is_file()) {
+        (true, _) => path.read_dir().map(|_| true),
+        (_, true) => File::open(path).map(|_| true),
+        _ => Ok(false),
+    });
+    match kind {
+        Ok(true) => Ok(()),
+        Ok(false) => Err(format!("--stream {}: neither a folder nor a file", path.display())),
+        Err(e) => Err(format!("--stream {}: {e}", path.display())),
+    }
 }
 
 fn check_target(path: &Path) -> Result<(), String> {

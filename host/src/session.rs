@@ -61,7 +61,7 @@ pub fn serve(socket: TcpStream, shared: &Shared, number: usize) -> Result<(), St
         if line.run()? && !frames.waiting() {
             continue;
         }
-        match frames.next() {
+        match frames.record() {
             Ok(record) => line.request(record)?,
             Err(End::Closed) => return Ok(()),
             Err(end) => return Err(format!("connection ended: {end:?}")),
@@ -95,10 +95,10 @@ impl Line<'_> {
         if code != 0 {
             return Err(format!("the core refused a call with {code}"));
         }
-        if let (Some(position), Some(c)) = (from, &mut self.held) {
-            if next.tape.position != position {
-                c.written(position);
-            }
+        if let (Some(position), Some(c)) = (from, &mut self.held)
+            && next.tape.position != position
+        {
+            c.written(position);
         }
         self.core = next;
         self.progress.states(&self.core);

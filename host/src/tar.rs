@@ -133,7 +133,14 @@ impl Tar {
         let path = self.root.join(&name);
         let meta = path.symlink_metadata().map_err(|e| about(&path, e))?;
         let kind = meta.file_type();
-        let mut entry = Entry { name: name.as_os_str().as_bytes(), kind: b'0', link: b"", size: 0, mode: meta.mode(), time: (meta.mtime().max(0) as u64).min(MOST) };
+        let mut entry = Entry {
+            name: name.as_os_str().as_bytes(),
+            kind: b'0',
+            link: b"",
+            size: 0,
+            mode: meta.mode(),
+            time: (meta.mtime().max(0) as u64).min(MOST),
+        };
         if kind.is_dir() {
             let slashed = [entry.name, b"/"].concat();
             self.bytes = Cursor::new(headers(&Entry { name: &slashed, kind: b'5', ..entry }));

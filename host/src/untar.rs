@@ -1,5 +1,5 @@
-//! Unpacks a tar archive that comes in parts. Nothing is written outside of the folder: a name with `..` or a root is refused, and a path that would lead
-//! through a link as well.
+//! Unpacks a tar archive that comes in parts. Nothing is written outside of the folder: a name with `..` or a root is refused, and a path that
+//! would lead through a link as well.
 use crate::tar::BLOCK;
 use std::ffi::OsStr;
 use std::fs::{self, DirBuilder, File, OpenOptions, Permissions};
@@ -41,10 +41,12 @@ fn bad(why: impl ToString) -> io::Error {
 
 fn octal(field: &[u8]) -> io::Result<u64> {
     let text: Vec<u8> = field.iter().copied().skip_while(|b| *b == b' ').take_while(|b| !matches!(b, 0 | b' ')).collect();
-    text.iter().try_fold(0u64, |v, b| match b {
-        b'0'..=b'7' => v.checked_mul(8).map(|v| v + (b - b'0') as u64),
-        _ => None,
-    }).ok_or_else(|| bad("the archive has a number that cannot be read"))
+    text.iter()
+        .try_fold(0u64, |v, b| match b {
+            b'0'..=b'7' => v.checked_mul(8).map(|v| v + (b - b'0') as u64),
+            _ => None,
+        })
+        .ok_or_else(|| bad("the archive has a number that cannot be read"))
 }
 
 fn until_nul(field: &[u8]) -> &[u8] {

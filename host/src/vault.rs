@@ -1,5 +1,5 @@
-//! The one cartridge and who has it. A session takes it with tape open and hands it back when its tape is closed or the connection ends, so that no lock is
-//! held while anything is read, written or waited for.
+//! The one cartridge and who has it. A session takes it with tape open and hands it back when its tape is closed or the connection ends, so that
+//! no lock is held while anything is read, written or waited for.
 use crate::cartridge::Cartridge;
 use std::sync::{Condvar, Mutex, PoisonError};
 use std::time::Duration;

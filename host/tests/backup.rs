@@ -2,6 +2,7 @@
 mod client;
 use client::*;
 use std::fs;
+use std::io::Write;
 
 #[test]
 fn folder_comes_back() {
@@ -111,6 +112,60 @@ fn full_tape_pauses_and_an_abort_is_heard() {
     assert_eq!((c.notice().number, c.notice().number), (DATA_HALTED, MOVER_HALTED));
     c.stop();
     assert_eq!(sound(&fs::read(&tape).unwrap()), Ok((100, 102_400)));
+}
+
+#[test]
+fn abort_is_heard_between_two_steps() {
+    let s = Scratch::new();
+    let (from, tape) = (s.path("from"), s.path("tape"));
+    fs::write(&from, noise(8, 40 << 20)).unwrap();
+    let host = Host::start(&tape, &["--new-cartridge", "64M", "--stream", from.to_str().unwrap()]);
+    let mut c = host.client();
+    c.login();
+    c.tape_open(1, 0);
+    c.join(0, 32_768, 32_768 * 4_000);
+    // Start and abort in one packet: the abort is heard before the stream has ended.
+    let (start, abort) = (c.sequence + 1, c.sequence + 2);
+    let both = [request(start, 0x401, &[text("dump"), words(&[0])].concat()), request(abort, 0x403, b"")].concat();
+    c.socket.write_all(&both).unwrap();
+    c.sequence = start;
+    assert_eq!(word(&c.reply(0x401).body, 0), 0);
+    c.sequence = abort;
+    assert_eq!(word(&c.reply(0x403).body, 0), 0);
+    let m = c.notice();
+    assert_eq!((m.number, word(&m.body, 0), c.notice().number), (DATA_HALTED, 2, MOVER_HALTED));
+    let moved = quad(&c.good(0xa00, b""), 28);
+    assert!(moved < 40 << 20);
+    assert_eq!(sound(&fs::read(&tape).unwrap()), Ok((moved / 32_768, moved)));
+}
+
+#[test]
+fn second_backup_behind_a_mark() {
+    let s = Scratch::new();
+    let (from, to, tape) = (s.folder("from"), s.folder("to"), s.path("tape"));
+    sample(&from);
+    let options = ["--new-cartridge", "4M", "--stream", from.to_str().unwrap(), "--restore-to", to.to_str().unwrap()];
+    let host = Host::start(&tape, &options);
+    let mut c = host.client();
+    c.login();
+    c.tape_open(1, 0);
+    for round in 0..2 {
+        c.join(0, 4_096, 409_600);
+        c.start_backup();
+        assert_eq!(c.run(409_600).1, 1);
+        c.stop();
+        c.good(0x303, &words(&[5, 1]));
+        fs::write(from.join("a"), format!("round {round}")).unwrap();
+    }
+    // To the start, and forward over one mark: the second.
+    c.good(0x303, &words(&[4, 1]));
+    c.good(0x303, &words(&[0, 1]));
+    c.join(1, 4_096, 81_920);
+    c.start_recover();
+    assert_eq!(c.run(81_920).1, 1);
+    assert_eq!(fs::read(to.join("a")).unwrap(), b"round 0");
+    fs::write(from.join("a"), "round 0").unwrap();
+    assert_eq!(tree(&from), tree(&to));
 }
 
 #[test]

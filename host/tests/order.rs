@@ -33,7 +33,7 @@ fn list(image: &[u8]) -> Option<Vec<Vec<u8>>> {
     let (n, _) = sound(image).ok()?;
     let body = 16 + 8 * word(image, 4) as usize;
     let entry = |i: usize| (word(image, 16 + 8 * i) as usize, body + word(image, 20 + 8 * i) as usize);
-    Some((0..n as usize).map(|i| entry(i)).map(|(len, at)| image[at..at + len].to_vec()).collect())
+    Some((0..n as usize).map(entry).map(|(len, at)| image[at..at + len].to_vec()).collect())
 }
 
 /// Whether a file in this state is as it was, cut, or as it shall be; no record is mixed of old and new.
@@ -45,9 +45,9 @@ fn put(file: &mut [u8], at: usize, bytes: &[u8]) {
     file[at..at + bytes.len()].copy_from_slice(bytes);
 }
 
-/// Runs the steps, and judges every state in which the disk can be left: of the writes since the last sync any may be missing, and any may be torn, but for
-/// the eight bytes of the header, which are written whole. Gives the number of states, or the first that is not fair.
-fn judge(file: &mut Vec<u8>, steps: &[Step], old: &[Vec<u8>], new: &[Vec<u8>]) -> Result<usize, String> {
+/// Runs the steps, and judges every state in which the disk can be left: of the writes since the last sync any may be missing, and any may be
+/// torn, but for the eight bytes of the header, which are written whole. Gives the number of states, or the first that is not fair.
+fn judge(file: &mut [u8], steps: &[Step], old: &[Vec<u8>], new: &[Vec<u8>]) -> Result<usize, String> {
     let mut pending: Vec<(usize, Vec<u8>)> = Vec::new();
     let mut states = 0;
     for (number, step) in steps.iter().enumerate() {
@@ -56,7 +56,7 @@ fn judge(file: &mut Vec<u8>, steps: &[Step], old: &[Vec<u8>], new: &[Vec<u8>]) -
             Step::Put(at, bytes) => pending.push((*at, bytes.clone())),
         }
         for some in 0..1usize << pending.len() {
-            let mut state = file.clone();
+            let mut state = file.to_vec();
             let chosen: Vec<_> = (0..pending.len()).filter(|i| some >> i & 1 == 1).collect();
             for i in &chosen {
                 let (at, bytes) = &pending[*i];
@@ -92,8 +92,11 @@ impl Deck {
     }
 }
 
-/// Tape writes, marks and spacing, with the file brought up to date now and then; each up-to-date is a run of steps with the list before and after.
-fn runs(seed: u64) -> (Vec<u8>, Vec<(Vec<Step>, Vec<Vec<u8>>, Vec<Vec<u8>>)>) {
+/// What brought the file up to date, and the list of records before and after.
+type Run = (Vec<Step>, Vec<Vec<u8>>, Vec<Vec<u8>>);
+
+/// Tape writes, marks and spacing, with the file brought up to date now and then.
+fn runs(seed: u64) -> (Vec<u8>, Vec<Run>) {
     let mut image = words(&[1, 12, 0, 0]);
     image.extend(noise(seed, 12 * 8 + 3_000));
     let first = image.clone();

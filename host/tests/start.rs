@@ -94,3 +94,43 @@ fn missing_folders() {
         assert!(!tape.exists());
     }
 }
+
+#[test]
+fn progress_is_told_or_not() {
+    let s = Scratch::new();
+    let (from, tape) = (s.path("from"), s.path("tape"));
+    fs::write(&from, noise(1, 2_500)).unwrap();
+    let log = |quiet: bool| {
+        let text = s.path("log");
+        let mut command = Command::new(program());
+        command.args(["--account", "vault:noon", "--listen", "127.0.0.1:0", "--cartridge"]).arg(&tape).arg("--stream").arg(&from);
+        if quiet {
+            command.arg("--quiet");
+        } else {
+            command.args(["--new-cartridge", "1M"]);
+        }
+        let host = Host::spawn(command.stderr(fs::File::create(&text).unwrap()));
+        let mut c = host.client();
+        c.login();
+        c.backup(1_024, 2_048);
+        drop((c, host));
+        fs::read_to_string(text).unwrap()
+    };
+    let told = log(false);
+    let mut lines = told.lines().filter(|l| l.starts_with("session 1: data"));
+    for start in [
+        "data IDLE, mover LISTEN, 0 bytes, window 0 + 2048",
+        "data CONNECTED, mover ACTIVE, 0 bytes, window 0 + 2048",
+        "data ACTIVE, mover ACTIVE, 0 bytes, window 0 + 2048",
+        "data ACTIVE, mover PAUSED (end of window), 2048 bytes at ",
+        "data ACTIVE, mover ACTIVE, 2048 bytes, window 2048 + 2048",
+        "data HALTED (successful), mover HALTED (connection closed), 3072 bytes at ",
+        "data IDLE, mover HALTED (connection closed), 3072 bytes, window 2048 + 2048",
+        "data IDLE, mover IDLE, 0 bytes",
+    ] {
+        let line = lines.next().unwrap();
+        assert!(line.starts_with(&format!("session 1: {start}")), "{line}");
+    }
+    assert_eq!(lines.next(), None);
+    assert_eq!(log(true), "");
+}

@@ -183,3 +183,19 @@ fn eight_at_once() {
         }
     });
 }
+
+#[test]
+fn idle_connection_ends() {
+    let s = Scratch::new();
+    let host = Host::start(&s.path("tape"), &["--new-cartridge", "1M", "--idle", "1"]);
+    let mut c = host.client();
+    c.login();
+    c.tape_open(1, 0);
+    let mut other = host.client();
+    other.login();
+    assert!(c.receive().is_err(), "closed");
+    // What it had is free again.
+    let mut c = host.client();
+    c.login();
+    c.tape_open(1, 0);
+}

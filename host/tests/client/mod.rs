@@ -57,6 +57,10 @@ impl Host {
     pub fn start(cartridge: &Path, more: &[&str]) -> Host {
         let mut command = Command::new(program());
         command.args(["--listen", "127.0.0.1:0", "--account", "vault:noon", "--quiet", "--cartridge"]).arg(cartridge).args(more);
+        Host::spawn(&mut command)
+    }
+
+    pub fn spawn(command: &mut Command) -> Host {
         let mut child = command.stdout(Stdio::piped()).spawn().unwrap();
         let mut line = String::new();
         BufReader::new(child.stdout.take().unwrap()).read_line(&mut line).unwrap();
@@ -131,7 +135,14 @@ impl Client {
         self.socket.read_exact(&mut mark)?;
         let mut b = vec![0; (u32::from_be_bytes(mark) & 0x7fff_ffff) as usize];
         self.socket.read_exact(&mut b)?;
-        let m = Message { sequence: word(&b, 0), kind: word(&b, 8), number: word(&b, 12), reply_to: word(&b, 16), error: word(&b, 20), body: b[24..].to_vec() };
+        let m = Message {
+            sequence: word(&b, 0),
+            kind: word(&b, 8),
+            number: word(&b, 12),
+            reply_to: word(&b, 16),
+            error: word(&b, 20),
+            body: b[24..].to_vec(),
+        };
         assert_eq!(m.sequence, self.expected, "the vault numbers what it sends");
         self.expected += 1;
         Ok(m)
@@ -174,11 +185,15 @@ impl Client {
         })
     }
 
-    /// Waits for the notice of connection, opens and logs in.
     pub fn login(&mut self) {
+        self.login_as("vault", "noon");
+    }
+
+    /// Waits for the notice of connection, opens and logs in.
+    pub fn login_as(&mut self, id: &str, password: &str) {
         assert_eq!(self.notice().number, CONNECTED);
         self.good(0x900, &words(&[4]));
-        self.good(0x901, &[words(&[1]), text("vault"), text("noon")].concat());
+        self.good(0x901, &[words(&[1]), text(id), text(password)].concat());
     }
 
     pub fn tape_open(&mut self, mode: u32, error: u32) {
@@ -233,8 +248,12 @@ impl Client {
         }
     }
 
-    /// Data stop, mover stop.
+    /// Data stop, mover stop; a move that was left PAUSED is aborted first.
     pub fn stop(&mut self) {
+        if word(&self.call(0x400, b"").body, 12) != 2 {
+            self.good(0x403, b"");
+        }
+        self.notices.clear();
         self.good(0x407, b"");
         self.good(0xa04, b"");
     }
