@@ -3,7 +3,7 @@
 use crate::tar::BLOCK;
 use std::ffi::OsStr;
 use std::fs::{self, DirBuilder, File, OpenOptions, Permissions};
-use std::io::{self, Write};
+use std::io::{self, BufWriter, Write};
 use std::os::unix::ffi::OsStrExt;
 use std::os::unix::fs::{DirBuilderExt, OpenOptionsExt, PermissionsExt, symlink};
 use std::path::{Component, Path, PathBuf};
@@ -14,7 +14,7 @@ const LONGEST_NAME: u64 = 65_536;
 
 enum Into {
     Nothing,
-    File(File, PathBuf, SystemTime),
+    File(BufWriter<File>, PathBuf, SystemTime),
     /// The body of a header of this kind.
     Name(u8, Vec<u8>),
 }
@@ -64,7 +64,7 @@ fn pax(mut bytes: &[u8]) -> io::Result<Vec<(&[u8], &[u8])>> {
     while !bytes.is_empty() {
         let space = bytes.iter().position(|b| *b == b' ').ok_or_else(|| bad("bad pax header"))?;
         let n: usize = std::str::from_utf8(&bytes[..space]).ok().and_then(|t| t.parse().ok()).ok_or_else(|| bad("bad pax header"))?;
-        let record = bytes.get(space + 1..n.saturating_sub(1)).ok_or_else(|| bad("bad pax header"))?;
+        let record = bytes.get(space + 1..n).and_then(|r| r.strip_suffix(b"\n")).ok_or_else(|| bad("bad pax header"))?;
         let is = record.iter().position(|b| *b == b'=').ok_or_else(|| bad("bad pax header"))?;
         all.push((&record[..is], &record[is + 1..]));
         bytes = &bytes[n..];
@@ -145,7 +145,7 @@ impl Untar {
     fn close(&mut self) -> io::Result<()> {
         match std::mem::replace(&mut self.into, Into::Nothing) {
             Into::Nothing => {}
-            Into::File(f, _, time) => f.set_modified(time)?,
+            Into::File(f, _, time) => f.into_inner()?.set_modified(time)?,
             Into::Name(b'L', bytes) => self.name = Some(until_nul(&bytes).to_vec()),
             Into::Name(b'K', bytes) => self.link = Some(until_nul(&bytes).to_vec()),
             Into::Name(_, bytes) => {
@@ -192,7 +192,7 @@ impl Untar {
         let name = self.name.take().unwrap_or(short);
         let link = self.link.take().unwrap_or(until_nul(&b[157..257]).to_vec());
         let mode = octal(&b[100..108])? as u32 & 0o777;
-        let time = SystemTime::UNIX_EPOCH + Duration::from_secs(octal(&b[136..148])?.min(1 << 40));
+        let time = SystemTime::UNIX_EPOCH + Duration::from_secs(octal(&b[136..148])?.min(1 << 33));
         let Some(path) = self.path(&name)? else { return Ok(()) };
         let told = |e: io::Error| bad(format!("{}: {e}", path.display()));
         match kind {
@@ -207,7 +207,7 @@ impl Untar {
                 self.clear(&path)?;
                 let file = OpenOptions::new().write(true).create_new(true).mode(0o600).open(&path).map_err(told)?;
                 file.set_permissions(Permissions::from_mode(mode))?;
-                self.into = Into::File(file, path, time);
+                self.into = Into::File(BufWriter::new(file), path, time);
             }
             b'2' => {
                 self.clear(&path)?;

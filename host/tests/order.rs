@@ -3,8 +3,10 @@ mod client;
 use client::*;
 use mossgoblin_host::cartridge::{Cartridge, Disk};
 use mossgoblin_host::{proved, records};
+use std::cell::{Cell, RefCell};
 use std::fs;
 use std::io;
+use std::rc::Rc;
 use std::time::{Duration, Instant};
 
 #[derive(Clone)]
@@ -13,17 +15,32 @@ enum Step {
     Sync,
 }
 
-#[derive(Default)]
-struct Recorder(std::rc::Rc<std::cell::RefCell<Vec<Step>>>);
+/// Keeps the steps; can be told to fail at a later one. A write that fails may have been done all the same, a sync that fails has done nothing.
+#[derive(Default, Clone)]
+struct Recorder {
+    steps: Rc<RefCell<Vec<Step>>>,
+    fails_in: Rc<Cell<Option<usize>>>,
+}
+
+impl Recorder {
+    fn fails(&self) -> bool {
+        let n = self.fails_in.get();
+        self.fails_in.set(n.and_then(|n| n.checked_sub(1)));
+        n == Some(0)
+    }
+}
 
 impl Disk for Recorder {
     fn put(&mut self, at: usize, bytes: &[u8]) -> io::Result<()> {
-        self.0.borrow_mut().push(Step::Put(at, bytes.to_vec()));
-        Ok(())
+        self.steps.borrow_mut().push(Step::Put(at, bytes.to_vec()));
+        if self.fails() { Err(io::Error::other("put")) } else { Ok(()) }
     }
 
     fn sync(&mut self) -> io::Result<()> {
-        self.0.borrow_mut().push(Step::Sync);
+        if self.fails() {
+            return Err(io::Error::other("sync"));
+        }
+        self.steps.borrow_mut().push(Step::Sync);
         Ok(())
     }
 }
@@ -36,9 +53,11 @@ fn list(image: &[u8]) -> Option<Vec<Vec<u8>>> {
     Some((0..n as usize).map(entry).map(|(len, at)| image[at..at + len].to_vec()).collect())
 }
 
-/// Whether a file in this state is as it was, cut, or as it shall be; no record is mixed of old and new.
-fn fair(state: &[u8], old: &[Vec<u8>], new: &[Vec<u8>]) -> bool {
-    list(state).is_some_and(|l| l == new || old.starts_with(&l))
+type List = Vec<Vec<u8>>;
+
+/// Whether a file in this state is as it was, cut, or as it shall be; no record is mixed of old and new. After a failure it may be as it was in two ways.
+fn fair(state: &[u8], old: &[List], new: &List) -> bool {
+    list(state).is_some_and(|l| l == *new || old.iter().any(|o| o.starts_with(&l)))
 }
 
 fn put(file: &mut [u8], at: usize, bytes: &[u8]) {
@@ -47,7 +66,7 @@ fn put(file: &mut [u8], at: usize, bytes: &[u8]) {
 
 /// Runs the steps, and judges every state in which the disk can be left: of the writes since the last sync any may be missing, and any may be
 /// torn, but for the eight bytes of the header, which are written whole. Gives the number of states, or the first that is not fair.
-fn judge(file: &mut [u8], steps: &[Step], old: &[Vec<u8>], new: &[Vec<u8>]) -> Result<usize, String> {
+fn judge(file: &mut [u8], steps: &[Step], old: &[List], new: &List) -> Result<usize, String> {
     let mut pending: Vec<(usize, Vec<u8>)> = Vec::new();
     let mut states = 0;
     for (number, step) in steps.iter().enumerate() {
@@ -71,7 +90,7 @@ fn judge(file: &mut [u8], steps: &[Step], old: &[Vec<u8>], new: &[Vec<u8>]) -> R
             }
         }
     }
-    if pending.is_empty() && list(file).as_deref() == Some(new) { Ok(states) } else { Err("the file is not up to date at the end".into()) }
+    if pending.is_empty() && list(file).as_ref() == Some(new) { Ok(states) } else { Err("the file is not up to date at the end".into()) }
 }
 
 struct Deck {
@@ -93,15 +112,15 @@ impl Deck {
 }
 
 /// What brought the file up to date, and the list of records before and after.
-type Run = (Vec<Step>, Vec<Vec<u8>>, Vec<Vec<u8>>);
+type Run = (Vec<Step>, Vec<List>, List);
 
 /// Tape writes, marks and spacing, with the file brought up to date now and then.
-fn runs(seed: u64) -> (Vec<u8>, Vec<Run>) {
+fn runs(seed: u64, failing: bool) -> (Vec<u8>, Vec<Run>) {
     let mut image = words(&[1, 12, 0, 0]);
     image.extend(noise(seed, 12 * 8 + 3_000));
     let first = image.clone();
     let disk = Recorder::default();
-    let steps = disk.0.clone();
+    let Recorder { steps, fails_in } = disk.clone();
     let mut out = vec![0; records::OUTPUT];
     let session = proved::open(0, &mut out).session;
     let mut deck = Deck { session, out, cartridge: Cartridge::new(image, disk) };
@@ -109,7 +128,7 @@ fn runs(seed: u64) -> (Vec<u8>, Vec<Run>) {
     deck.call(0x300, &[text("tape0"), words(&[1])].concat());
     let chance = noise(seed + 1_000, 400);
     let mut all = Vec::new();
-    let mut old = list(&first).unwrap();
+    let mut old = vec![list(&first).unwrap()];
     for (i, c) in chance.chunks(4).enumerate() {
         match c[0] % 8 {
             0..=3 => {
@@ -124,10 +143,15 @@ fn runs(seed: u64) -> (Vec<u8>, Vec<Run>) {
             _ => deck.call(0x303, &words(&[2, c[1] as u32 % 4])),
         }
         if c[2] % 3 > 0 {
-            deck.cartridge.store().unwrap();
+            fails_in.set(failing.then_some(c[3] as usize % 12));
+            let stored = deck.cartridge.store();
             let new = list(&deck.cartridge.image).unwrap();
-            all.push((steps.take(), old, new.clone()));
-            old = new;
+            if stored.is_ok() {
+                all.push((steps.take(), old, new.clone()));
+                old = vec![new];
+            } else {
+                old.push(new);
+            }
         }
     }
     (first, all)
@@ -137,7 +161,7 @@ fn runs(seed: u64) -> (Vec<u8>, Vec<Run>) {
 fn every_state_between_two_writes_is_sound() {
     let mut states = 0;
     for seed in 0..20 {
-        let (mut file, all) = runs(seed);
+        let (mut file, all) = runs(seed, false);
         for (steps, old, new) in all {
             states += judge(&mut file, &steps, &old, &new).unwrap_or_else(|e| panic!("seed {seed}: {e}"));
         }
@@ -145,12 +169,25 @@ fn every_state_between_two_writes_is_sound() {
     assert!(states > 10_000, "{states} states");
 }
 
+#[test]
+fn after_a_failed_write_the_next_puts_it_right() {
+    let mut retried = 0;
+    for seed in 20..40 {
+        let (mut file, all) = runs(seed, true);
+        for (steps, old, new) in all {
+            retried += (old.len() > 1) as u32;
+            judge(&mut file, &steps, &old, &new).unwrap_or_else(|e| panic!("seed {seed}: {e}"));
+        }
+    }
+    assert!(retried > 100, "{retried}");
+}
+
 /// The judge is not blind: without the cut, or without the syncs, a bad state is found.
 #[test]
 fn other_orders_are_found_out() {
     let (mut uncut, mut unsynced) = (0, 0);
     for seed in 0..20 {
-        let (mut file, all) = runs(seed);
+        let (mut file, all) = runs(seed, false);
         for (steps, old, new) in all {
             let cut = steps.len() == 7;
             if cut {

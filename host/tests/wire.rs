@@ -117,7 +117,7 @@ fn end_at_every_byte() {
     }
     let mut c = host.client();
     c.login();
-    c.tape_open(0, 0);
+    c.tape_open_soon(0);
     sound(&fs::read(&tape).unwrap()).unwrap();
 }
 
@@ -163,7 +163,7 @@ fn two_at_once() {
     // An end without tape close hands it back as well.
     a.tape_open(1, 0);
     drop(a);
-    b.tape_open(0, 0);
+    b.tape_open_soon(0);
 }
 
 #[test]

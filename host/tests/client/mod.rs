@@ -200,6 +200,16 @@ impl Client {
         self.expect(0x300, &[text("tape0"), words(&[mode])].concat(), error);
     }
 
+    /// Opens the tape that another has just left; the host may not have noticed yet.
+    pub fn tape_open_soon(&mut self, mode: u32) {
+        for _ in 0..20 {
+            if word(&self.call(0x300, &[text("tape0"), words(&[mode])].concat()).body, 0) == 0 {
+                return;
+            }
+        }
+        panic!("the tape is not free");
+    }
+
     pub fn tape_close(&mut self) {
         self.good(0x301, b"");
     }
