@@ -5,8 +5,10 @@ use crate::restore::Target;
 use crate::session::{Line, image, seconds};
 use crate::stream::Stream;
 
-/// Bytes of one step. The file on disk follows after each step, and before any notice is sent.
+/// Bytes of one step, after which the client is heard.
 const STEP: usize = 4 << 20;
+/// Bytes after which the cartridge file follows; it does so too before anything is sent.
+const UNSTORED: usize = 32 << 20;
 /// A record is not longer.
 const RECORD: usize = 32_768;
 
@@ -92,8 +94,11 @@ impl Line<'_> {
             stream.taken(done.count);
             self.became(done.code, done.session, Some(before))?;
             moved += done.count;
-            if done.len > 0 {
+            self.unstored += done.count;
+            if done.len > 0 || self.unstored >= UNSTORED {
                 self.store()?;
+            }
+            if done.len > 0 {
                 self.send(done.len)?;
                 return Ok(true);
             }
@@ -101,7 +106,6 @@ impl Line<'_> {
                 break;
             }
         }
-        self.store()?;
         Ok(moved > 0)
     }
 

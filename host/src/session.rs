@@ -33,6 +33,8 @@ pub struct Line<'a> {
     pub job: Option<Job>,
     pub out: Vec<u8>,
     pub progress: Progress,
+    /// Bytes on the tape in memory that the file does not have yet.
+    pub unstored: usize,
     socket: TcpStream,
 }
 
@@ -54,7 +56,7 @@ pub fn serve(socket: TcpStream, shared: &Shared, number: usize) -> Result<(), St
     let mut out = vec![0; OUTPUT];
     let opened = proved::open(seconds(), &mut out);
     let progress = Progress::new(number, shared.quiet);
-    let mut line = Line { shared, core: opened.session, held: None, job: None, out, progress, socket };
+    let mut line = Line { shared, core: opened.session, held: None, job: None, out, progress, unstored: 0, socket };
     line.send(opened.len)?;
     loop {
         // Moves go on as long as the client says nothing.
@@ -106,10 +108,11 @@ impl Line<'_> {
     }
 
     pub fn store(&mut self) -> Result<(), String> {
-        match &mut self.held {
-            Some(c) => c.store().map_err(|e| format!("the cartridge file could not be written: {e}")),
-            None => Ok(()),
+        if let Some(c) = &mut self.held {
+            c.store().map_err(|e| format!("the cartridge file could not be written: {e}"))?;
         }
+        self.unstored = 0;
+        Ok(())
     }
 
     pub fn send(&mut self, len: usize) -> Result<(), String> {

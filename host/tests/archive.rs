@@ -33,6 +33,7 @@ fn parts_of_any_size() {
         assert_eq!(tree(&from), tree(&to));
     }
     // Read by single bytes it is the same archive.
+    #[allow(clippy::unbuffered_bytes)]
     let one_by_one: Vec<u8> = Tar::new(&from, Box::new(|_| ())).unwrap().bytes().map(|b| b.unwrap()).collect();
     assert!(one_by_one == bytes);
 }

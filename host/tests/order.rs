@@ -5,7 +5,7 @@ use mossgoblin_host::cartridge::{Cartridge, Disk};
 use mossgoblin_host::{proved, records};
 use std::cell::{Cell, RefCell};
 use std::fs;
-use std::io;
+use std::io::{self, Write};
 use std::rc::Rc;
 use std::time::{Duration, Instant};
 
@@ -201,6 +201,22 @@ fn other_orders_are_found_out() {
     assert!(uncut > 20 && unsynced > 20, "{uncut} {unsynced}");
 }
 
+const WINDOW: u64 = 32_768 * 64;
+
+/// At each pause the next window, without waiting for the replies, until the connection ends.
+fn next_windows(mut c: Client) {
+    let mut offset = 0;
+    while let Ok(m) = c.receive() {
+        if m.number == MOVER_PAUSED {
+            offset += WINDOW;
+            let window = [offset.to_be_bytes(), WINDOW.to_be_bytes()].concat();
+            if c.socket.write_all(&[request(1, 0xa05, &window), request(2, 0xa02, b"")].concat()).is_err() {
+                break;
+            }
+        }
+    }
+}
+
 #[test]
 fn killed_during_a_backup() {
     let s = Scratch::new();
@@ -222,11 +238,13 @@ fn killed_during_a_backup() {
         let mut c = host.client();
         c.login();
         c.tape_open(1, 0);
-        c.join(0, 32_768, 32_768 * 1_000);
+        c.join(0, 32_768, WINDOW);
         c.start_backup();
+        let client = std::thread::spawn(move || next_windows(c));
         std::thread::sleep(Duration::from_micros(chance[rounds] as u64 * 200));
         host.child.kill().unwrap();
         host.child.wait().unwrap();
+        client.join().unwrap();
         let image = fs::read(&tape).unwrap();
         let (n, used) = sound(&image).unwrap();
         let body = &image[16 + 8 * 4_096..][..used as usize];
