@@ -15,14 +15,14 @@ use Rattle.replies.specs.declared.Reply.{Reply}
 use Rattle.replies.specs.declared.Notice.{Notice}
 use Rattle.replies.specs.Replies.{replyBytes, noticeBytes}
 use Rattle.session.specs.declared.types.Session.{Session}
-use Rattle.session.specs.Answer.{Answered, replied, counted, silent, replying, noticed}
+use Rattle.session.specs.Answer.{held, Answered, replied, counted, silent, replying, noticed}
 use Rattle.session.specs.declared.types.Answer.{Answer}
 use Rattle.answering.specs.Call.{CallTold}
 
 -- a reply
 pub finished : (r out out′ : List ℕ) (time m e : ℕ) (reply : Reply) (seen : List ℕ) (next after : Session) (n : ℕ)
     → m ≡ word r 16 → e ≡ word r 4 → Put 0 (replyBytes (next .sequence) time m e reply seen) out n out′ → after ≡ replied next
-    → (image : List ℕ) → CallTold (replying r time reply seen next image) (record { code = 0; len = n; session = after }) image out out′
+    → (image : List ℕ) → CallTold (replying r time reply seen (held next image)) (record { code = 0; len = n; session = after }) image out out′
 finished r out out′ time m e reply seen next after n hm he put ha image =
     let b : List ℕ = replyBytes (next .sequence) time (word r 16) (word r 4) reply seen in
     let p : Put 0 b out n out′ = rw (hm, he) at put in
@@ -45,7 +45,7 @@ pub also-noticed : (time why : ℕ) (n : Notice) (a : Answered) (r : Answer) (im
     → CallTold (noticed time why n a) (record { code = r .code; len = k; session = after }) image l l₂
 unfolding noticed choose
 also-noticed time why n a r image l l₁ l₂ k after z t put ha =
-    let b : List ℕ = noticeBytes (a .next .sequence) time n in
+    let b : List ℕ = noticeBytes (a .next .session .sequence) time n in
     let p : Put (r .len) b l₁ k l₂ = rw (t .next) at put in
     let h : length (a .reply ++ (a .notices ++ b)) ≡ length (a .reply ++ a .notices) + length b = simp length-append (omega arith) in
     let e = p .end in
@@ -62,21 +62,21 @@ also-noticed time why n a r image l l₁ l₂ k after z t put ha =
 
 -- the same session, whatever it is made of
 pub same-reply : (r : List ℕ) (time : ℕ) (seen image : List ℕ) (p q : Reply) (s t : Session) (v : Answer) (l l′ : List ℕ) → p ≡ q → s ≡ t
-    → CallTold (replying r time p seen s image) v image l l′ → CallTold (replying r time q seen t image) v image l l′
+    → CallTold (replying r time p seen (held s image)) v image l l′ → CallTold (replying r time q seen (held t image)) v image l l′
 same-reply r time seen image p q s t v l l′ e f h = rw (e, f) at h
 
 -- nothing sent: an output that is as it was
 pub unsent : (s t : Session) (n : ℕ) (image l : List ℕ) → s ≡ t
-    → CallTold (record { code = n; reply = []; notices = []; next = t; image = image }) (record { code = n; len = 0; session = s }) image l l
+    → CallTold (record { code = n; reply = []; notices = []; next = held t image }) (record { code = n; len = 0; session = s }) image l l
 unsent s t n image l e = record { code = refl; len = refl; next = e; image = refl; output = overlay-none 0 l }
 
 -- nothing sent, with the session that is meant
-pub unsent-as : (s t : Session) (n : ℕ) (r : Answer) (image l : List ℕ) → s ≡ t → CallTold (silent n s image) r image l l → CallTold (silent n t image) r image l l
+pub unsent-as : (s t : Session) (n : ℕ) (r : Answer) (image l : List ℕ) → s ≡ t → CallTold (silent n (held s image)) r image l l → CallTold (silent n (held t image)) r image l l
 unsent-as s t n r image l e c = rw e at c
 
 -- a notice alone, at the start of an output
 pub announced : (b : List ℕ) (s t : Session) (n : ℕ) (l l′ : List ℕ) → Put 0 b l n l′ → s ≡ t
-    → CallTold (record { code = 0; reply = []; notices = b; next = t; image = [] }) (record { code = 0; len = n; session = s }) [] l l′
+    → CallTold (record { code = 0; reply = []; notices = b; next = held t [] }) (record { code = 0; len = n; session = s }) [] l l′
 announced b s t n l l′ p e = record { code = refl; len = p .end ∙ zero-add (length b); next = e; image = refl; output = p .wrote }
 
 -- ---- the chain of a call

@@ -11,8 +11,8 @@ use Rattle.session.specs.declared.types.Answer.{Answer}
 pub record CallTold (a : Answered) (r : Answer) (image′ out out′ : List ℕ) : Type 0 where
   pub code : r .code ≡ a .code
   pub len : r .len ≡ length (a .reply ++ a .notices)
-  pub next : r .session ≡ a .next
-  pub image : image′ ≡ a .image
+  pub next : r .session ≡ a .next .session
+  pub image : image′ ≡ a .next .image
   pub output : out′ ≡ overlay 0 (a .reply ++ a .notices) out
 
 -- what the functions below the calls lean on: a record with its header, and an output with room

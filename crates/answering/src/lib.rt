@@ -4,7 +4,7 @@ ghost use mathlib.Core.List.{List};
 ghost use Prim.Native.Nat.{ℕ, _+_, _≤_};
 ghost use lib.ListN.{length};
 ghost use Rattle.replies.specs.Fit.{Sendable};
-ghost use Rattle.session.specs.Answer.{Answered, bump, withParts, silent, closing, replying, noticed};
+ghost use Rattle.session.specs.Answer.{held, Answered, bump, withParts, silent, closing, replying, noticed};
 ghost use Rattle.answering.specs.Call.{CallTold, Ready};
 use replies::Notice;
 use replies::Reply;
@@ -61,7 +61,7 @@ pub fn finish(
     out: &mut [u8],
 ) -> Answer
     requires { ⌜ Ready (now input) (now out) × Sendable reply (now seen) ⌝ }
-    ensures { λ r. ⌜ (r .len ≤ 32804) × ((image : List ℕ) → CallTold (replying (now (input .entry)) time reply (now (seen .entry)) next image) r image (now (out .entry)) (now (out .exit))) ⌝ }
+    ensures { λ r. ⌜ (r .len ≤ 32804) × ((image : List ℕ) → CallTold (replying (now (input .entry)) time reply (now (seen .entry)) (held next image)) r image (now (out .entry)) (now (out .exit))) ⌝ }
 {
     let message = xdr::read_word(input, 16);
     let echo = xdr::read_word(input, 4);
@@ -94,7 +94,7 @@ pub fn notify(sent: Answer, time: u32, why: u32, notice: Notice, out: &mut [u8])
 
 // Nothing is sent and nothing changes.
 pub fn quiet(code: u32, s: Session) -> Answer
-    ensures { λ r. ⌜ ((image l : List ℕ) → CallTold (silent code s image) r image l l) ⌝ }
+    ensures { λ r. ⌜ ((image l : List ℕ) → CallTold (silent code (held s image)) r image l l) ⌝ }
 {
     Answer {
         code,
@@ -105,7 +105,7 @@ pub fn quiet(code: u32, s: Session) -> Answer
 
 // The session is closed, with no reply.
 pub fn shut(s: Session) -> Answer
-    ensures { λ r. ⌜ ((image l : List ℕ) → CallTold (closing s image) r image l l) ⌝ }
+    ensures { λ r. ⌜ ((image l : List ℕ) → CallTold (closing (held s image)) r image l l) ⌝ }
 {
     let d = s.source;
     let m = s.mover;

@@ -1,10 +1,10 @@
 // The calls for a host in Rust or C. None asks anything of its caller: each promises what the call of the same name below promises.
 ghost use mathlib.Core.List.{[]};
 ghost use lib.ListN.{length};
-ghost use Rattle.session.specs.Answer.{answered};
+ghost use Rattle.session.specs.Answer.{held, answered};
 ghost use Rattle.session.specs.Calls.{opening};
 ghost use Rattle.answering.specs.Call.{CallTold};
-ghost use Rattle.server.specs.Call.{account};
+ghost use Rattle.server.specs.Call.{lent};
 ghost use Rattle.moves.specs.Events.{movedToTape, movedFromTape, methodEnded};
 ghost use Rattle.events.specs.Told.{MoveTold};
 use session::types::Answer;
@@ -30,7 +30,7 @@ pub extern "C" fn mossgoblin_request(
     time: u32,
     out: &mut [u8],
 ) -> Answer
-    ensures { λ r. ⌜ CallTold (answered s (account (now (id .entry)) (now (password .entry))) (now (image .entry)) (now (input .entry)) time (length (now (out .entry)))) r (now (image .exit)) (now (out .entry)) (now (out .exit)) ⌝ }
+    ensures { λ r. ⌜ CallTold (answered (held s (now (image .entry))) (lent (now (id .entry)) (now (password .entry)) time (now (out .entry))) (now (input .entry))) r (now (image .exit)) (now (out .entry)) (now (out .exit)) ⌝ }
 {
     server::request(s, id, password, image, input, time, out)
 }

@@ -3,19 +3,20 @@ ghost use mathlib.Core.Path.{_≡_};
 ghost use Prim.Native.Nat.{_+_, _≤_};
 ghost use lib.ListN.{length};
 ghost use Rattle.xdr.specs.Xdr.{sameBytes};
-ghost use Rattle.session.specs.Judge.{first};
-ghost use Rattle.session.specs.Telling.{Told};
-ghost use Rattle.session.specs.DataService.{textOf, DataTexts, dump, knownTests, toldIn, dataView, dataState, dataListenTests, dataListen, startTests, dataStart, dataStopTests, dataStop, dataStep};
+ghost use Rattle.session.specs.Judge.{first, accept};
+ghost use Rattle.replies.specs.declared.Reply.the-variants.{DataState};
+ghost use Rattle.session.specs.DataService.{textOf, DataTexts, dump, knownTests, toldIn, dataView, dataListen, dataStart, dataStop, dataStep, dataRefusal};
+ghost use Rattle.data_service.specs.Done.{outcomeOf};
 use replies::DataView;
 use replies::Reply;
 use requests::DataRequest;
 use requests::Text;
 use session::types::Data;
 
-// A reply, and the data end after it.
-pub struct DataDone {
-    pub reply: Reply,
-    pub next: Data,
+// A refusal, or a reply and the data end after it.
+pub enum DataDone {
+    Refuse(u32),
+    Accept(Reply, Data),
 }
 
 // The error of a request that only asks for authorization.
@@ -24,48 +25,6 @@ pub fn known_error(known: bool) -> u32
 {
     if !known {
         return 4;
-    }
-    0
-}
-
-fn listen_error(known: bool, state: u32, address: u32) -> u32
-    ensures { λ r. ⌜ r ≡ first (dataListenTests known state address) ⌝ }
-{
-    if !known {
-        return 4;
-    }
-    if state != Data::IDLE {
-        return 19;
-    }
-    if address != 0 {
-        return 9;
-    }
-    0
-}
-
-fn start_error(known: bool, state: u32, named: bool) -> u32
-    ensures { λ r. ⌜ r ≡ first (startTests known state named) ⌝ }
-{
-    if !known {
-        return 4;
-    }
-    if state != Data::CONNECTED {
-        return 19;
-    }
-    if !named {
-        return 9;
-    }
-    0
-}
-
-fn stop_error(known: bool, state: u32) -> u32
-    ensures { λ r. ⌜ r ≡ first (dataStopTests known state) ⌝ }
-{
-    if !known {
-        return 4;
-    }
-    if state != Data::HALTED {
-        return 19;
     }
     0
 }
@@ -80,65 +39,39 @@ pub fn told_in(at: u32, state: u32, reason: u32) -> u32
     0
 }
 
-fn get_state(known: bool, d: Data) -> DataDone
-    ensures { λ r. ⌜ Told (dataState known d) (r .reply) (r .next) ⌝ }
+fn get_state(d: Data) -> DataDone
+    ensures { λ r. ⌜ outcomeOf r ≡ accept (DataState 0 (dataView d)) d ⌝ }
 {
-    let e = known_error(known);
-    if e != 0 {
-        let none = DataView {
-            operation: 0,
-            state: 0,
-            reason: 0,
-            processed: 0,
-        };
-        return DataDone {
-            reply: Reply::DataState(e, none),
-            next: d,
-        };
-    }
     let view = DataView {
         operation: d.operation,
         state: d.state,
         reason: told_in(Data::HALTED, d.state, d.reason),
         processed: d.processed,
     };
-    DataDone {
-        reply: Reply::DataState(0, view),
-        next: d,
-    }
+    DataDone::Accept(Reply::DataState(0, view), d)
 }
 
-fn listen(known: bool, d: Data, address: u32) -> DataDone
-    ensures { λ r. ⌜ Told (dataListen known d address) (r .reply) (r .next) ⌝ }
+fn listen(d: Data, address: u32) -> DataDone
+    ensures { λ r. ⌜ outcomeOf r ≡ dataListen d address ⌝ }
 {
-    let e = listen_error(known, d.state, address);
-    if e != 0 {
-        return DataDone {
-            reply: Reply::Listening(e),
-            next: d,
-        };
+    if d.state != Data::IDLE {
+        return DataDone::Refuse(19);
     }
-    let next = Data {
-        state: Data::LISTEN,
-        operation: d.operation,
-        reason: d.reason,
-        processed: d.processed,
-    };
-    DataDone {
-        reply: Reply::Listening(0),
-        next,
+    if address != 0 {
+        return DataDone::Refuse(9);
     }
+    let next = d.goes(Data::LISTEN);
+    DataDone::Accept(Reply::Listening(0), next)
 }
 
-fn start(known: bool, d: Data, operation: u32, named: bool) -> DataDone
-    ensures { λ r. ⌜ Told (dataStart known d operation named) (r .reply) (r .next) ⌝ }
+fn start(d: Data, operation: u32, named: bool) -> DataDone
+    ensures { λ r. ⌜ outcomeOf r ≡ dataStart d operation named ⌝ }
 {
-    let e = start_error(known, d.state, named);
-    if e != 0 {
-        return DataDone {
-            reply: Reply::Plain(e),
-            next: d,
-        };
+    if d.state != Data::CONNECTED {
+        return DataDone::Refuse(19);
+    }
+    if !named {
+        return DataDone::Refuse(9);
     }
     let next = Data {
         state: Data::ACTIVE,
@@ -146,21 +79,14 @@ fn start(known: bool, d: Data, operation: u32, named: bool) -> DataDone
         reason: d.reason,
         processed: d.processed,
     };
-    DataDone {
-        reply: Reply::Plain(0),
-        next,
-    }
+    DataDone::Accept(Reply::Plain(0), next)
 }
 
-fn stop(known: bool, d: Data) -> DataDone
-    ensures { λ r. ⌜ Told (dataStop known d) (r .reply) (r .next) ⌝ }
+fn stop(d: Data) -> DataDone
+    ensures { λ r. ⌜ outcomeOf r ≡ dataStop d ⌝ }
 {
-    let e = stop_error(known, d.state);
-    if e != 0 {
-        return DataDone {
-            reply: Reply::Plain(e),
-            next: d,
-        };
+    if d.state != Data::HALTED {
+        return DataDone::Refuse(19);
     }
     let next = Data {
         state: Data::IDLE,
@@ -168,10 +94,7 @@ fn stop(known: bool, d: Data) -> DataDone
         reason: 0,
         processed: 0,
     };
-    DataDone {
-        reply: Reply::Plain(0),
-        next,
-    }
+    DataDone::Accept(Reply::Plain(0), next)
 }
 
 // Whether the method of a start request is `dump`.
@@ -184,22 +107,43 @@ fn is_dump(body: &[u8], name: Text) -> bool
     xdr::same(&body[start..end], b"dump")
 }
 
-// A request of the data interface.
-pub fn serve(known: bool, d: Data, q: DataRequest, body: &[u8]) -> DataDone
+// A request of the data interface, of a session that is authorized.
+pub fn serve(d: Data, q: DataRequest, body: &[u8]) -> DataDone
     requires { ⌜ DataTexts (now body) q ⌝ }
-    ensures { λ r. ⌜ Told (dataStep known d q (now (body .entry))) (r .reply) (r .next) ⌝ }
+    ensures { λ r. ⌜ outcomeOf r ≡ dataStep d q (now (body .entry)) ⌝ }
 {
     match q {
-        DataRequest::State => get_state(known, d),
+        DataRequest::State => get_state(d),
         DataRequest::Backup(name) => {
             let named = is_dump(body, name);
-            start(known, d, 1, named)
+            start(d, 1, named)
         }
         DataRequest::Recover(name) => {
             let named = is_dump(body, name);
-            start(known, d, 2, named)
+            start(d, 2, named)
         }
-        DataRequest::Stop => stop(known, d),
-        DataRequest::Listen(address) => listen(known, d, address),
+        DataRequest::Stop => stop(d),
+        DataRequest::Listen(address) => listen(d, address),
+    }
+}
+
+// The reply of a refusal: its number, and every field zero.
+pub fn refusal(q: DataRequest, e: u32) -> Reply
+    ensures { λ r. ⌜ r ≡ dataRefusal q e ⌝ }
+{
+    match q {
+        DataRequest::State => {
+            let none = DataView {
+                operation: 0,
+                state: 0,
+                reason: 0,
+                processed: 0,
+            };
+            Reply::DataState(e, none)
+        }
+        DataRequest::Backup(_) => Reply::Plain(e),
+        DataRequest::Recover(_) => Reply::Plain(e),
+        DataRequest::Stop => Reply::Plain(e),
+        DataRequest::Listen(_) => Reply::Listening(e),
     }
 }

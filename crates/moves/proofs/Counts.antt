@@ -14,11 +14,12 @@ use Rattle.session.specs.Parts.{wrapped}
 use Rattle.session.specs.MoverService.{recordNumber}
 use Rattle.session.specs.Relation.{keeps}
 use Rattle.session.specs.Order.{Each}
-use Rattle.moves.specs.Sequence.{World, Event, Asked, ToTape, FromTape, Ended, Loaded, next, runs, Seen, Sized, Windowed, MoverStopped, DataStopped, Paused, Wrote, Handed, Nothing, Register, registerOf, after, seen, Fits, Legitimate, moveShown, countOf}
+use Rattle.session.specs.Answer.{Kept}
+use Rattle.moves.specs.Sequence.{Event, Asked, ToTape, FromTape, Ended, Loaded, next, runs, Seen, Sized, Windowed, MoverStopped, DataStopped, Paused, Wrote, Handed, Nothing, Register, registerOf, after, seen, Fits, Legitimate, moveShown, countOf}
 use Rattle.moves.specs.Counts.{trace, replay, movedBy, recordsIn, sum, IsMove, IsToTape, Counted, Recorded, CountsHold}
 use Rattle.moves.proofs.Sequence.{goes, legitimate}
 
-replayed : (w : World) → keeps (w .session) ≡ true → (es : List Event) → registerOf (runs w es .session) ≡ replay (registerOf (w .session)) (trace w es)
+replayed : (w : Kept) → keeps (w .session) ≡ true → (es : List Event) → registerOf (runs w es .session) ≡ replay (registerOf (w .session)) (trace w es)
 unfolding runs trace replay
 replayed w h [] = refl
 replayed w h (e ∷ es) =
@@ -51,7 +52,7 @@ unfolding moveShown
 by-shown P m next n what a b c =
     by-test P (not (eqb n 0)) _ _ (λ _. a) (λ _. by-test P (not (eqb (m .state) 2)) _ _ (λ _. c) (λ _. by-test P (eqb (next .state) 3) _ _ (λ _. b) (λ _. c)))
 
-moves : (e : Event) (w : World) → IsMove e → Moves (seen e w)
+moves : (e : Event) (w : Kept) → IsMove e → Moves (seen e w)
 unfolding seen
 moves (ToTape stream last time room) w i = by-shown Moves _ _ _ _ tt tt tt
 moves (FromTape dest time room) w i = by-shown Moves _ _ _ _ tt tt tt
@@ -59,7 +60,7 @@ moves (Loaded image) w i = tt
 moves (Asked c) w i = absurd i
 moves (Ended ok time room) w i = absurd i
 
-writes : (e : Event) (w : World) → IsToTape e → Writes (seen e w)
+writes : (e : Event) (w : Kept) → IsToTape e → Writes (seen e w)
 unfolding seen
 writes (ToTape stream last time room) w i = by-shown Writes _ _ _ _ tt tt tt
 writes (Loaded image) w i = tt
@@ -87,7 +88,7 @@ counts-after r (Windowed o n) j k m = absurd m
 counts-after r MoverStopped j k m = absurd m
 counts-after r DataStopped j k m = absurd m
 
-counted : (w : World) → keeps (w .session) ≡ true → (es : List Event) → Each IsMove es → Counted w es
+counted : (w : Kept) → keeps (w .session) ≡ true → (es : List Event) → Each IsMove es → Counted w es
 unfolding runs trace sum
 counted w h [] is = record { moved = ap wrapped (sym (add-zero _)); processed = ap wrapped (sym (add-zero _)) }
 counted w h (e ∷ es) is =
@@ -127,18 +128,18 @@ number-of : (moved size k : ℕ) → (size ≡ 0 → ⊥) → recordNumber (move
 unfolding recordNumber choose
 number-of moved size k h = rw (ne-eqb size 0 h) (ap (λ (n : ℕ). n % 4294967296) (add-mul-div-right moved k {z = size} (omega (arith, h))))
 
-record Grown (w v : World) (k : ℕ) : Type 0 where
+record Grown (w v : Kept) (k : ℕ) : Type 0 where
   size : v .session .mover .size ≡ w .session .mover .size
   moved : v .session .mover .moved ≡ w .session .mover .moved + k * w .session .mover .size
 
-grown-more : (w u v : World) (j k : ℕ) → Grown w u j → Grown u v k → Grown w v (j + k)
+grown-more : (w u v : Kept) (j k : ℕ) → Grown w u j → Grown u v k → Grown w v (j + k)
 grown-more w u v j k a b =
     record {
       size = b .size ∙ a .size;
       moved = b .moved ∙ rw (a .size, a .moved) (add-assoc (w .session .mover .moved) (j * w .session .mover .size) (k * w .session .mover .size) ∙ ap (λ (n : ℕ). w .session .mover .moved + n) (sym (add-mul j k (w .session .mover .size))));
     }
 
-grown : (w : World) → keeps (w .session) ≡ true → (es : List Event) → Each IsToTape es → Grown w (runs w es) (sum recordsIn (trace w es))
+grown : (w : Kept) → keeps (w .session) ≡ true → (es : List Event) → Each IsToTape es → Grown w (runs w es) (sum recordsIn (trace w es))
 unfolding runs trace sum
 grown w h [] is = record { size = refl; moved = sym (ap (λ (k : ℕ). w .session .mover .moved + k) (zero-mul (w .session .mover .size)) ∙ add-zero (w .session .mover .moved)) }
 grown w h (e ∷ es) is =
@@ -149,7 +150,7 @@ grown w h (e ∷ es) is =
     let b = ap (λ (r : Register). r .moved) (g .register) in
     grown-more w (next e w) (runs (next e w) es) (recordsIn (seen e w)) _ (record { size = a ∙ o .size; moved = b ∙ o .moved }) (grown (next e w) (g .kept) es (is .1))
 
-recorded : (w : World) → keeps (w .session) ≡ true → (es : List Event) → Each IsToTape es → Recorded w es
+recorded : (w : Kept) → keeps (w .session) ≡ true → (es : List Event) → Each IsToTape es → Recorded w es
 recorded w h es is =
     let g = grown w h es is in
     record { size = g .size; moved = g .moved; number = λ n. rw (g .size, g .moved) (number-of (w .session .mover .moved) (w .session .mover .size) (sum recordsIn (trace w es)) n) }

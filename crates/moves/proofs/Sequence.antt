@@ -13,26 +13,26 @@ use Rattle.cartridge.specs.Step.{Step}
 use Rattle.replies.specs.declared.Notice.{Notice}
 use Rattle.session.specs.declared.types.Session.{Session}
 use Rattle.session.specs.Relation.{keeps}
-use Rattle.session.specs.Answer.{Answered, noticed}
+use Rattle.session.specs.Answer.{Kept, Answered, noticed}
 use Rattle.session.specs.Order.{Each}
 use Rattle.session.proofs.Kept.{mover-kept}
 use Rattle.session.proofs.Keeping.{clash}
-use Rattle.session.proofs.Order.{kept-facts, facts-kept}
+use Rattle.session.proofs.Calls.{kept-facts, facts-kept}
 use Rattle.session.proofs.Calls.{calls-keep}
 use Rattle.moves.specs.declared.Move.{Move}
 use Rattle.moves.specs.Moves.{Handing, toTape, fromTape, methodEnd}
 use Rattle.moves.specs.Events.{Moving, idling, announced, moved, guarded, movedToTape, movedFromTape, methodEnded}
-use Rattle.moves.specs.Sequence.{World, Event, Asked, ToTape, FromTape, Ended, Loaded, next, runs, Wrote, Handed, registerOf, after, Fits, Legitimate, moveShown, seen, imageAfter, soughtEntry, destAfter, countOf, Leaves, Inside, done, more, WindowHolds}
+use Rattle.moves.specs.Sequence.{Event, Asked, ToTape, FromTape, Ended, Loaded, next, runs, Wrote, Handed, registerOf, after, Fits, Legitimate, moveShown, seen, imageAfter, soughtEntry, destAfter, countOf, Leaves, Inside, done, more, WindowHolds}
 use Rattle.moves.specs.Keeping.{Idle, Guards, Sounds, MovesKeep}
 use Rattle.moves.proofs.Asking.{asked-register, asked-fits}
 use Rattle.moves.proofs.Moving.{PartsKept, shown-still, ToTurn, to-turn, FromTurn, from-turn, end-turn}
 
 -- ---- an answer that carries a move's parts
 record Carries (mv : Move) (image : List ℕ) (a : Answered) : Type 0 where
-  source : a .next .source ≡ mv .source
-  mover : a .next .mover ≡ mv .mover
-  tape : a .next .tape ≡ mv .tape
-  image-end : a .image ≡ image
+  source : a .next .session .source ≡ mv .source
+  mover : a .next .session .mover ≡ mv .mover
+  tape : a .next .session .tape ≡ mv .tape
+  image-end : a .next .image ≡ image
   code : a .code ≡ 0
 
 noticed-carries : (mv : Move) (image : List ℕ) (time why : ℕ) (n : Notice) (a : Answered) → Carries mv image a → Carries mv image (noticed time why n a)
@@ -55,7 +55,7 @@ module _ (P : Moving → Type 0) (s : Session) (image dest : List ℕ) (room : �
 
 module _ (s : Session) (image dest : List ℕ) (room : ℕ) (x : Moving) (z : x .answer .code ≡ 0) where
   idle : (code : ℕ) → Idle s image dest (idling code s image dest)
-  idle code = record { answer = record { reply = refl; notices = refl; next = refl; image-end = refl }; none = refl; dest-end = refl }
+  idle code = record { answer = record { reply = refl; notices = refl; next = refl }; none = refl; dest-end = refl }
 
   guard-code : (short good shut : Bool)
       → choose short (idling 1001 s image dest) (choose (not good) (idling 1002 s image dest) (choose shut (idling 0 s image dest) x)) .answer .code ≡ choose short 1001 (choose good 0 1002)
@@ -86,20 +86,20 @@ module _ (s : Session) (image dest : List ℕ) (room : ℕ) (x : Moving) (z : x 
 
 -- ---- a move to tape, as a call
 record ToCall (s : Session) (image stream : List ℕ) (e : Moving) : Type 0 where
-  fits : Fits (registerOf s) (moveShown (s .mover) (e .answer .next .mover) (e .count) (Wrote (s .mover .size) (e .count)))
-  register : registerOf (e .answer .next) ≡ after (registerOf s) (moveShown (s .mover) (e .answer .next .mover) (e .count) (Wrote (s .mover .size) (e .count)))
-  image-end : e .answer .image ≡ imageAfter (moveShown (s .mover) (e .answer .next .mover) (e .count) (Wrote (s .mover .size) (e .count))) image (s .tape .position) stream
-  taken : e .count ≡ countOf (moveShown (s .mover) (e .answer .next .mover) (e .count) (Wrote (s .mover .size) (e .count)))
+  fits : Fits (registerOf s) (moveShown (s .mover) (e .answer .next .session .mover) (e .count) (Wrote (s .mover .size) (e .count)))
+  register : registerOf (e .answer .next .session) ≡ after (registerOf s) (moveShown (s .mover) (e .answer .next .session .mover) (e .count) (Wrote (s .mover .size) (e .count)))
+  image-end : e .answer .next .image ≡ imageAfter (moveShown (s .mover) (e .answer .next .session .mover) (e .count) (Wrote (s .mover .size) (e .count))) image (s .tape .position) stream
+  taken : e .count ≡ countOf (moveShown (s .mover) (e .answer .next .session .mover) (e .count) (Wrote (s .mover .size) (e .count)))
   there : e .count ≤ length stream
-  kept : keeps (e .answer .next) ≡ true
-  sound : isSound image ≡ true → isSound (e .answer .image) ≡ true
+  kept : keeps (e .answer .next .session) ≡ true
+  sound : isSound image ≡ true → isSound (e .answer .next .image) ≡ true
 
 parts-kept : (s : Session) → keeps s ≡ true → PartsKept (s .source) (s .mover) (s .tape)
 parts-kept s h = let f = kept-facts s h in record { source = f .source; mover = f .mover; joined = f .joined }
 
-carried-kept : (mv : Move) (image : List ℕ) (a : Answered) → Carries mv image a → PartsKept (mv .source) (mv .mover) (mv .tape) → keeps (a .next) ≡ true
+carried-kept : (mv : Move) (image : List ℕ) (a : Answered) → Carries mv image a → PartsKept (mv .source) (mv .mover) (mv .tape) → keeps (a .next .session) ≡ true
 carried-kept mv image a c k =
-    facts-kept (a .next) (record { source = rw (c .source) (k .source); mover = rw (c .mover, c .tape) (k .mover); joined = rw (c .source, c .mover) (k .joined) })
+    facts-kept (a .next .session) (record { source = rw (c .source) (k .source); mover = rw (c .mover, c .tape) (k .mover); joined = rw (c .source, c .mover) (k .joined) })
 
 module _ (s : Session) (image stream : List ℕ) (h : keeps s ≡ true) where
   to-idle : (code : ℕ) → ToCall s image stream (idling code s image [])
@@ -130,13 +130,13 @@ module _ (s : Session) (image stream : List ℕ) (h : keeps s ≡ true) where
 
 -- ---- a move from tape, as a call
 record FromCall (s : Session) (image dest : List ℕ) (e : Moving) : Type 0 where
-  fits : Fits (registerOf s) (moveShown (s .mover) (e .answer .next .mover) (e .count) (Handed (s .mover .seek) (e .count)))
-  register : registerOf (e .answer .next) ≡ after (registerOf s) (moveShown (s .mover) (e .answer .next .mover) (e .count) (Handed (s .mover .seek) (e .count)))
-  dest-end : e .dest ≡ destAfter (moveShown (s .mover) (e .answer .next .mover) (e .count) (Handed (s .mover .seek) (e .count))) (registerOf s) (s .mover .origin) image dest
-  given : e .count ≡ countOf (moveShown (s .mover) (e .answer .next .mover) (e .count) (Handed (s .mover .seek) (e .count)))
+  fits : Fits (registerOf s) (moveShown (s .mover) (e .answer .next .session .mover) (e .count) (Handed (s .mover .seek) (e .count)))
+  register : registerOf (e .answer .next .session) ≡ after (registerOf s) (moveShown (s .mover) (e .answer .next .session .mover) (e .count) (Handed (s .mover .seek) (e .count)))
+  dest-end : e .dest ≡ destAfter (moveShown (s .mover) (e .answer .next .session .mover) (e .count) (Handed (s .mover .seek) (e .count))) (registerOf s) (s .mover .origin) image dest
+  given : e .count ≡ countOf (moveShown (s .mover) (e .answer .next .session .mover) (e .count) (Handed (s .mover .seek) (e .count)))
   room : e .count ≤ length dest
   exact : (e .count ≡ 0 → ⊥) → entryLen image (soughtEntry (s .mover)) ≡ s .mover .size
-  kept : keeps (e .answer .next) ≡ true
+  kept : keeps (e .answer .next .session) ≡ true
 
 module _ (s : Session) (image dest : List ℕ) (h : keeps s ≡ true) where
   from-idle : (code : ℕ) → FromCall s image dest (idling code s image dest)
@@ -167,8 +167,8 @@ module _ (s : Session) (image dest : List ℕ) (h : keeps s ≡ true) where
 
 -- ---- the method's end, as a call
 record EndCall (s : Session) (e : Moving) : Type 0 where
-  register : registerOf (e .answer .next) ≡ registerOf s
-  kept : keeps (e .answer .next) ≡ true
+  register : registerOf (e .answer .next .session) ≡ registerOf s
+  kept : keeps (e .answer .next .session) ≡ true
 
 end-call : (s : Session) → keeps s ≡ true → (ok : Bool) (time room : ℕ) → EndCall s (methodEnded s ok time room)
 unfolding methodEnded
@@ -180,22 +180,22 @@ end-call s h ok time room =
     (record { register = rw (c .source, c .mover) (t .register); kept = carried-kept mv [] _ c (t .kept) })
 
 -- ---- any call
-pub record Goes (w : World) (e : Event) : Type 0 where
+pub record Goes (w : Kept) (e : Event) : Type 0 where
   pub fits : Fits (registerOf (w .session)) (seen e w)
   pub register : registerOf (next e w .session) ≡ after (registerOf (w .session)) (seen e w)
   pub leaves : Leaves w e
   pub kept : keeps (next e w .session) ≡ true
   pub sound : isSound (w .image) ≡ true → Sounds e → isSound (next e w .image) ≡ true
 
-pub goes : (w : World) → keeps (w .session) ≡ true → (e : Event) → Goes w e
+pub goes : (w : Kept) → keeps (w .session) ≡ true → (e : Event) → Goes w e
 unfolding seen next after
 goes w h (Asked c) =
     record {
-      fits = asked-fits (registerOf (w .session)) (w .session) (c .request) (c .room);
-      register = asked-register (w .session) (c .account) (w .image) (c .request) (c .time) (c .room);
+      fits = asked-fits (registerOf (w .session)) (w .session) (c .request) (c .lent .room);
+      register = asked-register w (c .lent) (c .request);
       leaves = tt;
-      kept = calls-keep .kept (w .session) (c .account) (w .image) (c .request) (c .time) (c .room) h;
-      sound = λ k _. calls-keep .sound (w .session) (c .account) (w .image) (c .request) (c .time) (c .room) k;
+      kept = calls-keep .kept w (c .lent) (c .request) h;
+      sound = λ k _. calls-keep .sound w (c .lent) (c .request) k;
     }
 goes w h (ToTape stream last time room) =
     let t = to-call (w .session) (w .image) stream h last time room in
@@ -218,12 +218,12 @@ window-holds w h (e ∷ es) =
     let rest : Inside (after (registerOf (w .session)) (seen e w)) (next e w) es = rw (g .register) at (window-holds (next e w) (g .kept) es) in
     more (record { register = refl; window = legitimate (w .session) h; fits = g .fits; leaves = g .leaves }) rest
 
-runs-kept : (w : World) (es : List Event) → keeps (w .session) ≡ true → keeps (runs w es .session) ≡ true
+runs-kept : (w : Kept) (es : List Event) → keeps (w .session) ≡ true → keeps (runs w es .session) ≡ true
 unfolding runs
 runs-kept w [] h = h
 runs-kept w (e ∷ es) h = runs-kept (next e w) es (goes w h e .kept)
 
-runs-sound : (w : World) (es : List Event) → keeps (w .session) ≡ true → isSound (w .image) ≡ true → Each Sounds es → isSound (runs w es .image) ≡ true
+runs-sound : (w : Kept) (es : List Event) → keeps (w .session) ≡ true → isSound (w .image) ≡ true → Each Sounds es → isSound (runs w es .image) ≡ true
 unfolding runs
 runs-sound w [] h k a = k
 runs-sound w (e ∷ es) h k a = runs-sound (next e w) es (goes w h e .kept) (goes w h e .sound k (a .0)) (a .1)

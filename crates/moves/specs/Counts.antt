@@ -9,10 +9,11 @@ use Rattle.session.specs.Parts.{wrapped}
 use Rattle.session.specs.MoverService.{recordNumber}
 use Rattle.session.specs.Relation.{keeps}
 use Rattle.session.specs.Order.{Each}
-use Rattle.moves.specs.Sequence.{World, Event, Asked, ToTape, FromTape, Ended, Loaded, next, runs, Seen, Sized, Windowed, MoverStopped, DataStopped, Paused, Wrote, Handed, Nothing, Register, registerOf, after, seen, countOf}
+use Rattle.session.specs.Answer.{Kept}
+use Rattle.moves.specs.Sequence.{Event, Asked, ToTape, FromTape, Ended, Loaded, next, runs, Seen, Sized, Windowed, MoverStopped, DataStopped, Paused, Wrote, Handed, Nothing, Register, registerOf, after, seen, countOf}
 
 -- what is seen of a list of calls, and the register that is replayed from it
-unfoldable pub trace : World → List Event → List Seen
+unfoldable pub trace : Kept → List Event → List Seen
 trace w [] = []
 trace w (e ∷ es) = seen e w ∷ trace (next e w) es
 
@@ -60,12 +61,12 @@ IsToTape (Ended ok time room) = ⊥
 IsToTape (Loaded image) = Unit {0}
 
 -- after moves either way: `countOf` is what each call told as taken or handed over
-pub record Counted (w : World) (es : List Event) : Type 0 where
+pub record Counted (w : Kept) (es : List Event) : Type 0 where
   pub moved : wrapped (runs w es .session .mover .moved) ≡ wrapped (w .session .mover .moved + sum movedBy (trace w es))
   pub processed : wrapped (runs w es .session .source .processed) ≡ wrapped (w .session .source .processed + sum countOf (trace w es))
 
 -- after moves to tape: no count wraps, and the record number goes up by one a record
-pub record Recorded (w : World) (es : List Event) : Type 0 where
+pub record Recorded (w : Kept) (es : List Event) : Type 0 where
   pub size : runs w es .session .mover .size ≡ w .session .mover .size
   pub moved : runs w es .session .mover .moved ≡ w .session .mover .moved + sum recordsIn (trace w es) * w .session .mover .size
   pub number : (w .session .mover .size ≡ 0 → ⊥)
@@ -74,6 +75,6 @@ pub record Recorded (w : World) (es : List Event) : Type 0 where
 
 pub record CountsHold : Type 0 where
   -- of any sequence of calls, the closing register is what is replayed from what was seen
-  pub replayed : (w : World) → keeps (w .session) ≡ true → (es : List Event) → registerOf (runs w es .session) ≡ replay (registerOf (w .session)) (trace w es)
-  pub counted : (w : World) → keeps (w .session) ≡ true → (es : List Event) → Each IsMove es → Counted w es
-  pub recorded : (w : World) → keeps (w .session) ≡ true → (es : List Event) → Each IsToTape es → Recorded w es
+  pub replayed : (w : Kept) → keeps (w .session) ≡ true → (es : List Event) → registerOf (runs w es .session) ≡ replay (registerOf (w .session)) (trace w es)
+  pub counted : (w : Kept) → keeps (w .session) ≡ true → (es : List Event) → Each IsMove es → Counted w es
+  pub recorded : (w : Kept) → keeps (w .session) ≡ true → (es : List Event) → Each IsToTape es → Recorded w es

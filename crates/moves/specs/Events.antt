@@ -7,7 +7,7 @@ use Rattle.xdr.specs.Choose.{choose}
 use Rattle.replies.specs.declared.Notice.the-variants as Notice
 use Rattle.session.specs.declared.types.Session.{Session}
 use Rattle.session.specs.Relation.{keeps}
-use Rattle.session.specs.Answer.{Answered, silent, withParts, noticed}
+use Rattle.session.specs.Answer.{held, Answered, silent, withParts, noticed}
 use Rattle.moves.specs.declared.Move.{Move}
 use Rattle.moves.specs.Moves.{toTape, fromTape, methodEnd}
 
@@ -19,7 +19,7 @@ pub record Moving : Type 0 where
 
 -- nothing is sent and nothing changes
 abbrev pub idling : ℕ → Session → List ℕ → List ℕ → Moving
-idling code s image dest = record { answer = silent code s image; count = 0; dest = dest }
+idling code s image dest = record { answer = silent code (held s image); count = 0; dest = dest }
 
 -- "Every halt and pause sends its notice, in moves too; mover paused carries the kept seek position." "data first, mover second"
 abbrev pub announced : Session → ℕ → Move → List ℕ → Answered
@@ -27,7 +27,7 @@ announced s time mv image =
     noticed time (mv .pause) (Notice.MoverPaused (mv .pause) (mv .mover .seek))
     (noticed time (mv .mwhy) (Notice.MoverHalted (mv .mwhy))
     (noticed time (mv .dwhy) (Notice.DataHalted (mv .dwhy))
-    (silent 0 (withParts s (s .authorized) (mv .source) (mv .mover) (mv .tape) (s .changer)) image)))
+    (silent 0 (held (withParts s (s .authorized) (mv .source) (mv .mover) (mv .tape) (s .changer)) image))))
 
 abbrev pub moved : Session → ℕ → Move → List ℕ → List ℕ → Moving
 moved s time mv image dest = record { answer = announced s time mv image; count = mv .count; dest = dest }

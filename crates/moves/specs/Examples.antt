@@ -10,7 +10,7 @@ use Rattle.xdr_opaque.specs.Put.{opaque}
 use Rattle.image.specs.Image.{used, bodyAt}
 use Rattle.frame.specs.Frame.{recordBytes}
 use Rattle.session.specs.declared.types.Session.{Session}
-use Rattle.session.specs.Answer.{Account, Answered, answered}
+use Rattle.session.specs.Answer.{Account, held, Answered, answered}
 use Rattle.session.specs.Calls.{openedSession}
 use Rattle.moves.specs.Events.{Moving, movedToTape}
 
@@ -44,18 +44,18 @@ unfoldable pub account : Account
 account = record { id = 0x76 ∷ []; password = 0x70 ∷ 0x77 ∷ [] }
 
 abbrev pub heard : World → Answered → Next
-heard w a = record { shown = Told (drop 28 (a .reply)); world = record { session = a .next; image = a .image; stream = w .stream } }
+heard w a = record { shown = Told (drop 28 (a .reply)); world = record { session = a .next .session; image = a .next .image; stream = w .stream } }
 
 abbrev pub fed : World → Moving → Next
 fed w e =
-    let s = e .answer .next in
+    let s = e .answer .next .session in
     record {
       shown = Fed (e .count) (s .mover .state) (s .mover .pause) (s .mover .halt) (s .mover .moved) (s .source .processed);
-      world = record { session = s; image = e .answer .image; stream = drop (e .count) (w .stream) };
+      world = record { session = s; image = e .answer .next .image; stream = drop (e .count) (w .stream) };
     }
 
 unfoldable pub next : Act → World → Next
-next (Ask message body) w = heard w (answered (w .session) account (w .image) (recordBytes 7 0 0 message 0 0 body) 0 36864)
+next (Ask message body) w = heard w (answered (held (w .session) (w .image)) (record { account = account; time = 0; room = 36864 }) (recordBytes 7 0 0 message 0 0 body))
 next (Feed n last) w = fed w (movedToTape (w .session) (w .image) (take n (w .stream)) last 0 36864)
 
 unfoldable pub acting : World → List Act → Closing

@@ -11,11 +11,12 @@ use Rattle.session.specs.Relation.{keeps}
 use Rattle.session.specs.Calls.{Unmoved}
 use Rattle.session.specs.Order.{Each}
 use Rattle.moves.specs.Events.{Moving, movedToTape, movedFromTape, methodEnded}
-use Rattle.moves.specs.Sequence.{World, Event, Asked, ToTape, FromTape, Ended, Loaded, runs}
+use Rattle.session.specs.Answer.{Kept, held}
+use Rattle.moves.specs.Sequence.{Event, Asked, ToTape, FromTape, Ended, Loaded, runs}
 
 -- nothing is sent or moved, and session, image and destination are as they were
 pub record Idle (s : Session) (image dest : List ℕ) (e : Moving) : Type 0 where
-  pub answer : Unmoved s image (e .answer)
+  pub answer : Unmoved (held s image) (e .answer)
   pub none : e .count ≡ 0
   pub dest-end : e .dest ≡ dest
 
@@ -39,5 +40,5 @@ pub record MovesKeep : Type 0 where
   pub from-tape : (s : Session) (image dest : List ℕ) (time room : ℕ) → Guards s image dest room (movedFromTape s image dest time room)
   pub method : (s : Session) (ok : Bool) (time room : ℕ) → Guards s [] [] room (methodEnded s ok time room)
   -- every call keeps the relation, so that none is refused with 1002 after it, and leaves a sound image sound; and so do lists of calls
-  pub kept : (w : World) (es : List Event) → keeps (w .session) ≡ true → keeps (runs w es .session) ≡ true
-  pub sound : (w : World) (es : List Event) → keeps (w .session) ≡ true → isSound (w .image) ≡ true → Each Sounds es → isSound (runs w es .image) ≡ true
+  pub kept : (w : Kept) (es : List Event) → keeps (w .session) ≡ true → keeps (runs w es .session) ≡ true
+  pub sound : (w : Kept) (es : List Event) → keeps (w .session) ≡ true → isSound (w .image) ≡ true → Each Sounds es → isSound (runs w es .image) ≡ true

@@ -15,6 +15,7 @@ use Rattle.cartridge.specs.Operations.{least}
 use Rattle.session.specs.declared.types.Data.{Data}
 use Rattle.session.specs.declared.types.Mover.{Mover}
 use Rattle.session.specs.declared.types.Tape.{Tape}
+use Rattle.session.specs.Names.{toTapeMode, fromTapeMode, dataSuccessful, dataInternalError, dataConnectError, moverConnectClosed, moverMediaError, endOfMedium, endOfFile, seekOutside, endOfWindow}
 use Rattle.session.specs.Parts.{dataHalts, dataFed, moverPauses, moverHalts, moverRecords, moverHands}
 use Rattle.session.specs.TapeService.{movedTo}
 use Rattle.moves.specs.declared.Move.{Move}
@@ -67,9 +68,9 @@ writing d m t l s =
 -- EOM 1; (7) one record is taken and written"
 unfoldable pub filling : Data → Mover → Tape → List ℕ → List ℕ → Bool → Step Move
 filling d m t l s last =
-    choose (eqb (m .moved) (m .offset + m .length)) (keeping l (pauses 5 d m t))
+    choose (eqb (m .moved) (m .offset + m .length)) (keeping l (pauses endOfWindow d m t))
     (choose (scant last (length s) (m .size)) (keeping l (still d m t))
-    (choose (not (roomFor l (t .position) (m .size))) (keeping l (pauses 1 d m t))
+    (choose (not (roomFor l (t .position) (m .size))) (keeping l (pauses endOfMedium d m t))
     (writing d m t l s)))
 
 -- "To tape, first that applies: (1) mover not ACTIVE in mode 0, or data not ACTIVE in a backup: nothing; (2) image unsound or position
@@ -77,9 +78,9 @@ filling d m t l s last =
 -- CONNECT_CLOSED", then (4) to (7)
 unfoldable pub toTape : Data → Mover → Tape → List ℕ → List ℕ → Bool → Step Move
 toTape d m t l s last =
-    choose (idle 0 1 d m) (keeping l (still d m t))
-    (choose (faulty l (t .position)) (keeping l (halts 4 5 d m t))
-    (choose (ending last (length s)) (keeping l (halts 1 1 d m t))
+    choose (idle toTapeMode 1 d m) (keeping l (still d m t))
+    (choose (faulty l (t .position)) (keeping l (halts dataConnectError moverMediaError d m t))
+    (choose (ending last (length s)) (keeping l (halts dataSuccessful moverConnectClosed d m t))
     (filling d m t l s last)))
 
 -- ---- from tape
@@ -115,7 +116,7 @@ untouched b r = record { move = r; dest = b }
 -- "a target record of another length the halt of (2), tape unmoved. Otherwise the least .. is handed over"
 unfoldable pub reading : ℕ → Data → Mover → Tape → List ℕ → List ℕ → Handing
 reading i d m t l b =
-    choose (not (eqb (entryLen l i) (m .size))) (untouched b (halts 4 5 d m t))
+    choose (not (eqb (entryLen l i) (m .size))) (untouched b (halts dataConnectError moverMediaError d m t))
     (record {
       move = hands (amount m (length b)) i d m t;
       dest = overlay 0 (take (amount m (length b)) (drop (inRecord m) (entryBytes l i))) b;
@@ -124,8 +125,8 @@ reading i d m t l b =
 -- "a mark gives PAUSED EOF 2 (tape after the mark), the end PAUSED EOM (tape at the end)"
 unfoldable pub onFound : Found → Data → Mover → Tape → List ℕ → List ℕ → Handing
 onFound (Found.Target i) d m t l b = reading i d m t l b
-onFound (Found.Mark j) d m t l b = untouched b (pauses 2 d m (movedTo j t))
-onFound Found.End d m t l b = untouched b (pauses 1 d m (movedTo (count l) t))
+onFound (Found.Mark j) d m t l b = untouched b (pauses endOfFile d m (movedTo j t))
+onFound Found.End d m t l b = untouched b (pauses endOfMedium d m (movedTo (count l) t))
 
 -- "The tape position when the mover became ACTIVE stands for the window's offset."
 abbrev pub sought : Mover → List ℕ → Found
@@ -134,15 +135,15 @@ sought m l = walk l (count l - m .origin) (m .origin) (ordinal m)
 -- "seek position outside the window: PAUSED SEEK 3", then the walk
 unfoldable pub seeking : Data → Mover → Tape → List ℕ → List ℕ → Handing
 seeking d m t l b =
-    choose (outside (m .seek) (m .offset) (m .length)) (untouched b (pauses 3 d m t))
+    choose (outside (m .seek) (m .offset) (m .length)) (untouched b (pauses seekOutside d m t))
     (onFound (sought m l) d m t l b)
 
 -- "From tape (mover ACTIVE in mode 1, data ACTIVE in a recover; otherwise nothing): fault as (2); nothing left to read or no destination
 -- room: nothing", then the seek position
 unfoldable pub fromTape : Data → Mover → Tape → List ℕ → List ℕ → Handing
 fromTape d m t l b =
-    choose (idle 1 2 d m) (untouched b (still d m t))
-    (choose (faulty l (t .position)) (untouched b (halts 4 5 d m t))
+    choose (idle fromTapeMode 2 d m) (untouched b (still d m t))
+    (choose (faulty l (t .position)) (untouched b (halts dataConnectError moverMediaError d m t))
     (choose (eqb (m .left) 0) (untouched b (still d m t))
     (choose (eqb (length b) 0) (untouched b (still d m t))
     (seeking d m t l b))))
@@ -154,4 +155,4 @@ pub record HandedAs (st : Handing) (r : Move) (b′ : List ℕ) : Type 0 where
 
 -- ---- "The method's end, while data is ACTIVE, halts it SUCCESSFUL or INTERNAL_ERROR 3 and the mover CONNECT_CLOSED; otherwise it does nothing."
 unfoldable pub methodEnd : Bool → Data → Mover → Tape → Move
-methodEnd ok d m t = choose (eqb (d .state) 1) (halts (choose ok 1 3) 1 d m t) (still d m t)
+methodEnd ok d m t = choose (eqb (d .state) 1) (halts (choose ok dataSuccessful dataInternalError) moverConnectClosed d m t) (still d m t)

@@ -11,10 +11,7 @@ use Rattle.xdr.specs.Choose.{choose}
 use Rattle.xdr.specs.Xdr.{overlay}
 use Rattle.image.specs.Image.{entryLen, entryBytes}
 use Rattle.writing.specs.Writing.{written, fillTo}
-use Rattle.frame.specs.Frame.{wellFramed, kindOf, bodyOf}
-use Rattle.frame.specs.declared.Message.{Message}
-use Rattle.frame.specs.declared.Message.the-variants as Message
-use Rattle.requests.specs.Bodies.{moverBody, dataBody}
+use Rattle.frame.specs.Frame.{wellFramed, kindOf}
 use Rattle.requests.specs.declared.DataRequest.{DataRequest}
 use Rattle.requests.specs.declared.DataRequest.the-variants as DataRequest
 use Rattle.requests.specs.declared.MoverRequest.{MoverRequest}
@@ -26,19 +23,16 @@ use Rattle.session.specs.declared.types.Data.{Data}
 use Rattle.session.specs.declared.types.Mover.{Mover}
 use Rattle.session.specs.declared.types.Tape.{Tape}
 use Rattle.session.specs.declared.types.Session.{Session}
+use Rattle.session.specs.Judge.{allowed, isAccepted}
 use Rattle.session.specs.Parts.{wrapped}
 use Rattle.session.specs.DataService.{dataStop}
 use Rattle.session.specs.MoverService.{setSize, setWindow, moverStop}
 use Rattle.session.specs.Relation.{keeps, Legal}
-use Rattle.session.specs.Answer.{answered, messageIn}
+use Rattle.session.specs.Answer.{Kept, held, answered, requestIn}
 use Rattle.session.specs.Order.{Call}
 use Rattle.moves.specs.Events.{movedToTape, movedFromTape, methodEnded}
 
 -- ---- the calls
-pub record World : Type 0 where
-  pub session : Session
-  pub image : List ℕ
-
 pub data Event : Type 0 where
   Asked : Call → Event
   -- a stream part and whether it is the last; a destination; whether the method ended well; each with a time stamp and an output's length
@@ -48,18 +42,14 @@ pub data Event : Type 0 where
   -- another image is handed to the calls that follow
   Loaded : List ℕ → Event
 
-unfoldable pub next : Event → World → World
-next (Asked c) w =
-    let a = answered (w .session) (c .account) (w .image) (c .request) (c .time) (c .room) in
-    record { session = a .next; image = a .image }
-next (ToTape stream last time room) w =
-    let e = movedToTape (w .session) (w .image) stream last time room in
-    record { session = e .answer .next; image = e .answer .image }
-next (FromTape dest time room) w = record { session = movedFromTape (w .session) (w .image) dest time room .answer .next; image = w .image }
-next (Ended ok time room) w = record { session = methodEnded (w .session) ok time room .answer .next; image = w .image }
-next (Loaded image) w = record { session = w .session; image = image }
+unfoldable pub next : Event → Kept → Kept
+next (Asked c) w = answered w (c .lent) (c .request) .next
+next (ToTape stream last time room) w = movedToTape (w .session) (w .image) stream last time room .answer .next
+next (FromTape dest time room) w = held (movedFromTape (w .session) (w .image) dest time room .answer .next .session) (w .image)
+next (Ended ok time room) w = held (methodEnded (w .session) ok time room .answer .next .session) (w .image)
+next (Loaded image) w = held (w .session) image
 
-unfoldable pub runs : World → List Event → World
+unfoldable pub runs : Kept → List Event → Kept
 runs w [] = w
 runs w (e ∷ es) = runs (next e w) es
 
@@ -96,44 +86,22 @@ moverShown known m MoverRequest.Continue = Nothing
 moverShown known m (MoverRequest.Read offset length) = Nothing
 
 unfoldable pub dataShown : Bool → Data → DataRequest → Seen
-dataShown known d DataRequest.Stop = choose (eqb (numberOf (dataStop known d .reply)) 0) DataStopped Nothing
+dataShown known d DataRequest.Stop = choose (isAccepted (allowed known (dataStop d))) DataStopped Nothing
 dataShown known d DataRequest.State = Nothing
 dataShown known d (DataRequest.Backup method) = Nothing
 dataShown known d (DataRequest.Recover method) = Nothing
 dataShown known d (DataRequest.Listen address) = Nothing
 
--- a request of the mover, and one of the data end
-unfoldable pub onMover : Bool → Mover → Request → Seen
-onMover known m (Request.Mover q) = moverShown known m q
-onMover known m (Request.Data q) = Nothing
-onMover known m (Request.Connect q) = Nothing
-onMover known m (Request.Config q) = Nothing
-onMover known m (Request.Scsi q) = Nothing
-onMover known m (Request.Tape q) = Nothing
-onMover known m (Request.Joint q) = Nothing
-onMover known m Request.Unknown = Nothing
-onMover known m Request.Bad = Nothing
-
-unfoldable pub onData : Bool → Data → Request → Seen
-onData known d (Request.Data q) = dataShown known d q
-onData known d (Request.Mover q) = Nothing
-onData known d (Request.Connect q) = Nothing
-onData known d (Request.Config q) = Nothing
-onData known d (Request.Scsi q) = Nothing
-onData known d (Request.Tape q) = Nothing
-onData known d (Request.Joint q) = Nothing
-onData known d Request.Unknown = Nothing
-onData known d Request.Bad = Nothing
-
-unfoldable pub shown : Session → Message → List ℕ → Seen
-shown s (Message.Mover k) body = onMover (s .authorized) (s .mover) (moverBody k body)
-shown s (Message.Data k) body = onData (s .authorized) (s .source) (dataBody k body)
-shown s (Message.Connect k) body = Nothing
-shown s (Message.Config k) body = Nothing
-shown s (Message.Scsi k) body = Nothing
-shown s (Message.Tape k) body = Nothing
-shown s (Message.Joint k) body = Nothing
-shown s Message.Unknown body = Nothing
+unfoldable pub shown : Session → Request → Seen
+shown s (Request.Mover q) = moverShown (s .authorized) (s .mover) q
+shown s (Request.Data q) = dataShown (s .authorized) (s .source) q
+shown s (Request.Connect q) = Nothing
+shown s (Request.Config q) = Nothing
+shown s (Request.Scsi q) = Nothing
+shown s (Request.Tape q) = Nothing
+shown s (Request.Joint q) = Nothing
+shown s Request.Unknown = Nothing
+shown s Request.Bad = Nothing
 
 -- a move: bytes, or a pause of a mover that was ACTIVE
 unfoldable pub moveShown : Mover → Mover → ℕ → Seen → Seen
@@ -142,15 +110,15 @@ moveShown m after count what =
     (choose (not (eqb (m .state) 2)) Nothing
     (choose (eqb (after .state) 3) Paused Nothing))
 
-unfoldable pub seen : Event → World → Seen
+unfoldable pub seen : Event → Kept → Seen
 seen (Asked c) w =
-    choose (isHeard (w .session) (c .request) (c .room)) (shown (w .session) (messageIn (c .request)) (bodyOf (c .request))) Nothing
+    choose (isHeard (w .session) (c .request) (c .lent .room)) (shown (w .session) (requestIn (c .request))) Nothing
 seen (ToTape stream last time room) w =
     let e = movedToTape (w .session) (w .image) stream last time room in
-    moveShown (w .session .mover) (e .answer .next .mover) (e .count) (Wrote (w .session .mover .size) (e .count))
+    moveShown (w .session .mover) (e .answer .next .session .mover) (e .count) (Wrote (w .session .mover .size) (e .count))
 seen (FromTape dest time room) w =
     let e = movedFromTape (w .session) (w .image) dest time room in
-    moveShown (w .session .mover) (e .answer .next .mover) (e .count) (Handed (w .session .mover .seek) (e .count))
+    moveShown (w .session .mover) (e .answer .next .session .mover) (e .count) (Handed (w .session .mover .seek) (e .count))
 seen (Ended ok time room) w = Nothing
 seen (Loaded image) w = Nothing
 
@@ -249,22 +217,22 @@ countOf DataStopped = 0
 countOf Paused = 0
 countOf Nothing = 0
 
-pub record ToTapeLeaves (w : World) (x : Seen) (stream image′ : List ℕ) (count : ℕ) : Type 0 where
+pub record ToTapeLeaves (w : Kept) (x : Seen) (stream image′ : List ℕ) (count : ℕ) : Type 0 where
   pub image : image′ ≡ imageAfter x (w .image) (w .session .tape .position) stream
   pub taken : count ≡ countOf x
   pub there : count ≤ length stream
 
-pub record FromTapeLeaves (w : World) (x : Seen) (dest dest′ : List ℕ) (count : ℕ) : Type 0 where
+pub record FromTapeLeaves (w : Kept) (x : Seen) (dest dest′ : List ℕ) (count : ℕ) : Type 0 where
   pub dest-end : dest′ ≡ destAfter x (registerOf (w .session)) (w .session .mover .origin) (w .image) dest
   pub given : count ≡ countOf x
   pub room : count ≤ length dest
   -- what is handed over is of a record that has the record size
   pub exact : (count ≡ 0 → ⊥) → entryLen (w .image) (soughtEntry (w .session .mover)) ≡ w .session .mover .size
 
-abbrev pub Leaves : World → Event → Type 0
+abbrev pub Leaves : Kept → Event → Type 0
 Leaves w (ToTape stream last time room) =
     let e = movedToTape (w .session) (w .image) stream last time room in
-    ToTapeLeaves w (seen (ToTape stream last time room) w) stream (e .answer .image) (e .count)
+    ToTapeLeaves w (seen (ToTape stream last time room) w) stream (e .answer .next .image) (e .count)
 Leaves w (FromTape dest time room) =
     let e = movedFromTape (w .session) (w .image) dest time room in
     FromTapeLeaves w (seen (FromTape dest time room) w) dest (e .dest) (e .count)
@@ -274,15 +242,15 @@ Leaves w (Loaded image) = Unit {0}
 
 -- ---- the theorem: at every call of the list the register is the session's, its window is legitimate, and what is seen fits it and is all
 -- that the call did
-pub record At (r : Register) (w : World) (e : Event) : Type 0 where
+pub record At (r : Register) (w : Kept) (e : Event) : Type 0 where
   pub register : registerOf (w .session) ≡ r
   pub window : Legitimate r
   pub fits : Fits r (seen e w)
   pub leaves : Leaves w e
 
-pub data Inside : Register → World → List Event → Type 0 where
-  done : {r : Register} {w : World} → registerOf (w .session) ≡ r → Inside r w []
-  more : {r : Register} {w : World} {e : Event} {es : List Event} → At r w e → Inside (after r (seen e w)) (next e w) es → Inside r w (e ∷ es)
+pub data Inside : Register → Kept → List Event → Type 0 where
+  done : {r : Register} {w : Kept} → registerOf (w .session) ≡ r → Inside r w []
+  more : {r : Register} {w : Kept} {e : Event} {es : List Event} → At r w e → Inside (after r (seen e w)) (next e w) es → Inside r w (e ∷ es)
 
 abbrev pub WindowHolds : Type 0
-WindowHolds = (w : World) → keeps (w .session) ≡ true → (es : List Event) → Inside (registerOf (w .session)) w es
+WindowHolds = (w : Kept) → keeps (w .session) ≡ true → (es : List Event) → Inside (registerOf (w .session)) w es

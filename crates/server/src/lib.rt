@@ -5,96 +5,84 @@ ghost use mathlib.Core.List.{List, []};
 ghost use Prim.Native.Nat.{ℕ, _+_, _≤_};
 ghost use lib.ListN.{length};
 ghost use Rattle.frame.specs.Frame.{bodyOf};
-ghost use Rattle.frame.specs.declared.Message.the-variants as Message;
+ghost use Rattle.requests.specs.declared.Request.the-variants as Request;
 ghost use Rattle.requests.specs.Within.{textsWithin};
 ghost use Rattle.replies.specs.Fit.{Sendable};
-ghost use Rattle.session.specs.Telling.{Told};
-ghost use Rattle.session.specs.DataService.{TextIn};
+ghost use Rattle.session.specs.DataService.{TextIn, DataTexts, dataRefusal, dataServed};
 ghost use Rattle.xdr.specs.Xdr.{word};
 ghost use Rattle.xdr.specs.Choose.{choose};
-ghost use Rattle.requests.specs.Bodies.{connectBody, configBody};
-ghost use Rattle.session.specs.TapeService.{TapePart};
-ghost use Rattle.session.specs.Answer.{Account, Answered, bump, counted, withParts, tapePart, silent, closing, replying, noticed, byData, byTape, byScsi, byJoint, byControl, onData, onTape, onMover, onScsi, onJoint, onConfig, dataOn, tapeOn, scsiOn, jointOn, closes, routeOf, handled, answered};
+ghost use Rattle.session.specs.TapeService.{TapePart, TapeTexts, tapeStep, moverPartStep};
+ghost use Rattle.session.specs.ScsiService.{ScsiTexts, scsiStep};
+ghost use Rattle.session.specs.Joint.{jointStep};
+ghost use Rattle.session.specs.Connection.{configReply};
+ghost use Rattle.session.specs.Answer.{Account, Kept, Lent, held, Answered, bump, counted, withParts, tapePart, silent, closing, replying, noticed, byData, byTape, byScsi, byJoint, byControl, connected, requestIn, judged, answered};
 ghost use Rattle.session.specs.Parts.{restData, restMover, closedTape, closedChanger};
 ghost use Rattle.session.specs.Calls.{opening};
-ghost use Rattle.joint_service.specs.Done.{endsOf};
 ghost use Rattle.answering.specs.Call.{CallTold, Ready};
-ghost use Rattle.server.specs.Call.{account, authorizing, controlled};
+ghost use Rattle.server.specs.Call.{lent, authorizing};
 use data_service::DataDone;
-use frame::ConfigKind;
-use frame::ConnectKind;
-use frame::DataKind;
 use frame::Framed;
-use frame::JointKind;
-use frame::Message;
-use frame::MoverKind;
-use frame::ScsiKind;
-use frame::TapeKind;
-use joint_service::JointDone;
-use mover_service::MoverDone;
 use replies::Notice;
 use replies::Reply;
+use requests::ConfigRequest;
 use requests::ConnectRequest;
+use requests::DataRequest;
+use requests::JointRequest;
+use requests::MoverRequest;
 use requests::Request;
+use requests::ScsiRequest;
+use requests::TapeRequest;
 use requests::Text;
-use scsi_service::ScsiDone;
 use session::types::Answer;
 use session::types::Changer;
 use session::types::Data;
 use session::types::Mover;
 use session::types::Session;
 use session::types::Tape;
-use tape_service::TapeDone;
 
-fn data_answer(known: bool, d: Data, q: Request, body: &[u8]) -> DataDone
-    requires { ⌜ textsWithin (now body) q ⌝ }
-    ensures { λ r. ⌜ Told (onData known d (now (body .entry)) q) (r .reply) (r .next) ⌝ }
+// A refused request of the data interface.
+fn data_refused(
+    s: Session,
+    q: DataRequest,
+    e: u32,
+    input: &[u8],
+    time: u32,
+    out: &mut [u8],
+) -> Answer
+    requires { ⌜ Ready (now input) (now out) ⌝ }
+    ensures { λ r. ⌜ ((image : List ℕ) → CallTold (replying (now (input .entry)) time (dataRefusal q e) [] (held s image)) r image (now (out .entry)) (now (out .exit))) ⌝ }
 {
-    let Request::Data(x) = q else {
-        return DataDone {
-            reply: Reply::Header(18),
-            next: d,
-        };
-    };
-    data_service::serve(known, d, x, body)
+    let reply = data_service::refusal(q, e);
+    answering::finish(s, input, time, reply, b"", out)
 }
 
-fn data_call(s: Session, k: DataKind, input: &[u8], time: u32, out: &mut [u8]) -> Answer
-    requires { ⌜ Ready (now input) (now out) ⌝ }
-    ensures { λ r. ⌜ ((image : List ℕ) → CallTold (byData s image (now (input .entry)) time (dataOn (s .authorized) (s .source) (Message.Data k) (bodyOf (now (input .entry))))) r image (now (out .entry)) (now (out .exit))) ⌝ }
+fn data_call(s: Session, q: DataRequest, input: &[u8], time: u32, out: &mut [u8]) -> Answer
+    requires { ⌜ Ready (now input) (now out) × DataTexts (bodyOf (now input)) q ⌝ }
+    ensures { λ r. ⌜ ((image : List ℕ) → CallTold (byData (held s image) (now (input .entry)) time (dataServed (s .authorized) (s .source) q (bodyOf (now (input .entry))))) r image (now (out .entry)) (now (out .exit))) ⌝ }
 {
+    if !s.authorized {
+        return data_refused(s, q, 4, input, time, out);
+    }
     let d = s.source;
-    let q = requests::decode_data(k, &input[28..]);
-    let done = data_answer(s.authorized, d, q, &input[28..]);
-    let next = done.next;
-    let reply = done.reply;
-    let m = s.mover;
-    let t = s.tape;
-    let c = s.changer;
-    let session = answering::with_parts(s, s.authorized, next, m, t, c);
-    answering::finish(session, input, time, reply, b"", out)
+    let done = data_service::serve(d, q, &input[28..]);
+    match done {
+        DataDone::Refuse(e) => data_refused(s, q, e, input, time, out),
+        DataDone::Accept(reply, next) => {
+            let m = s.mover;
+            let t = s.tape;
+            let c = s.changer;
+            let session = answering::with_parts(s, s.authorized, next, m, t, c);
+            answering::finish(session, input, time, reply, b"", out)
+        }
+    }
 }
 
-fn scsi_answer(known: bool, c: Changer, q: Request, body: &[u8]) -> ScsiDone
-    requires { ⌜ textsWithin (now body) q ⌝ }
-    ensures { λ r. ⌜ Told (onScsi known c (now (body .entry)) q) (r .reply) (r .next) ⌝ }
-{
-    let Request::Scsi(x) = q else {
-        return ScsiDone {
-            reply: Reply::Header(18),
-            next: c,
-        };
-    };
-    scsi_service::serve(known, c, x, body)
-}
-
-fn scsi_call(s: Session, k: ScsiKind, input: &[u8], time: u32, out: &mut [u8]) -> Answer
-    requires { ⌜ Ready (now input) (now out) ⌝ }
-    ensures { λ r. ⌜ ((image : List ℕ) → CallTold (byScsi s image (now (input .entry)) time (scsiOn (s .authorized) (s .changer) (Message.Scsi k) (bodyOf (now (input .entry))))) r image (now (out .entry)) (now (out .exit))) ⌝ }
+fn scsi_call(s: Session, q: ScsiRequest, input: &[u8], time: u32, out: &mut [u8]) -> Answer
+    requires { ⌜ Ready (now input) (now out) × ScsiTexts (bodyOf (now input)) q ⌝ }
+    ensures { λ r. ⌜ ((image : List ℕ) → CallTold (byScsi (held s image) (now (input .entry)) time (scsiStep (s .authorized) (s .changer) q (bodyOf (now (input .entry))))) r image (now (out .entry)) (now (out .exit))) ⌝ }
 {
     let c = s.changer;
-    let q = requests::decode_scsi(k, &input[28..]);
-    let done = scsi_answer(s.authorized, c, q, &input[28..]);
+    let done = scsi_service::serve(s.authorized, c, q, &input[28..]);
     let next = done.next;
     let reply = done.reply;
     let d = s.source;
@@ -104,41 +92,20 @@ fn scsi_call(s: Session, k: ScsiKind, input: &[u8], time: u32, out: &mut [u8]) -
     answering::finish(session, input, time, reply, b"", out)
 }
 
-fn tape_answer(
-    known: bool,
-    m: Mover,
-    t: Tape,
-    image: &mut [u8],
-    q: Request,
-    body: &[u8],
-) -> TapeDone
-    requires { ⌜ textsWithin (now body) q ⌝ }
-    ensures { λ r. ⌜ Told (onTape known (record { mover = m; tape = t; image = now (image .entry) }) (now (body .entry)) q) (r .reply) (record { mover = m; tape = r .next; image = now (image .exit) }) ⌝ }
-{
-    let Request::Tape(x) = q else {
-        return TapeDone {
-            reply: Reply::Header(18),
-            next: t,
-        };
-    };
-    tape_service::serve(known, m.state, t, image, x, body)
-}
-
 fn tape_call(
     s: Session,
-    k: TapeKind,
+    q: TapeRequest,
     image: &mut [u8],
     input: &[u8],
     time: u32,
     out: &mut [u8],
 ) -> Answer
-    requires { ⌜ Ready (now input) (now out) ⌝ }
-    ensures { λ r. ⌜ CallTold (byTape s (now (input .entry)) time (tapeOn (s .authorized) (tapePart s (now (image .entry))) (Message.Tape k) (bodyOf (now (input .entry))))) r (now (image .exit)) (now (out .entry)) (now (out .exit)) ⌝ }
+    requires { ⌜ Ready (now input) (now out) × TapeTexts (bodyOf (now input)) q ⌝ }
+    ensures { λ r. ⌜ CallTold (byTape (held s (now (image .entry))) (now (input .entry)) time (tapeStep (s .authorized) (tapePart (held s (now (image .entry)))) q (bodyOf (now (input .entry))))) r (now (image .exit)) (now (out .entry)) (now (out .exit)) ⌝ }
 {
     let m = s.mover;
     let t = s.tape;
-    let q = requests::decode_tape(k, &input[28..]);
-    let done = tape_answer(s.authorized, m, t, image, q, &input[28..]);
+    let done = tape_service::serve(s.authorized, m.state, t, image, q, &input[28..]);
     let next = done.next;
     let reply = done.reply;
     let d = s.source;
@@ -147,33 +114,20 @@ fn tape_call(
     answering::finish(session, input, time, reply, image, out)
 }
 
-fn mover_answer(known: bool, m: Mover, t: Tape, q: Request) -> MoverDone
-    ensures { λ r. ⌜ ((image : List ℕ) → Told (onMover known (record { mover = m; tape = t; image = image }) q) (r .reply) (record { mover = r .next; tape = t; image = image })) ⌝ }
-{
-    let Request::Mover(x) = q else {
-        return MoverDone {
-            reply: Reply::Header(18),
-            next: m,
-        };
-    };
-    mover_service::serve(known, m, t, x)
-}
-
 fn mover_call(
     s: Session,
-    k: MoverKind,
+    q: MoverRequest,
     image: &[u8],
     input: &[u8],
     time: u32,
     out: &mut [u8],
 ) -> Answer
     requires { ⌜ Ready (now input) (now out) ⌝ }
-    ensures { λ r. ⌜ CallTold (byTape s (now (input .entry)) time (tapeOn (s .authorized) (tapePart s (now (image .entry))) (Message.Mover k) (bodyOf (now (input .entry))))) r (now (image .entry)) (now (out .entry)) (now (out .exit)) ⌝ }
+    ensures { λ r. ⌜ CallTold (byTape (held s (now (image .entry))) (now (input .entry)) time (moverPartStep (s .authorized) (tapePart (held s (now (image .entry)))) q)) r (now (image .entry)) (now (out .entry)) (now (out .exit)) ⌝ }
 {
     let m = s.mover;
     let t = s.tape;
-    let q = requests::decode_mover(k, &input[28..]);
-    let done = mover_answer(s.authorized, m, t, q);
+    let done = mover_service::serve(s.authorized, m, t, q);
     let next = done.next;
     let reply = done.reply;
     let d = s.source;
@@ -182,30 +136,14 @@ fn mover_call(
     answering::finish(session, input, time, reply, image, out)
 }
 
-fn joint_answer(known: bool, d: Data, m: Mover, t: Tape, q: Request) -> JointDone
-    ensures { λ r. ⌜ Told (onJoint known d m t q) (r .reply) (endsOf r) ⌝ }
-{
-    let Request::Joint(x) = q else {
-        return JointDone {
-            reply: Reply::Header(18),
-            source: d,
-            mover: m,
-            dwhy: 0,
-            mwhy: 0,
-        };
-    };
-    joint_service::serve(known, d, m, t, x)
-}
-
-fn joint_call(s: Session, k: JointKind, input: &[u8], time: u32, out: &mut [u8]) -> Answer
+fn joint_call(s: Session, q: JointRequest, input: &[u8], time: u32, out: &mut [u8]) -> Answer
     requires { ⌜ Ready (now input) (now out) ⌝ }
-    ensures { λ r. ⌜ ((image : List ℕ) → CallTold (byJoint s image (now (input .entry)) time (jointOn (s .authorized) (s .source) (s .mover) (s .tape) (Message.Joint k) (bodyOf (now (input .entry))))) r image (now (out .entry)) (now (out .exit))) ⌝ }
+    ensures { λ r. ⌜ ((image : List ℕ) → CallTold (byJoint (held s image) (now (input .entry)) time (jointStep (s .authorized) (s .source) (s .mover) (s .tape) q)) r image (now (out .entry)) (now (out .exit))) ⌝ }
 {
     let d = s.source;
     let m = s.mover;
     let t = s.tape;
-    let q = requests::decode_joint(k, &input[28..]);
-    let done = joint_answer(s.authorized, d, m, t, q);
+    let done = joint_service::serve(s.authorized, d, m, t, q);
     let source = done.source;
     let mover = done.mover;
     let reply = done.reply;
@@ -228,7 +166,7 @@ fn auth_call(
     out: &mut [u8],
 ) -> Answer
     requires { ⌜ Ready (now input) (now out) × TextIn (bodyOf (now input)) name × TextIn (bodyOf (now input)) word ⌝ }
-    ensures { λ r. ⌜ ((image : List ℕ) → CallTold (byControl s image (now (input .entry)) time (authorizing (s .authorized) (bodyOf (now (input .entry))) name word (now (id .entry)) (now (password .entry)))) r image (now (out .entry)) (now (out .exit))) ⌝ }
+    ensures { λ r. ⌜ ((image : List ℕ) → CallTold (byControl (held s image) (now (input .entry)) time (authorizing (s .authorized) (bodyOf (now (input .entry))) name word (now (id .entry)) (now (password .entry)))) r image (now (out .entry)) (now (out .exit))) ⌝ }
 {
     let done = connection::client_auth(s.authorized, &input[28..], name, word, id, password);
     let reply = done.reply;
@@ -242,21 +180,17 @@ fn auth_call(
 
 fn connect_call(
     s: Session,
-    k: ConnectKind,
+    q: ConnectRequest,
     id: &[u8],
     password: &[u8],
     input: &[u8],
     time: u32,
     out: &mut [u8],
 ) -> Answer
-    requires { ⌜ Ready (now input) (now out) ⌝ }
-    ensures { λ r. ⌜ ((image : List ℕ) → CallTold (controlled s (account (now (id .entry)) (now (password .entry))) image (now (input .entry)) time (connectBody k (bodyOf (now (input .entry))))) r image (now (out .entry)) (now (out .exit))) ⌝ }
+    requires { ⌜ Ready (now input) (now out) × textsWithin (bodyOf (now input)) (Request.Connect q) ⌝ }
+    ensures { λ r. ⌜ ((image : List ℕ) → CallTold (connected (held s image) (lent (now (id .entry)) (now (password .entry)) time (now (out .entry))) (now (input .entry)) q) r image (now (out .entry)) (now (out .exit))) ⌝ }
 {
-    let q = requests::decode_connect(k, &input[28..]);
-    let Request::Connect(x) = q else {
-        return answering::finish(s, input, time, Reply::Header(18), b"", out);
-    };
-    match x {
+    match q {
         ConnectRequest::Open(version) => {
             let reply = connection::connect_open(s.first, version);
             answering::finish(s, input, time, reply, b"", out)
@@ -276,15 +210,11 @@ fn connect_call(
     }
 }
 
-fn config_call(s: Session, k: ConfigKind, input: &[u8], time: u32, out: &mut [u8]) -> Answer
+fn config_call(s: Session, q: ConfigRequest, input: &[u8], time: u32, out: &mut [u8]) -> Answer
     requires { ⌜ Ready (now input) (now out) ⌝ }
-    ensures { λ r. ⌜ ((image : List ℕ) → CallTold (byControl s image (now (input .entry)) time (onConfig (s .authorized) (configBody k (bodyOf (now (input .entry)))))) r image (now (out .entry)) (now (out .exit))) ⌝ }
+    ensures { λ r. ⌜ ((image : List ℕ) → CallTold (replying (now (input .entry)) time (configReply (s .authorized) q) [] (held s image)) r image (now (out .entry)) (now (out .exit))) ⌝ }
 {
-    let q = requests::decode_config(k, &input[28..]);
-    let Request::Config(x) = q else {
-        return answering::finish(s, input, time, Reply::Header(18), b"", out);
-    };
-    let reply = connection::config(s.authorized, x);
+    let reply = connection::config(s.authorized, q);
     answering::finish(s, input, time, reply, b"", out)
 }
 
@@ -300,18 +230,20 @@ fn framed_call(
     out: &mut [u8],
 ) -> Answer
     requires { ⌜ Ready (now input) (now out) × (message ≡ word (now input) 16) ⌝ }
-    ensures { λ r. ⌜ CallTold (handled (routeOf (now (input .entry))) s (account (now (id .entry)) (now (password .entry))) (now (image .entry)) (now (input .entry)) time) r (now (image .exit)) (now (out .entry)) (now (out .exit)) ⌝ }
+    ensures { λ r. ⌜ CallTold (judged (held s (now (image .entry))) (lent (now (id .entry)) (now (password .entry)) time (now (out .entry))) (now (input .entry)) (requestIn (now (input .entry)))) r (now (image .exit)) (now (out .entry)) (now (out .exit)) ⌝ }
 {
     let kind = frame::message_of(message);
-    match kind {
-        Message::Connect(k) => connect_call(s, k, id, password, input, time, out),
-        Message::Config(k) => config_call(s, k, input, time, out),
-        Message::Scsi(k) => scsi_call(s, k, input, time, out),
-        Message::Tape(k) => tape_call(s, k, image, input, time, out),
-        Message::Data(k) => data_call(s, k, input, time, out),
-        Message::Mover(k) => mover_call(s, k, image, input, time, out),
-        Message::Joint(k) => joint_call(s, k, input, time, out),
-        Message::Unknown => answering::finish(s, input, time, Reply::Header(1), b"", out),
+    let q = requests::decode(kind, &input[28..]);
+    match q {
+        Request::Connect(x) => connect_call(s, x, id, password, input, time, out),
+        Request::Config(x) => config_call(s, x, input, time, out),
+        Request::Scsi(x) => scsi_call(s, x, input, time, out),
+        Request::Tape(x) => tape_call(s, x, image, input, time, out),
+        Request::Data(x) => data_call(s, x, input, time, out),
+        Request::Mover(x) => mover_call(s, x, image, input, time, out),
+        Request::Joint(x) => joint_call(s, x, input, time, out),
+        Request::Unknown => answering::finish(s, input, time, Reply::Header(1), b"", out),
+        Request::Bad => answering::finish(s, input, time, Reply::Header(18), b"", out),
     }
 }
 
@@ -382,7 +314,7 @@ pub fn request(
     time: u32,
     out: &mut [u8],
 ) -> Answer
-    ensures { λ r. ⌜ CallTold (answered s (account (now (id .entry)) (now (password .entry))) (now (image .entry)) (now (input .entry)) time (length (now (out .entry)))) r (now (image .exit)) (now (out .entry)) (now (out .exit)) ⌝ }
+    ensures { λ r. ⌜ CallTold (answered (held s (now (image .entry))) (lent (now (id .entry)) (now (password .entry)) time (now (out .entry))) (now (input .entry))) r (now (image .exit)) (now (out .entry)) (now (out .exit)) ⌝ }
 {
     if out.len() < 36864 {
         return answering::quiet(1001, s);

@@ -17,17 +17,16 @@ use Rattle.cartridge.specs.Step.{Step}
 use Rattle.cartridge.specs.Operations.{writeStep, mtioStep}
 use Rattle.cartridge.proofs.Promises as cartridge
 use Rattle.frame.specs.Frame.{wellFramed, kindOf, bodyOf}
-use Rattle.frame.specs.declared.Message.{Message}
 use Rattle.frame.specs.declared.Message.the-variants as Message
 use Rattle.frame.specs.declared.ConnectKind.{ConnectKind}
-use Rattle.requests.specs.Bodies.{decoded, connectBody, tapeBody, moverBody, jointBody}
+use Rattle.requests.specs.Bodies.{decoded, connectBody}
+use Rattle.requests.specs.declared.ConnectRequest.{ConnectRequest}
 use Rattle.requests.specs.declared.ConnectRequest.the-variants as ConnectRequest
 use Rattle.requests.specs.declared.Text.{Text}
 use Rattle.requests.specs.declared.TapeRequest.{TapeRequest}
 use Rattle.requests.specs.declared.TapeRequest.the-variants as TapeRequest
 use Rattle.requests.specs.declared.Request.{Request}
 use Rattle.requests.specs.declared.Request.the-variants as Request
-use Rattle.replies.proofs.Laws.{header-bare}
 use Rattle.replies.specs.declared.Reply.the-variants as Reply
 use Rattle.replies.specs.declared.Notice.{Notice}
 use Rattle.session.specs.declared.types.Data.{Data}
@@ -39,30 +38,49 @@ use Rattle.session.specs.Parts.{restMover, closedTape, dataJoined, mover
 use Rattle.session.specs.DataService.{textOf}
 use Rattle.session.specs.TapeService.{Loaded, tapeTests, tapeOpenTests, tapeOpen, tapeClose, tapeState, protects, tapeMtio, tapeWrite, tapeRead, deviceStep, TapePart, tapeStep, moverPartStep, tape0}
 use Rattle.session.specs.Connection.{matches, clientAuth}
-use Rattle.session.specs.Joint.{ends}
-use Rattle.session.specs.Relation.{dataWrong, sameFlag, keeps}
-use Rattle.session.specs.Promises.{JointKeeps}
-use Rattle.session.specs.Answer.{Service, DataService, TapeService, ScsiService, JointService, ControlService, routeOf, Account, Answered, answered, requested, handled, noticed, silent, closing, tapePart, messageIn, serviceOf, isClose, closes, replying, onData, onTape, onMover, onScsi, onJoint, onConnect, onConfig, dataOn, tapeOn, scsiOn, jointOn, controlOn}
+use Rattle.session.specs.Relation.{dataWrong, moverWrong, sameFlag, keeps}
+use Rattle.session.specs.Answer.{Kept, Lent, Answered, answered, requested, judged, connected, noticed, silent, closing, tapePart, messageIn, requestIn, replying}
 use Rattle.session.specs.Order.{Call, run}
 use Rattle.session.specs.Calls.{openedSession, Unmoved, Heard, CallsKeep}
 use Rattle.session.proofs.Kept.{kept-mover}
-use Rattle.session.proofs.Keeping.{rest-kept, joint-keeps}
-use Rattle.session.proofs.Order.{kept-facts, facts-kept, data-on, tape-on}
+use Rattle.session.proofs.Keeping.{rest-kept, data-keeps, tape-keeps, mover-part-keeps, joint-keeps}
 
--- ---- a call comes to nothing, to closing, or to a request at its service
-module _ (P : Answered → Type 0) (s : Session) (a : Account) (image r : List ℕ) (time room : ℕ) where
-  by-call : ((code : ℕ) → P (silent code s image)) → P (closing s image) → ((d : Service) → P (handled d s a image r time)) → P (answered s a image r time room)
+-- ---- a session that keeps the relation goes on to, and one that does not stays so
+pub record Fair (s : Session) : Type 0 where
+  pub source : dataWrong (s .source) ≡ false
+  pub mover : moverWrong (s .mover) (s .tape) ≡ false
+  pub joined : sameFlag (dataJoined (s .source .state)) (moverJoined (s .mover .state)) ≡ true
+
+passed : (b x : Bool) → choose b false x ≡ true → (b ≡ false) × (x ≡ true)
+unfolding choose
+passed true x h = absurd (let z : _≡_ {A = ℕ} 0 1 = cc in omega arith)
+passed false x h = (refl, h)
+
+pub kept-facts : (s : Session) → keeps s ≡ true → Fair s
+unfolding keeps
+kept-facts s h =
+    let a = passed _ _ h in
+    let b = passed _ _ (a .1) in
+    record { source = a .0; mover = b .0; joined = b .1 }
+
+pub facts-kept : (s : Session) → Fair s → keeps s ≡ true
+unfolding keeps choose
+facts-kept s k = rw (k .source, k .mover) (k .joined)
+
+-- ---- a call comes to nothing, to closing, or to a request that is judged
+module _ (P : Answered → Type 0) (k : Kept) (l : Lent) (r : List ℕ) where
+  by-call : ((code : ℕ) → P (silent code k)) → P (closing k) → P (judged k l r (requestIn r)) → P (answered k l r)
   unfolding answered requested
   by-call still shut serve =
-      by-test P (ltb room 36864) _ _ (λ _. still 1001)
-      (λ _. by-test P (not (keeps s)) _ _ (λ _. still 1002)
-      (λ _. by-test P (s .closed) _ _ (λ _. still 0)
+      by-test P (ltb (l .room) 36864) _ _ (λ _. still 1001)
+      (λ _. by-test P (not (keeps (k .session))) _ _ (λ _. still 1002)
+      (λ _. by-test P (k .session .closed) _ _ (λ _. still 0)
       (λ _. by-test P (not (wellFramed r)) _ _ (λ _. shut)
-      (λ _. by-test P (not (eqb (kindOf r) 0)) _ _ (λ _. still 0) (λ _. serve (routeOf r))))))
+      (λ _. by-test P (not (eqb (kindOf r) 0)) _ _ (λ _. still 0) (λ _. serve)))))
 
 -- ---- the relation
 Keeping : Answered → Type 0
-Keeping a = keeps (a .next) ≡ true
+Keeping a = keeps (a .next .session) ≡ true
 
 -- a session with the same ends and tape
 same-ends : (s n : Session) → n .source ≡ s .source → n .mover ≡ s .mover → n .tape ≡ s .tape → keeps s ≡ true → keeps n ≡ true
@@ -71,54 +89,43 @@ same-ends s n d m t h = rw (d, m, t) h
 
 noticed-keeps : (time why : ℕ) (n : Notice) (a : Answered) → Keeping a → Keeping (noticed time why n a)
 unfolding noticed Keeping
-noticed-keeps time why n a h = by-test Keeping (eqb why 0) _ _ (λ _. h) (λ _. same-ends (a .next) _ refl refl refl h)
+noticed-keeps time why n a h = by-test Keeping (eqb why 0) _ _ (λ _. h) (λ _. same-ends (a .next .session) _ refl refl refl h)
 
-on-joint : (known : Bool) (d : Data) (m : Mover) (t : Tape) → JointKeeps d m t (ends d m) → (q : Request) → JointKeeps d m t (onJoint known d m t q .part)
-unfolding onJoint
-on-joint known d m t k (Request.Joint q) = joint-keeps known d m t (k .source) (k .mover) (k .joined) q
-on-joint known d m t k (Request.Connect q) = k
-on-joint known d m t k (Request.Config q) = k
-on-joint known d m t k (Request.Scsi q) = k
-on-joint known d m t k (Request.Tape q) = k
-on-joint known d m t k (Request.Data q) = k
-on-joint known d m t k (Request.Mover q) = k
-on-joint known d m t k Request.Unknown = k
-on-joint known d m t k Request.Bad = k
+module _ (k : Kept) (l : Lent) (r : List ℕ) (h : keeps (k .session) ≡ true) where
+  connected-keeps : (q : ConnectRequest) → Keeping (connected k l r q)
+  unfolding connected Keeping
+  connected-keeps (ConnectRequest.Open version) = same-ends (k .session) _ refl refl refl h
+  connected-keeps (ConnectRequest.Auth id password) = same-ends (k .session) _ refl refl refl h
+  connected-keeps ConnectRequest.OtherAuth = same-ends (k .session) _ refl refl refl h
+  connected-keeps ConnectRequest.Close = same-ends (k .session) _ refl refl refl h
 
-joint-on : (known : Bool) (d : Data) (m : Mover) (t : Tape) → JointKeeps d m t (ends d m) → (message : Message) (body : List ℕ)
-    → JointKeeps d m t (jointOn known d m t message body .part)
-unfolding jointOn
-joint-on known d m t k (Message.Joint j) body = on-joint known d m t k (jointBody j body)
-joint-on known d m t k (Message.Connect j) body = k
-joint-on known d m t k (Message.Config j) body = k
-joint-on known d m t k (Message.Scsi j) body = k
-joint-on known d m t k (Message.Tape j) body = k
-joint-on known d m t k (Message.Data j) body = k
-joint-on known d m t k (Message.Mover j) body = k
-joint-on known d m t k Message.Unknown body = k
+  judged-keeps : (q : Request) → Keeping (judged k l r q)
+  unfolding judged Keeping
+  judged-keeps Request.Unknown = same-ends (k .session) _ refl refl refl h
+  judged-keeps Request.Bad = same-ends (k .session) _ refl refl refl h
+  judged-keeps (Request.Connect q) = connected-keeps q
+  judged-keeps (Request.Config q) = same-ends (k .session) _ refl refl refl h
+  judged-keeps (Request.Scsi q) = same-ends (k .session) _ refl refl refl h
+  judged-keeps (Request.Tape q) =
+      let f = kept-facts (k .session) h in
+      let n = tape-keeps (k .session .authorized) (tapePart k) q (bodyOf r) in
+      facts-kept _ (record { source = f .source; mover = n .good (f .mover); joined = rw (n .sides) (f .joined) })
+  judged-keeps (Request.Data q) =
+      let f = kept-facts (k .session) h in
+      let n = data-keeps (k .session .authorized) (k .session .source) q (bodyOf r) in
+      facts-kept _ (record { source = n .good (f .source); mover = f .mover; joined = rw (n .sides) (f .joined) })
+  judged-keeps (Request.Mover q) =
+      let f = kept-facts (k .session) h in
+      let n = mover-part-keeps (k .session .authorized) (tapePart k) q in
+      facts-kept _ (record { source = f .source; mover = n .good (f .mover); joined = rw (n .sides) (f .joined) })
+  judged-keeps (Request.Joint q) =
+      let f = kept-facts (k .session) h in
+      let n = joint-keeps (k .session .authorized) (k .session .source) (k .session .mover) (k .session .tape) (f .source) (f .mover) (f .joined) q in
+      noticed-keeps (l .time) _ _ _ (noticed-keeps (l .time) _ _ _ (facts-kept _ (record { source = n .source; mover = n .mover; joined = n .joined })))
 
-module _ (s : Session) (a : Account) (image r : List ℕ) (time : ℕ) (h : keeps s ≡ true) where
-  handled-keeps : (d : Service) → Keeping (handled d s a image r time)
-  unfolding handled Keeping
-  handled-keeps DataService =
-      let f = kept-facts s h in
-      let k = data-on (s .authorized) (s .source) (messageIn r) (bodyOf r) in
-      facts-kept _ (record { source = k .good (f .source); mover = f .mover; joined = rw (k .sides) (f .joined) })
-  handled-keeps TapeService =
-      let f = kept-facts s h in
-      let k = tape-on (s .authorized) (tapePart s image) (messageIn r) (bodyOf r) in
-      facts-kept _ (record { source = f .source; mover = k .good (f .mover); joined = rw (k .sides) (f .joined) })
-  handled-keeps ScsiService = same-ends s _ refl refl refl h
-  handled-keeps JointService =
-      let f = kept-facts s h in
-      let k = joint-on (s .authorized) (s .source) (s .mover) (s .tape) (record { source = f .source; mover = f .mover; joined = f .joined }) (messageIn r) (bodyOf r) in
-      noticed-keeps time _ _ _ (noticed-keeps time _ _ _ (facts-kept _ (record { source = k .source; mover = k .mover; joined = k .joined })))
-  handled-keeps ControlService =
-      by-test Keeping (isClose (messageIn r) (bodyOf r)) _ _ (λ _. same-ends s _ refl refl refl h) (λ _. same-ends s _ refl refl refl h)
-
-kept : (s : Session) (a : Account) (image r : List ℕ) (time room : ℕ) → keeps s ≡ true → keeps (answered s a image r time room .next) ≡ true
+pub kept : (k : Kept) (l : Lent) (r : List ℕ) → keeps (k .session) ≡ true → keeps (answered k l r .next .session) ≡ true
 unfolding Keeping
-kept s a image r time room h = by-call Keeping s a image r time room (λ _. h) (same-ends s _ refl refl refl h) (handled-keeps s a image r time h)
+kept k l r h = by-call Keeping k l r (λ _. h) (same-ends (k .session) _ refl refl refl h) (judged-keeps k l r h (requestIn r))
 
 opened : keeps openedSession ≡ true
 unfolding dataWrong dataJoined moverJoined sameFlag choose
@@ -169,72 +176,47 @@ module _ (l : List ℕ) (h : isSound l ≡ true) where
   device-sound known mover t (TapeRequest.Read times) body =
       by-test Serves (eqb (first (tapeTests known (t .opened) mover false)) 0) _ _ (λ _. h) (λ _. h)
 
-module _ (known : Bool) (p : TapePart) (h : isSound (p .image) ≡ true) where
-  on-tape-sound : (body : List ℕ) (q : Request) → isSound (onTape known p body q .part .image) ≡ true
-  unfolding onTape tapeStep Serves
-  on-tape-sound body (Request.Tape q) = device-sound (p .image) h known (p .mover .state) (p .tape) q body
-  on-tape-sound body (Request.Mover q) = h
-  on-tape-sound body (Request.Connect q) = h
-  on-tape-sound body (Request.Config q) = h
-  on-tape-sound body (Request.Scsi q) = h
-  on-tape-sound body (Request.Data q) = h
-  on-tape-sound body (Request.Joint q) = h
-  on-tape-sound body Request.Unknown = h
-  on-tape-sound body Request.Bad = h
-
-  on-mover-sound : (q : Request) → isSound (onMover known p q .part .image) ≡ true
-  unfolding onMover moverPartStep
-  on-mover-sound (Request.Mover q) = h
-  on-mover-sound (Request.Connect q) = h
-  on-mover-sound (Request.Config q) = h
-  on-mover-sound (Request.Scsi q) = h
-  on-mover-sound (Request.Tape q) = h
-  on-mover-sound (Request.Data q) = h
-  on-mover-sound (Request.Joint q) = h
-  on-mover-sound Request.Unknown = h
-  on-mover-sound Request.Bad = h
-
-  tape-on-sound : (m : Message) (body : List ℕ) → isSound (tapeOn known p m body .part .image) ≡ true
-  unfolding tapeOn
-  tape-on-sound (Message.Tape k) body = on-tape-sound body (tapeBody k body)
-  tape-on-sound (Message.Mover k) body = on-mover-sound (moverBody k body)
-  tape-on-sound (Message.Connect k) body = h
-  tape-on-sound (Message.Config k) body = h
-  tape-on-sound (Message.Scsi k) body = h
-  tape-on-sound (Message.Data k) body = h
-  tape-on-sound (Message.Joint k) body = h
-  tape-on-sound Message.Unknown body = h
-
 Sounding : Answered → Type 0
-Sounding a = isSound (a .image) ≡ true
+Sounding a = isSound (a .next .image) ≡ true
 
 noticed-sound : (time why : ℕ) (n : Notice) (a : Answered) → Sounding a → Sounding (noticed time why n a)
 unfolding noticed Sounding
 noticed-sound time why n a h = by-test Sounding (eqb why 0) _ _ (λ _. h) (λ _. h)
 
-module _ (s : Session) (a : Account) (image r : List ℕ) (time : ℕ) (h : isSound image ≡ true) where
-  handled-sound : (d : Service) → Sounding (handled d s a image r time)
-  unfolding handled Sounding
-  handled-sound DataService = h
-  handled-sound TapeService = tape-on-sound (s .authorized) (tapePart s image) h (messageIn r) (bodyOf r)
-  handled-sound ScsiService = h
-  handled-sound JointService = noticed-sound time _ _ _ (noticed-sound time _ _ _ h)
-  handled-sound ControlService = by-test Sounding (isClose (messageIn r) (bodyOf r)) _ _ (λ _. h) (λ _. h)
+module _ (k : Kept) (l : Lent) (r : List ℕ) (h : isSound (k .image) ≡ true) where
+  connected-sound : (q : ConnectRequest) → Sounding (connected k l r q)
+  unfolding connected Sounding
+  connected-sound (ConnectRequest.Open version) = h
+  connected-sound (ConnectRequest.Auth id password) = h
+  connected-sound ConnectRequest.OtherAuth = h
+  connected-sound ConnectRequest.Close = h
 
-sound : (s : Session) (a : Account) (image r : List ℕ) (time room : ℕ) → isSound image ≡ true → isSound (answered s a image r time room .image) ≡ true
+  judged-sound : (q : Request) → Sounding (judged k l r q)
+  unfolding judged Sounding tapeStep moverPartStep Serves
+  judged-sound Request.Unknown = h
+  judged-sound Request.Bad = h
+  judged-sound (Request.Connect q) = connected-sound q
+  judged-sound (Request.Config q) = h
+  judged-sound (Request.Scsi q) = h
+  judged-sound (Request.Tape q) = device-sound (k .image) h (k .session .authorized) (k .session .mover .state) (k .session .tape) q (bodyOf r)
+  judged-sound (Request.Data q) = h
+  judged-sound (Request.Mover q) = h
+  judged-sound (Request.Joint q) = noticed-sound (l .time) _ _ _ (noticed-sound (l .time) _ _ _ h)
+
+sound : (k : Kept) (l : Lent) (r : List ℕ) → isSound (k .image) ≡ true → isSound (answered k l r .next .image) ≡ true
 unfolding Sounding
-sound s a image r time room h = by-call Sounding s a image r time room (λ _. h) h (handled-sound s a image r time h)
+sound k l r h = by-call Sounding k l r (λ _. h) h (judged-sound k l r h (requestIn r))
 
 -- ---- calls one after the other
-runs : (s : Session) (image : List ℕ) (cs : List Call) → keeps s ≡ true → keeps (run s image cs .session) ≡ true
+runs : (k : Kept) (cs : List Call) → keeps (k .session) ≡ true → keeps (run k cs .last .session) ≡ true
 unfolding run
-runs s image [] h = h
-runs s image (c ∷ cs) h = runs _ _ cs (kept s (c .account) image (c .request) (c .time) (c .room) h)
+runs k [] h = h
+runs k (c ∷ cs) h = runs _ cs (kept k (c .lent) (c .request) h)
 
-runs-sound : (s : Session) (image : List ℕ) (cs : List Call) → isSound image ≡ true → isSound (run s image cs .image) ≡ true
+runs-sound : (k : Kept) (cs : List Call) → isSound (k .image) ≡ true → isSound (run k cs .last .image) ≡ true
 unfolding run
-runs-sound s image [] h = h
-runs-sound s image (c ∷ cs) h = runs-sound _ _ cs (sound s (c .account) image (c .request) (c .time) (c .room) h)
+runs-sound k [] h = h
+runs-sound k (c ∷ cs) h = runs-sound _ cs (sound k (c .lent) (c .request) h)
 
 -- ---- the codes of calls, and what a call leaves that does nothing
 Taken : Answered → Type 0
@@ -244,101 +226,90 @@ noticed-taken : (time why : ℕ) (n : Notice) (a : Answered) → Taken a → Tak
 unfolding noticed Taken
 noticed-taken time why n a h = by-test Taken (eqb why 0) _ _ (λ _. h) (λ _. h)
 
-handled-taken : (d : Service) (s : Session) (a : Account) (image r : List ℕ) (time : ℕ) → Taken (handled d s a image r time)
-unfolding handled Taken
-handled-taken DataService s a image r time = refl
-handled-taken TapeService s a image r time = refl
-handled-taken ScsiService s a image r time = refl
-handled-taken JointService s a image r time = noticed-taken time _ _ _ (noticed-taken time _ _ _ refl)
-handled-taken ControlService s a image r time = by-test Taken (isClose (messageIn r) (bodyOf r)) _ _ (λ _. refl) (λ _. refl)
+connected-taken : (k : Kept) (l : Lent) (r : List ℕ) (q : ConnectRequest) → Taken (connected k l r q)
+unfolding connected Taken
+connected-taken k l r (ConnectRequest.Open version) = refl
+connected-taken k l r (ConnectRequest.Auth id password) = refl
+connected-taken k l r ConnectRequest.OtherAuth = refl
+connected-taken k l r ConnectRequest.Close = refl
 
-module _ (s : Session) (a : Account) (image r : List ℕ) (time room : ℕ) where
-  still : (code : ℕ) → Unmoved s image (silent code s image)
-  still code = record { reply = refl; notices = refl; next = refl; image-end = refl }
+judged-taken : (k : Kept) (l : Lent) (r : List ℕ) (q : Request) → Taken (judged k l r q)
+unfolding judged Taken
+judged-taken k l r Request.Unknown = refl
+judged-taken k l r Request.Bad = refl
+judged-taken k l r (Request.Connect q) = connected-taken k l r q
+judged-taken k l r (Request.Config q) = refl
+judged-taken k l r (Request.Scsi q) = refl
+judged-taken k l r (Request.Tape q) = refl
+judged-taken k l r (Request.Data q) = refl
+judged-taken k l r (Request.Mover q) = refl
+judged-taken k l r (Request.Joint q) = noticed-taken (l .time) _ _ _ (noticed-taken (l .time) _ _ _ refl)
 
-  coded : (short good : Bool) → ltb room 36864 ≡ short → keeps s ≡ good → answered s a image r time room .code ≡ choose short 1001 (choose good 0 1002)
+module _ (k : Kept) (l : Lent) (r : List ℕ) where
+  still : (code : ℕ) → Unmoved k (silent code k)
+  still code = record { reply = refl; notices = refl; next = refl }
+
+  coded : (short good : Bool) → ltb (l .room) 36864 ≡ short → keeps (k .session) ≡ good → answered k l r .code ≡ choose short 1001 (choose good 0 1002)
   unfolding answered requested Taken choose
-  coded true good e k = rw (answered, e)
-  coded false false e k = rw (answered, e, k)
-  coded false true e k =
-      rw (answered, e, k)
-      (by-test Taken (s .closed) _ _ (λ _. refl)
+  coded true good e g = rw (answered, e)
+  coded false false e g = rw (answered, e, g)
+  coded false true e g =
+      rw (answered, e, g)
+      (by-test Taken (k .session .closed) _ _ (λ _. refl)
       (λ _. by-test Taken (not (wellFramed r)) _ _ (λ _. refl)
-      (λ _. by-test Taken (not (eqb (kindOf r) 0)) _ _ (λ _. refl) (λ _. handled-taken (routeOf r) s a image r time))))
+      (λ _. by-test Taken (not (eqb (kindOf r) 0)) _ _ (λ _. refl) (λ _. judged-taken k l r (requestIn r)))))
 
-  never : keeps s ≡ true → answered s a image r time room .code ≡ 1002 → ⊥
+  never : keeps (k .session) ≡ true → answered k l r .code ≡ 1002 → ⊥
   unfolding choose
-  never k h =
-      let c = rw k at (coded (ltb room 36864) (keeps s) refl refl) in
-      by-test (λ (n : ℕ). answered s a image r time room .code ≡ n → ⊥) (ltb room 36864) 1001 0 (λ _ e. omega arith) (λ _ e. omega arith) c
+  never g h =
+      let c = rw g at (coded (ltb (l .room) 36864) (keeps (k .session)) refl refl) in
+      by-test (λ (n : ℕ). answered k l r .code ≡ n → ⊥) (ltb (l .room) 36864) 1001 0 (λ _ e. omega arith) (λ _ e. omega arith) c
 
   Refused : Answered → Type 0
-  Refused x = (x .code ≡ 0 → ⊥) → Unmoved s image x
+  Refused x = (x .code ≡ 0 → ⊥) → Unmoved k x
 
-  refused : Refused (answered s a image r time room)
+  refused : Refused (answered k l r)
   unfolding Refused Taken
-  refused = by-call Refused s a image r time room (λ code _. still code) (λ n. absurd (n refl)) (λ d n. absurd (n (handled-taken d s a image r time)))
+  refused = by-call Refused k l r (λ code _. still code) (λ n. absurd (n refl)) (λ n. absurd (n (judged-taken k l r (requestIn r))))
 
   -- what follows the two refusals, where that does nothing either
-  else-still : (x : Answered) → Unmoved s image x → Unmoved s image (choose (ltb room 36864) (silent 1001 s image) (choose (not (keeps s)) (silent 1002 s image) x))
+  else-still : (x : Answered) → Unmoved k x → Unmoved k (choose (ltb (l .room) 36864) (silent 1001 k) (choose (not (keeps (k .session))) (silent 1002 k) x))
   else-still x h =
-      by-test (Unmoved s image) (ltb room 36864) _ _ (λ _. still 1001) (λ _. by-test (Unmoved s image) (not (keeps s)) _ _ (λ _. still 1002) (λ _. h))
+      by-test (Unmoved k) (ltb (l .room) 36864) _ _ (λ _. still 1001) (λ _. by-test (Unmoved k) (not (keeps (k .session))) _ _ (λ _. still 1002) (λ _. h))
 
-  over : s .closed ≡ true → Unmoved s image (answered s a image r time room)
+  over : k .session .closed ≡ true → Unmoved k (answered k l r)
   unfolding answered
   over o =
-      else-still _ (by-test (Unmoved s image) (s .closed) _ _ (λ _. still 0) (λ f. absurd (let z : _≡_ {A = ℕ} 0 1 = cc in omega arith)))
+      else-still _ (by-test (Unmoved k) (k .session .closed) _ _ (λ _. still 0) (λ f. absurd (let z : _≡_ {A = ℕ} 0 1 = cc in omega arith)))
 
-  broken : 36864 ≤ room → keeps s ≡ true → s .closed ≡ false → wellFramed r ≡ false → answered s a image r time room ≡ closing s image
+  broken : 36864 ≤ l .room → keeps (k .session) ≡ true → k .session .closed ≡ false → wellFramed r ≡ false → answered k l r ≡ closing k
   unfolding answered choose
-  broken w k o f = rw (answered, le-ltb room 36864 w, k, o, f)
+  broken w g o f = rw (answered, le-ltb (l .room) 36864 w, g, o, f)
 
-  ignored : wellFramed r ≡ true → (kindOf r ≡ 0 → ⊥) → Unmoved s image (answered s a image r time room)
+  ignored : wellFramed r ≡ true → (kindOf r ≡ 0 → ⊥) → Unmoved k (answered k l r)
   unfolding answered requested choose
-  ignored f n = else-still _ (by-test (Unmoved s image) (s .closed) _ _ (λ _. still 0) (λ _. rw (f, ne-eqb (kindOf r) 0 n) (still 0)))
+  ignored f n = else-still _ (by-test (Unmoved k) (k .session .closed) _ _ (λ _. still 0) (λ _. rw (f, ne-eqb (kindOf r) 0 n) (still 0)))
 
--- ---- what a service answers to a message that is not handled, to a body that does not decode, and to a wrong login
-module _ (s : Session) (a : Account) (image r : List ℕ) (time : ℕ) where
-  heard : (room : ℕ) → Heard s r room → answered s a image r time room ≡ handled (routeOf r) s a image r time
+-- ---- what is answered to a message that is not handled, to a body that does not decode, and to a wrong login
+module _ (k : Kept) (l : Lent) (r : List ℕ) where
+  heard : Heard k l r → answered k l r ≡ judged k l r (requestIn r)
   unfolding answered requested choose
-  heard room h = rw (answered, le-ltb room 36864 (h .roomy), h .kept, h .opened, h .framed, h .request)
+  heard h = rw (answered, le-ltb (l .room) 36864 (h .roomy), h .valid, h .opened, h .framed, h .request)
 
-  -- a request at the service of its message
-  to : {x : Answered} (d : Service) → routeOf r ≡ d → handled d s a image r time ≡ x → handled (routeOf r) s a image r time ≡ x
-  to d e h = ap (λ (y : Service). handled y s a image r time) e ∙ h
+  unhandled : Heard k l r → messageIn r ≡ Message.Unknown → answered k l r ≡ replying r (l .time) (Reply.Header 1) [] k
+  unfolding judged decoded
+  unhandled h e = heard h ∙ rw e
 
-  pub unhandled-at : (d : Service) → messageIn r ≡ Message.Unknown → handled d s a image r time ≡ replying r time (Reply.Header 1) [] s image
-  unfolding handled dataOn tapeOn scsiOn jointOn controlOn isClose noticed choose
-  unhandled-at DataService e = rw e
-  unhandled-at TapeService e = rw (e, header-bare)
-  unhandled-at ScsiService e = rw e
-  unhandled-at JointService e = rw e
-  unhandled-at ControlService e = rw e
+  undecoded : Heard k l r → decoded (messageIn r) (bodyOf r) ≡ Request.Bad → answered k l r ≡ replying r (l .time) (Reply.Header 18) [] k
+  unfolding judged
+  undecoded h b = heard h ∙ rw b
 
-  unhandled : (room : ℕ) → Heard s r room → messageIn r ≡ Message.Unknown → answered s a image r time room ≡ replying r time (Reply.Header 1) [] s image
-  unhandled room h e = heard room h ∙ unhandled-at (routeOf r) e
-
-  undecoded-at : (m : Message) → messageIn r ≡ m → decoded m (bodyOf r) ≡ Request.Bad → handled (routeOf r) s a image r time ≡ replying r time (Reply.Header 18) [] s image
-  unfolding handled serviceOf decoded dataOn tapeOn scsiOn jointOn controlOn onData onTape onMover onScsi onJoint onConnect onConfig isClose closes noticed choose
-  undecoded-at (Message.Connect k) e h = to ControlService (rw e refl) (rw (e, h))
-  undecoded-at (Message.Config k) e h = to ControlService (rw e refl) (rw (e, h))
-  undecoded-at (Message.Scsi k) e h = to ScsiService (rw e refl) (rw (e, h))
-  undecoded-at (Message.Tape k) e h = to TapeService (rw e refl) (rw (e, h, header-bare))
-  undecoded-at (Message.Data k) e h = to DataService (rw e refl) (rw (e, h))
-  undecoded-at (Message.Mover k) e h = to TapeService (rw e refl) (rw (e, h, header-bare))
-  undecoded-at (Message.Joint k) e h = to JointService (rw e refl) (rw (e, h))
-  undecoded-at Message.Unknown e h = absurd (let z : _≡_ {A = ℕ} 0 1 = cc in omega arith)
-
-  undecoded : (room : ℕ) → Heard s r room → decoded (messageIn r) (bodyOf r) ≡ Request.Bad
-      → answered s a image r time room ≡ replying r time (Reply.Header 18) [] s image
-  undecoded room h b = heard room h ∙ undecoded-at (messageIn r) refl b
-
-  unproven : (room : ℕ) (k : ConnectKind) (id password : Text) → Heard s r room → messageIn r ≡ Message.Connect k
-      → connectBody k (bodyOf r) ≡ Request.Connect (ConnectRequest.Auth id password)
-      → matches (textOf (bodyOf r) id) (textOf (bodyOf r) password) (a .id) (a .password) ≡ false
-      → answered s a image r time room ≡ replying r time (Reply.Plain 4) [] s image
-  unfolding handled serviceOf controlOn onConnect isClose closes clientAuth choose
-  unproven room k id password h e b w = heard room h ∙ to ControlService (rw e refl) (rw (e, b, w))
+  unproven : (c : ConnectKind) (id password : Text) → Heard k l r → messageIn r ≡ Message.Connect c
+      → connectBody c (bodyOf r) ≡ Request.Connect (ConnectRequest.Auth id password)
+      → matches (textOf (bodyOf r) id) (textOf (bodyOf r) password) (l .account .id) (l .account .password) ≡ false
+      → answered k l r ≡ replying r (l .time) (Reply.Plain 4) [] k
+  unfolding judged connected decoded clientAuth choose
+  unproven c id password h e b w = heard h ∙ rw (e, b, w)
 
 pub calls-keep : CallsKeep
 unfolding Refused
@@ -351,7 +322,7 @@ calls-keep =
       runs = runs;
       runs-sound = runs-sound;
       refusals = record {
-        codes = λ s a image r time room. coded s a image r time room (ltb room 36864) (keeps s) refl refl;
+        codes = λ k l r. coded k l r (ltb (l .room) 36864) (keeps (k .session)) refl refl;
         refused = refused;
         over = over;
         broken = broken;

@@ -7,7 +7,8 @@ use native.Mathlib.Omega.{arith}
 use lib.Dec.{eqb}
 use borrow.Author.Tests.{eqb-false}
 use Rattle.xdr.specs.Choose.{choose}
-use Rattle.session.specs.Judge.{Test, test, first}
+use Rattle.replies.specs.declared.Reply.{Reply}
+use Rattle.session.specs.Judge.{Test, test, first, Served, Outcome, refuse, accept, judge, allowed, settled}
 
 -- the k-th test's value
 abbrev pub flagAt : List Test → ℕ → Bool
@@ -45,3 +46,27 @@ unfolding first
 clear [] n h k = refl
 clear (test b e ∷ ts) n h zero = split b e (first ts) (nonzero e (numbered ts) n) h .0
 clear (test b e ∷ ts) n h (suc k) = clear ts (others e (numbered ts) n) (split b e (first ts) (nonzero e (numbered ts) n) h .1) k
+
+-- a test more, that is false
+before : (e : ℕ) (ts : List Test) → ((k : ℕ) → flagAt ts k ≡ false) → (k : ℕ) → flagAt (test false e ∷ ts) k ≡ false
+before e ts g zero = refl
+before e ts g (suc k) = g k
+
+-- ---- outcomes. What holds of the part as it was, and of the next one where no test applies, holds of the part that is left
+module _ {A : Type 0} (P : Served A → Type 0) (now : A) (f : ℕ → Reply) (refused : (e : ℕ) → P (record { reply = f e; part = now })) where
+  pub outcome-judged : (ts : List Test) (r : Reply) (next : A) → (((k : ℕ) → flagAt ts k ≡ false) → P (record { reply = r; part = next }))
+      → P (settled now f (judge ts (accept r next)))
+  unfolding judge settled choose
+  outcome-judged [] r next h = h (λ k. refl)
+  outcome-judged (test true e ∷ ts) r next h = refused e
+  outcome-judged (test false e ∷ ts) r next h = outcome-judged ts r next (λ g. h (before e ts g))
+
+  pub outcome-served : (known : Bool) (ts : List Test) (r : Reply) (next : A) → (((k : ℕ) → flagAt ts k ≡ false) → P (record { reply = r; part = next }))
+      → P (settled now f (allowed known (judge ts (accept r next))))
+  unfolding allowed settled choose
+  outcome-served true ts r next h = outcome-judged ts r next h
+  outcome-served false ts r next h = refused 4
+
+pub outcome-part : {A : Type 0} (P : A → Type 0) (now : A) (f : ℕ → Reply) (known : Bool) → P now → (ts : List Test) (r : Reply) (next : A)
+    → (((k : ℕ) → flagAt ts k ≡ false) → P next) → P (settled now f (allowed known (judge ts (accept r next))) .part)
+outcome-part {A} P now f known h ts r next g = outcome-served (λ (s : Served A). P (s .part)) now f (λ e. h) known ts r next g

@@ -1,7 +1,7 @@
 -- Every request keeps the relation: one law for each service, and one for the joint requests. Assumes nothing.
 use Prim.Native.Nat.{ℕ, _+_, _%_, _≤_}
 use mathlib.Core.Bool.{Bool, true, false, not}
-use mathlib.Core.List.{List}
+use mathlib.Core.List.{List, []}
 use mathlib.Core.Path.{_≡_, refl, sym, ap, _∙_}
 use native.Mathlib.Omega.{arith}
 use lib.ListN.{length}
@@ -19,18 +19,19 @@ use Rattle.requests.specs.declared.TapeRequest.{TapeRequest}
 use Rattle.requests.specs.declared.TapeRequest.the-variants as TapeRequest
 use Rattle.requests.specs.declared.JointRequest.{JointRequest}
 use Rattle.requests.specs.declared.JointRequest.the-variants as JointRequest
+use Rattle.replies.specs.declared.Reply.{Reply}
 use Rattle.session.specs.declared.types.Data.{Data}
 use Rattle.session.specs.declared.types.Mover.{Mover}
 use Rattle.session.specs.declared.types.Tape.{Tape}
-use Rattle.session.specs.Judge.{Test, first, Served}
+use Rattle.session.specs.Judge.{Test, first, Served, Outcome, accept, judge, allowed, settled}
 use Rattle.session.specs.Parts.{top, restData, restMover, closedTape, dataTo, dataStarts, dataHalts, moverListens, moverRuns, moverWindow, moverSize, moverSeeks, moverHalts, dataJoined, moverJoined, holdsTape, unwritable}
-use Rattle.session.specs.DataService.{knownTests, dataState, dataListenTests, dataListen, startTests, dataStart, dataStopTests, dataStop, dataStep, textOf, dump}
+use Rattle.session.specs.DataService.{knownTests, dataListen, dataStart, dataStop, dataStep, dataServed, textOf, dump}
 use Rattle.session.specs.MoverService.{moverState, offsetWrong, joinOf, moverListen, continueTests, moverContinue, moverStopTests, moverStop, busy, elsewhere, windowTests, setWindow, moverReadTests, moverRead, sizeTests, setSize, moverStep}
 use Rattle.session.specs.TapeService.{Loaded, loaded, tapeOpenTests, tapeOpen, tapeTests, tapeClose, tapeState, protects, tapeMtio, tapeWrite, tapeRead, deviceStep, TapePart, tapeStep, moverPartStep, tape0}
 use Rattle.session.specs.Joint.{Ends, ends, dataConnectTests, dataConnect, moverConnect, abortTests, dataAborted, dataAbort, moverAborted, moverAbort, closeTests, moverClose, jointStep}
 use Rattle.session.specs.Relation.{dataWrong, moverWrong, sameFlag, Legal, Within, MoverKept}
 use Rattle.session.specs.Promises.{Keeps, JointKeeps, dataSide, partWrong, partSide}
-use Rattle.session.proofs.JudgeLaws.{flagAt, numbered, clear}
+use Rattle.session.proofs.JudgeLaws.{flagAt, numbered, clear, outcome-part}
 use Rattle.session.proofs.Kept.{mover-kept, kept-mover, past-top, writes}
 
 module _ {A : Type 0} (wrong side : A → Bool) (p : A) where
@@ -52,20 +53,17 @@ unfolding dataWrong
 data-moves d next k n e f h j =
     record { good = λ _. le-ltb 4 (next .state) (omega arith); sides = ap dataJoined f ∙ j ∙ ap dataJoined (sym e) }
 
-pub data-keeps : (known : Bool) (d : Data) (q : DataRequest) (body : List ℕ) → DataKeeps d (dataStep known d q body .part)
-unfolding dataStep dataState dataListen dataStart dataStop dataJoined choose
-data-keeps known d DataRequest.State body = judged dataWrong dataSide d (knownTests known) d refl (λ _. stays dataWrong dataSide d)
-data-keeps known d (DataRequest.Backup name) body =
-    judged dataWrong dataSide d (startTests known (d .state) (sameBytes (textOf body name) dump)) (dataStarts 1 d) refl
-    (λ g. data-moves d (dataStarts 1 d) 4 1 (is (g 1)) refl (omega arith) refl)
-data-keeps known d (DataRequest.Recover name) body =
-    judged dataWrong dataSide d (startTests known (d .state) (sameBytes (textOf body name) dump)) (dataStarts 2 d) refl
-    (λ g. data-moves d (dataStarts 2 d) 4 1 (is (g 1)) refl (omega arith) refl)
-data-keeps known d DataRequest.Stop body =
-    judged dataWrong dataSide d (dataStopTests known (d .state)) restData refl (λ g. data-moves d restData 2 0 (is (g 1)) refl (omega arith) refl)
-data-keeps known d (DataRequest.Listen address) body =
-    judged dataWrong dataSide d (dataListenTests known (d .state) address) (dataTo 3 d) refl
-    (λ g. data-moves d (dataTo 3 d) 0 3 (is (g 1)) refl (omega arith) refl)
+data-judged : (d : Data) (f : ℕ → Reply) (known : Bool) (ts : List Test) (r : Reply) (next : Data) → (((k : ℕ) → flagAt ts k ≡ false) → DataKeeps d next)
+    → DataKeeps d (settled d f (allowed known (judge ts (accept r next))) .part)
+data-judged d f known ts r next h = outcome-part (DataKeeps d) d f known (stays dataWrong dataSide d) ts r next h
+
+pub data-keeps : (known : Bool) (d : Data) (q : DataRequest) (body : List ℕ) → DataKeeps d (dataServed known d q body .part)
+unfolding dataStep dataListen dataStart dataStop dataJoined choose
+data-keeps known d DataRequest.State body = data-judged d _ known _ _ d (λ _. stays dataWrong dataSide d)
+data-keeps known d (DataRequest.Backup name) body = data-judged d _ known _ _ (dataStarts 1 d) (λ g. data-moves d (dataStarts 1 d) 4 1 (is (g 0)) refl (omega arith) refl)
+data-keeps known d (DataRequest.Recover name) body = data-judged d _ known _ _ (dataStarts 2 d) (λ g. data-moves d (dataStarts 2 d) 4 1 (is (g 0)) refl (omega arith) refl)
+data-keeps known d DataRequest.Stop body = data-judged d _ known _ _ restData (λ g. data-moves d restData 2 0 (is (g 0)) refl (omega arith) refl)
+data-keeps known d (DataRequest.Listen address) body = data-judged d _ known _ _ (dataTo 3 d) (λ g. data-moves d (dataTo 3 d) 0 3 (is (g 0)) refl (omega arith) refl)
 
 -- ---- the mover and the tape
 abbrev pub PartKeeps : TapePart → TapePart → Type 0

@@ -1,7 +1,7 @@
 -- What a refusal leaves, and the rules of windows. Assumes nothing.
 use Prim.Native.Nat.{ℕ}
 use mathlib.Core.Bool.{Bool, true, false, not}
-use mathlib.Core.List.{List}
+use mathlib.Core.List.{List, []}
 use mathlib.Core.Path.{_≡_, refl, ap}
 use lib.ListN.{length, getD}
 use lib.Dec.{eqb}
@@ -27,14 +27,15 @@ use Rattle.session.specs.declared.types.Data.{Data}
 use Rattle.session.specs.declared.types.Mover.{Mover}
 use Rattle.session.specs.declared.types.Tape.{Tape}
 use Rattle.session.specs.declared.types.Changer.{Changer}
-use Rattle.session.specs.Judge.{first, Served}
+use Rattle.session.specs.Judge.{first, Served, judge}
 use Rattle.session.specs.Parts.{restMover}
-use Rattle.session.specs.DataService.{dataState, dataListen, dataStart, dataStop, dataStep, textOf}
+use Rattle.session.specs.DataService.{dataListen, dataStart, dataStop, dataStep, dataServed, textOf}
 use Rattle.session.specs.MoverService.{moverState, moverListen, moverContinue, moverStop, setWindow, moverRead, setSize, moverStep}
 use Rattle.session.specs.TapeService.{Loaded, loaded, movedTo, tapeTests, protects, tapeOpen, tapeClose, tapeState, tapeMtio, tapeWrite, tapeRead, deviceStep, TapePart, tapeStep}
 use Rattle.session.specs.ScsiService.{scsiOpen, scsiClear, scsiState, cdbTests, runCdb, scsiCdb, scsiStep}
 use Rattle.session.specs.Joint.{ends, dataConnect, moverConnect, dataAbort, moverAbort, moverClose, jointStep}
 use Rattle.session.specs.Promises.{Promises}
+use Rattle.session.proofs.JudgeLaws.{outcome-served}
 use Rattle.session.proofs.Kept.{mover-kept}
 use Rattle.session.proofs.Keeping.{data-keeps, tape-keeps, mover-part-keeps, joint-keeps}
 
@@ -52,13 +53,17 @@ unfolding choose
 same true x = refl
 same false x = refl
 
-data-left : (known : Bool) (d : Data) (q : DataRequest) (body : List ℕ) → (numberOf (dataStep known d q body .reply) ≡ 0 → ⊥) → dataStep known d q body .part ≡ d
-unfolding dataStep dataState dataListen dataStart dataStop numberOf
-data-left known d DataRequest.State body h = left _ _ _ h
-data-left known d (DataRequest.Backup name) body h = left _ _ _ h
-data-left known d (DataRequest.Recover name) body h = left _ _ _ h
-data-left known d DataRequest.Stop body h = left _ _ _ h
-data-left known d (DataRequest.Listen address) body h = left _ _ _ h
+-- an accepted reply has the number 0, so a refusal is `refuse`, which leaves its part
+DataLeft : Data → Served Data → Type 0
+DataLeft d s = (numberOf (s .reply) ≡ 0 → ⊥) → s .part ≡ d
+
+data-left : (known : Bool) (d : Data) (q : DataRequest) (body : List ℕ) → DataLeft d (dataServed known d q body)
+unfolding dataStep dataListen dataStart dataStop numberOf DataLeft
+data-left known d DataRequest.State body = outcome-served (DataLeft d) d _ (λ e _. refl) known _ _ _ (λ _ h. absurd (h refl))
+data-left known d (DataRequest.Backup name) body = outcome-served (DataLeft d) d _ (λ e _. refl) known _ _ _ (λ _ h. absurd (h refl))
+data-left known d (DataRequest.Recover name) body = outcome-served (DataLeft d) d _ (λ e _. refl) known _ _ _ (λ _ h. absurd (h refl))
+data-left known d DataRequest.Stop body = outcome-served (DataLeft d) d _ (λ e _. refl) known _ _ _ (λ _ h. absurd (h refl))
+data-left known d (DataRequest.Listen address) body = outcome-served (DataLeft d) d _ (λ e _. refl) known _ _ _ (λ _ h. absurd (h refl))
 
 mover-left : (known : Bool) (m : Mover) (t : Tape) (q : MoverRequest) → (numberOf (moverStep known m t q .reply) ≡ 0 → ⊥) → moverStep known m t q .part ≡ m
 unfolding moverStep moverState moverListen moverContinue moverStop setWindow moverRead setSize numberOf
@@ -140,7 +145,7 @@ unfolding moverStop
 stopped known m h = taken _ _ _ (zero-plain _ h)
 
 pub promises : Promises
-unfolding ScsiLeft
+unfolding ScsiLeft DataLeft
 promises =
     record {
       relation = record { source = data-keeps; tape = tape-keeps; mover = mover-part-keeps; joint = joint-keeps };

@@ -10,9 +10,11 @@ use Rattle.requests.specs.declared.Text.{Text}
 use Rattle.requests.specs.declared.DataRequest.{DataRequest}
 use Rattle.requests.specs.declared.DataRequest.the-variants.{State, Backup, Recover, Stop, Listen}
 use Rattle.replies.specs.declared.DataView.{DataView}
+use Rattle.replies.specs.declared.Reply.{Reply}
 use Rattle.replies.specs.declared.Reply.the-variants.{Plain, Listening, DataState}
 use Rattle.session.specs.declared.types.Data.{Data}
-use Rattle.session.specs.Judge.{Test, test, first, Served, served}
+use Rattle.session.specs.Names.{dataIdle, dataHalted, dataListening, dataConnected, notAuthorized, illegalArguments, illegalState}
+use Rattle.session.specs.Judge.{Test, test, Served, Outcome, accept, judge, allowed, settled}
 use Rattle.session.specs.Parts.{restData, dataTo, dataStarts}
 
 -- the bytes of a text in a body
@@ -31,51 +33,45 @@ unfoldable pub toldIn : ℕ → ℕ → ℕ → ℕ
 toldIn at state reason = choose (eqb state at) reason 0
 
 abbrev pub dataView : Data → DataView
-dataView d = record { operation = d .operation; state = d .state; reason = toldIn 2 (d .state) (d .reason); processed = d .processed }
+dataView d = record { operation = d .operation; state = d .state; reason = toldIn dataHalted (d .state) (d .reason); processed = d .processed }
 
--- get state "never gives 19"
 abbrev pub knownTests : Bool → List Test
-knownTests known = test (not known) 4 ∷ []
-
-unfoldable pub dataState : Bool → Data → Served Data
-dataState known d =
-    let e = first (knownTests known) in
-    served e (DataState e (choose (eqb e 0) (dataView d) noData)) d d
+knownTests known = test (not known) notAuthorized ∷ []
 
 -- "Listen: IDLE to LISTEN." "Address types other than LOCAL: 9."
-abbrev pub dataListenTests : Bool → ℕ → ℕ → List Test
-dataListenTests known state address = test (not known) 4 ∷ test (not (eqb state 0)) 19 ∷ test (not (eqb address 0)) 9 ∷ []
-
-unfoldable pub dataListen : Bool → Data → ℕ → Served Data
-dataListen known d address =
-    let e = first (dataListenTests known (d .state) address) in
-    served e (Listening e) (dataTo 3 d) d
+unfoldable pub dataListen : Data → ℕ → Outcome Data
+dataListen d address =
+    judge (test (not (eqb (d .state) dataIdle)) illegalState ∷ test (not (eqb address 0)) illegalArguments ∷ [])
+    (accept (Listening 0) (dataTo dataListening d))
 
 -- "Start: CONNECTED to ACTIVE; method name other than `dump`: 9."
-abbrev pub startTests : Bool → ℕ → Bool → List Test
-startTests known state named = test (not known) 4 ∷ test (not (eqb state 4)) 19 ∷ test (not named) 9 ∷ []
-
-unfoldable pub dataStart : Bool → Data → ℕ → Bool → Served Data
-dataStart known d operation named =
-    let e = first (startTests known (d .state) named) in
-    served e (Plain e) (dataStarts operation d) d
+unfoldable pub dataStart : Data → ℕ → Bool → Outcome Data
+dataStart d operation named =
+    judge (test (not (eqb (d .state) dataConnected)) illegalState ∷ test (not named) illegalArguments ∷ [])
+    (accept (Plain 0) (dataStarts operation d))
 
 -- "Stop: HALTED to IDLE, all variables of its own end reset"
-abbrev pub dataStopTests : Bool → ℕ → List Test
-dataStopTests known state = test (not known) 4 ∷ test (not (eqb state 2)) 19 ∷ []
+unfoldable pub dataStop : Data → Outcome Data
+dataStop d = judge (test (not (eqb (d .state) dataHalted)) illegalState ∷ []) (accept (Plain 0) restData)
 
-unfoldable pub dataStop : Bool → Data → Served Data
-dataStop known d =
-    let e = first (dataStopTests known (d .state)) in
-    served e (Plain e) restData d
+-- the data step: the data end, the request, and the body that its text lies in. Get state "never gives 19"
+unfoldable pub dataStep : Data → DataRequest → List ℕ → Outcome Data
+dataStep d State body = judge [] (accept (DataState 0 (dataView d)) d)
+dataStep d (Backup name) body = dataStart d 1 (sameBytes (textOf body name) dump)
+dataStep d (Recover name) body = dataStart d 2 (sameBytes (textOf body name) dump)
+dataStep d Stop body = dataStop d
+dataStep d (Listen address) body = dataListen d address
 
--- the data step: whether the session is authorized, the data end, the request, and the body that its text lies in
-unfoldable pub dataStep : Bool → Data → DataRequest → List ℕ → Served Data
-dataStep known d State body = dataState known d
-dataStep known d (Backup name) body = dataStart known d 1 (sameBytes (textOf body name) dump)
-dataStep known d (Recover name) body = dataStart known d 2 (sameBytes (textOf body name) dump)
-dataStep known d Stop body = dataStop known d
-dataStep known d (Listen address) body = dataListen known d address
+-- the reply of a refusal: its number, and every field zero
+unfoldable pub dataRefusal : DataRequest → ℕ → Reply
+dataRefusal State e = DataState e noData
+dataRefusal (Backup name) e = Plain e
+dataRefusal (Recover name) e = Plain e
+dataRefusal Stop e = Plain e
+dataRefusal (Listen address) e = Listening e
+
+abbrev pub dataServed : Bool → Data → DataRequest → List ℕ → Served Data
+dataServed known d q body = settled d (dataRefusal q) (allowed known (dataStep d q body))
 
 -- the text of a request lies in its body
 abbrev pub TextIn : List ℕ → Text → Type 0

@@ -10,6 +10,7 @@ use Rattle.replies.specs.declared.Reply.the-variants.{Plain}
 use Rattle.session.specs.declared.types.Data.{Data}
 use Rattle.session.specs.declared.types.Mover.{Mover}
 use Rattle.session.specs.declared.types.Tape.{Tape}
+use Rattle.session.specs.Names.{dataIdle, dataHalted, dataListening, dataConnected, moverListening, moverPaused, moverHalted, dataAbortedReason, dataConnectError, moverConnectClosed, moverAbortedReason, notAuthorized, illegalArguments, illegalState, otherNotListening}
 use Rattle.session.specs.Judge.{Test, test, first, Served, served}
 use Rattle.session.specs.Parts.{dataTo, dataHalts, moverRuns, moverHalts, dataJoined, moverJoined}
 use Rattle.session.specs.MoverService.{joinOf}
@@ -27,54 +28,54 @@ ends d m = record { source = d; mover = m; dwhy = 0; mwhy = 0 }
 -- "Connect: own end IDLE, other end LISTEN; data becomes CONNECTED, mover ACTIVE." "23: the other end is not in LISTEN"
 abbrev pub dataConnectTests : Bool → ℕ → ℕ → ℕ → List Test
 dataConnectTests known state mover address =
-    test (not known) 4 ∷ test (not (eqb state 0)) 19 ∷ test (not (eqb address 0)) 9 ∷ test (not (eqb mover 1)) 23 ∷ []
+    test (not known) notAuthorized ∷ test (not (eqb state dataIdle)) illegalState ∷ test (not (eqb address 0)) illegalArguments ∷ test (not (eqb mover moverListening)) otherNotListening ∷ []
 
 unfoldable pub dataConnect : Bool → Data → Mover → Tape → ℕ → Served Ends
 dataConnect known d m t address =
     let e = first (dataConnectTests known (d .state) (m .state) address) in
-    served e (Plain e) (ends (dataTo 4 d) (moverRuns (m .mode) (t .position) m)) (ends d m)
+    served e (Plain e) (ends (dataTo dataConnected d) (moverRuns (m .mode) (t .position) m)) (ends d m)
 
 unfoldable pub moverConnect : Bool → Data → Mover → Tape → ℕ → ℕ → Served Ends
 moverConnect known d m t mode address =
-    let e = first (joinOf known m t mode address (not (eqb (d .state) 3))) in
-    served e (Plain e) (ends (dataTo 4 d) (moverRuns mode (t .position) m)) (ends d m)
+    let e = first (joinOf known m t mode address (not (eqb (d .state) dataListening))) in
+    served e (Plain e) (ends (dataTo dataConnected d) (moverRuns mode (t .position) m)) (ends d m)
 
 -- neither to be aborted from IDLE nor from HALTED, whose numbers differ
 unfoldable pub atRest : ℕ → ℕ → Bool
 atRest state halted = choose (eqb state 0) true (eqb state halted)
 
 abbrev pub abortTests : Bool → ℕ → ℕ → List Test
-abortTests known state halted = test (not known) 4 ∷ test (atRest state halted) 19 ∷ []
+abortTests known state halted = test (not known) notAuthorized ∷ test (atRest state halted) illegalState ∷ []
 
 -- "Abort: not from IDLE or HALTED; own reason ABORTED 2. Joined other end: data halts CONNECT_ERROR 4, mover halts CONNECT_CLOSED 1."
 unfoldable pub dataAborted : Data → Mover → Ends
 dataAborted d m =
-    choose (dataJoined (d .state)) (record { source = dataHalts 2 d; mover = moverHalts 1 m; dwhy = 2; mwhy = 1 })
-    (record { source = dataHalts 2 d; mover = m; dwhy = 2; mwhy = 0 })
+    choose (dataJoined (d .state)) (record { source = dataHalts dataAbortedReason d; mover = moverHalts moverConnectClosed m; dwhy = dataAbortedReason; mwhy = moverConnectClosed })
+    (record { source = dataHalts dataAbortedReason d; mover = m; dwhy = dataAbortedReason; mwhy = 0 })
 
 unfoldable pub dataAbort : Bool → Data → Mover → Served Ends
 dataAbort known d m =
-    let e = first (abortTests known (d .state) 2) in
+    let e = first (abortTests known (d .state) dataHalted) in
     served e (Plain e) (dataAborted d m) (ends d m)
 
 unfoldable pub moverAborted : Data → Mover → Ends
 moverAborted d m =
-    choose (moverJoined (m .state)) (record { source = dataHalts 4 d; mover = moverHalts 2 m; dwhy = 4; mwhy = 2 })
-    (record { source = d; mover = moverHalts 2 m; dwhy = 0; mwhy = 2 })
+    choose (moverJoined (m .state)) (record { source = dataHalts dataConnectError d; mover = moverHalts moverAbortedReason m; dwhy = dataConnectError; mwhy = moverAbortedReason })
+    (record { source = d; mover = moverHalts moverAbortedReason m; dwhy = 0; mwhy = moverAbortedReason })
 
 unfoldable pub moverAbort : Bool → Data → Mover → Served Ends
 moverAbort known d m =
-    let e = first (abortTests known (m .state) 4) in
+    let e = first (abortTests known (m .state) moverHalted) in
     served e (Plain e) (moverAborted d m) (ends d m)
 
 -- "Mover close: PAUSED only; mover CONNECT_CLOSED, data CONNECT_ERROR."
 abbrev pub closeTests : Bool → ℕ → List Test
-closeTests known state = test (not known) 4 ∷ test (not (eqb state 3)) 19 ∷ []
+closeTests known state = test (not known) notAuthorized ∷ test (not (eqb state moverPaused)) illegalState ∷ []
 
 unfoldable pub moverClose : Bool → Data → Mover → Served Ends
 moverClose known d m =
     let e = first (closeTests known (m .state)) in
-    served e (Plain e) (record { source = dataHalts 4 d; mover = moverHalts 1 m; dwhy = 4; mwhy = 1 }) (ends d m)
+    served e (Plain e) (record { source = dataHalts dataConnectError d; mover = moverHalts moverConnectClosed m; dwhy = dataConnectError; mwhy = moverConnectClosed }) (ends d m)
 
 unfoldable pub jointStep : Bool → Data → Mover → Tape → JointRequest → Served Ends
 jointStep known d m t DataAbort = dataAbort known d m

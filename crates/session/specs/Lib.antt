@@ -1,3 +1,4 @@
+pub mod Names
 pub mod Judge
 pub mod Parts
 pub mod DataService

@@ -10,6 +10,7 @@ use Rattle.replies.specs.declared.MoverView.{MoverView}
 use Rattle.replies.specs.declared.Reply.the-variants.{Plain, Listening, MoverState}
 use Rattle.session.specs.declared.types.Mover.{Mover}
 use Rattle.session.specs.declared.types.Tape.{Tape}
+use Rattle.session.specs.Names.{moverIdle, moverActive, moverPaused, moverHalted, toTapeMode, fromTapeMode, notAuthorized, permissionDenied, notOpen, illegalArguments, illegalState, readInProgress, otherNotListening, precondition}
 use Rattle.session.specs.Judge.{Test, test, first, Served, served}
 use Rattle.session.specs.Parts.{top, restMover, moverListens, moverRuns, moverWindow, moverSize, moverSeeks, unwritable}
 use Rattle.session.specs.DataService.{knownTests, toldIn}
@@ -27,8 +28,8 @@ moverView m =
     record {
       mode = m .mode;
       state = m .state;
-      pause = toldIn 3 (m .state) (m .pause);
-      halt = toldIn 4 (m .state) (m .halt);
+      pause = toldIn moverPaused (m .state) (m .pause);
+      halt = toldIn moverHalted (m .state) (m .halt);
       size = m .size;
       number = recordNumber (m .moved) (m .size);
       moved = m .moved;
@@ -48,20 +49,20 @@ moverState known m =
 -- goes to tape, 1 from tape; others: 9." The last test, 23, is connect's own. The tests are over plain numbers, as the code that asks
 -- them is; joinOf has them of a mover and a tape.
 unfoldable pub offsetWrong : ℕ → ℕ → Bool
-offsetWrong mode offset = choose (eqb mode 0) (not (eqb offset 0)) false
+offsetWrong mode offset = choose (eqb mode toTapeMode) (not (eqb offset 0)) false
 
 abbrev pub joinTests : Bool → Bool → Bool → ℕ → ℕ → ℕ → ℕ → ℕ → ℕ → Bool → List Test
 joinTests known opened writable state size offset length mode address absent =
-    test (not known) 4
-    ∷ test (not opened) 6
-    ∷ test (not (eqb state 0)) 19
-    ∷ test (unwritable mode writable) 5
-    ∷ test (eqb size 0) 26
-    ∷ test (eqb length 0) 26
-    ∷ test (offsetWrong mode offset) 26
-    ∷ test (not (eqb address 0)) 9
-    ∷ test (ltb 1 mode) 9
-    ∷ test absent 23
+    test (not known) notAuthorized
+    ∷ test (not opened) notOpen
+    ∷ test (not (eqb state moverIdle)) illegalState
+    ∷ test (unwritable mode writable) permissionDenied
+    ∷ test (eqb size 0) precondition
+    ∷ test (eqb length 0) precondition
+    ∷ test (offsetWrong mode offset) precondition
+    ∷ test (not (eqb address 0)) illegalArguments
+    ∷ test (ltb 1 mode) illegalArguments
+    ∷ test absent otherNotListening
     ∷ []
 
 abbrev pub joinOf : Bool → Mover → Tape → ℕ → ℕ → Bool → List Test
@@ -75,11 +76,11 @@ moverListen known m t mode address =
 -- "Continue: PAUSED only; 26 if no window was set since the pause."
 abbrev pub continueTests : Bool → Bool → Bool → ℕ → ℕ → ℕ → List Test
 continueTests known opened writable state mode length =
-    test (not known) 4
-    ∷ test (not opened) 6
-    ∷ test (not (eqb state 3)) 19
-    ∷ test (unwritable mode writable) 5
-    ∷ test (eqb length 0) 26
+    test (not known) notAuthorized
+    ∷ test (not opened) notOpen
+    ∷ test (not (eqb state moverPaused)) illegalState
+    ∷ test (unwritable mode writable) permissionDenied
+    ∷ test (eqb length 0) precondition
     ∷ []
 
 unfoldable pub moverContinue : Bool → Mover → Tape → Served Mover
@@ -89,7 +90,7 @@ moverContinue known m t =
 
 -- "Stop: HALTED to IDLE, all variables of its own end reset but the record size."
 abbrev pub moverStopTests : Bool → ℕ → List Test
-moverStopTests known state = test (not known) 4 ∷ test (not (eqb state 4)) 19 ∷ []
+moverStopTests known state = test (not known) notAuthorized ∷ test (not (eqb state moverHalted)) illegalState ∷ []
 
 unfoldable pub moverStop : Bool → Mover → Served Mover
 moverStop known m =
@@ -98,11 +99,11 @@ moverStop known m =
 
 -- neither IDLE nor PAUSED
 unfoldable pub busy : ℕ → Bool
-busy state = choose (eqb state 0) false (not (eqb state 3))
+busy state = choose (eqb state moverIdle) false (not (eqb state moverPaused))
 
 -- "PAUSED in mode 0 an offset other than bytes moved"
 unfoldable pub elsewhere : ℕ → ℕ → ℕ → ℕ → Bool
-elsewhere state mode moved offset = choose (eqb state 3) (choose (eqb mode 0) (not (eqb offset moved)) false) false
+elsewhere state mode moved offset = choose (eqb state moverPaused) (choose (eqb mode toTapeMode) (not (eqb offset moved)) false) false
 
 -- "offset + length above 2^64 - 1"
 unfoldable pub pastTop : ℕ → ℕ → Bool
@@ -112,14 +113,14 @@ pastTop offset length = ltb top (offset + length)
 -- 2^64 - 1, or PAUSED in mode 0 an offset other than bytes moved."
 abbrev pub windowTests : Bool → ℕ → ℕ → ℕ → ℕ → ℕ → ℕ → List Test
 windowTests known state mode size moved offset length =
-    test (not known) 4
-    ∷ test (busy state) 19
-    ∷ test (eqb size 0) 26
-    ∷ test (eqb length 0) 9
-    ∷ test (not (eqb (offset % size) 0)) 9
-    ∷ test (not (eqb (length % size) 0)) 9
-    ∷ test (pastTop offset length) 9
-    ∷ test (elsewhere state mode moved offset) 9
+    test (not known) notAuthorized
+    ∷ test (busy state) illegalState
+    ∷ test (eqb size 0) precondition
+    ∷ test (eqb length 0) illegalArguments
+    ∷ test (not (eqb (offset % size) 0)) illegalArguments
+    ∷ test (not (eqb (length % size) 0)) illegalArguments
+    ∷ test (pastTop offset length) illegalArguments
+    ∷ test (elsewhere state mode moved offset) illegalArguments
     ∷ []
 
 unfoldable pub setWindow : Bool → Mover → ℕ → ℕ → Served Mover
@@ -130,12 +131,12 @@ setWindow known m offset length =
 -- "Mover read: ACTIVE in mode 1, else 19; length 0 or offset + length above 2^64 - 1: 9." "25: mover read with bytes still left to read"
 abbrev pub moverReadTests : Bool → ℕ → ℕ → ℕ → ℕ → ℕ → List Test
 moverReadTests known state mode left offset length =
-    test (not known) 4
-    ∷ test (not (eqb state 2)) 19
-    ∷ test (not (eqb mode 1)) 19
-    ∷ test (eqb length 0) 9
-    ∷ test (pastTop offset length) 9
-    ∷ test (not (eqb left 0)) 25
+    test (not known) notAuthorized
+    ∷ test (not (eqb state moverActive)) illegalState
+    ∷ test (not (eqb mode fromTapeMode)) illegalState
+    ∷ test (eqb length 0) illegalArguments
+    ∷ test (pastTop offset length) illegalArguments
+    ∷ test (not (eqb left 0)) readInProgress
     ∷ []
 
 unfoldable pub moverRead : Bool → Mover → ℕ → ℕ → Served Mover
@@ -145,7 +146,7 @@ moverRead known m offset length =
 
 -- "Set record size: IDLE only, 1 to 32,768 (else 9)"
 abbrev pub sizeTests : Bool → ℕ → ℕ → List Test
-sizeTests known state size = test (not known) 4 ∷ test (not (eqb state 0)) 19 ∷ test (eqb size 0) 9 ∷ test (ltb 32768 size) 9 ∷ []
+sizeTests known state size = test (not known) notAuthorized ∷ test (not (eqb state moverIdle)) illegalState ∷ test (eqb size 0) illegalArguments ∷ test (ltb 32768 size) illegalArguments ∷ []
 
 unfoldable pub setSize : Bool → Mover → ℕ → Served Mover
 setSize known m size =

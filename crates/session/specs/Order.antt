@@ -1,15 +1,49 @@
 -- The three services commute (demand 3): lists of data, tape-with-mover and SCSI requests, the joint ones set aside, give the same answers and the
 -- same closing state in whatever order they are merged. One statement; its proof is proofs/Order.antt.
-use Prim.Native.Nat.{ℕ, _≤_}
+use Prim.Native.Nat.{ℕ, _/_, _≤_}
 use mathlib.Core.Path.{_≡_}
 use mathlib.Core.Bool.{Bool, true, false}
 use mathlib.Core.List.{List, [], _∷_, _++_}
 use lib.ListN.{take, drop}
+use lib.Dec.{eqb}
 use Rattle.xdr.specs.Choose.{choose}
-use Rattle.frame.specs.Frame.{wellFramed, kindOf}
-use Rattle.session.specs.declared.types.Session.{Session}
+use Rattle.frame.specs.Frame.{wellFramed, kindOf, messageWord}
+use Rattle.frame.specs.Messages.{messageOf}
+use Rattle.frame.specs.declared.Message.{Message}
+use Rattle.frame.specs.declared.Message.the-variants as Message
 use Rattle.session.specs.Relation.{keeps}
-use Rattle.session.specs.Answer.{Service, DataService, TapeService, ScsiService, JointService, ControlService, routeOf, Account, Answered, answered}
+use Rattle.session.specs.Answer.{Kept, Lent, Answered, answered}
+
+-- ---- the services ("Desks go by message number: DATA; TAPE and MOVER; SCSI")
+pub data Service : Type 0 where
+  DataService : Service
+  TapeService : Service
+  ScsiService : Service
+  JointService : Service
+  ControlService : Service
+
+-- a number that is not handled belongs to the interface of its range
+unfoldable pub rangeOf : ℕ → Service
+rangeOf n =
+    choose (eqb (n / 256) 4) DataService
+    (choose (eqb (n / 256) 3) TapeService
+    (choose (eqb (n / 256) 10) TapeService
+    (choose (eqb (n / 256) 2) ScsiService
+    ControlService)))
+
+-- the joint messages are set apart
+unfoldable pub serviceOf : Message → ℕ → Service
+serviceOf (Message.Connect k) n = ControlService
+serviceOf (Message.Config k) n = ControlService
+serviceOf (Message.Scsi k) n = ScsiService
+serviceOf (Message.Tape k) n = TapeService
+serviceOf (Message.Data k) n = DataService
+serviceOf (Message.Mover k) n = TapeService
+serviceOf (Message.Joint k) n = JointService
+serviceOf Message.Unknown n = rangeOf n
+
+abbrev pub routeOf : List ℕ → Service
+routeOf r = serviceOf (messageOf (messageWord r)) (messageWord r)
 
 unfoldable pub sameService : Service → Service → Bool
 sameService DataService DataService = true
@@ -30,22 +64,17 @@ sameService ScsiService ControlService = false
 sameService JointService s = false
 sameService ControlService s = false
 
--- one call: the request's record, the time stamp and the account given with it, and the length of the output
+-- one call: the request's record, and what is lent with it
 pub record Call : Type 0 where
   pub request : List ℕ
-  pub time : ℕ
-  pub account : Account
-  pub room : ℕ
+  pub lent : Lent
 
--- ws is made of the requests of xs, ys and zs, each list in its own order; each call has a time, an account and an output of its own
+-- ws is made of the requests of xs, ys and zs, each list in its own order; each call is lent something of its own
 pub data Merge : List (List ℕ) → List (List ℕ) → List (List ℕ) → List Call → Type 0 where
   done : Merge [] [] [] []
-  left : {r : List ℕ} {time : ℕ} {a : Account} {room : ℕ} {xs ys zs : List (List ℕ)} {ws : List Call}
-      → Merge xs ys zs ws → Merge (r ∷ xs) ys zs (record { request = r; time = time; account = a; room = room } ∷ ws)
-  middle : {r : List ℕ} {time : ℕ} {a : Account} {room : ℕ} {xs ys zs : List (List ℕ)} {ws : List Call}
-      → Merge xs ys zs ws → Merge xs (r ∷ ys) zs (record { request = r; time = time; account = a; room = room } ∷ ws)
-  right : {r : List ℕ} {time : ℕ} {a : Account} {room : ℕ} {xs ys zs : List (List ℕ)} {ws : List Call}
-      → Merge xs ys zs ws → Merge xs ys (r ∷ zs) (record { request = r; time = time; account = a; room = room } ∷ ws)
+  left : {r : List ℕ} {l : Lent} {xs ys zs : List (List ℕ)} {ws : List Call} → Merge xs ys zs ws → Merge (r ∷ xs) ys zs (record { request = r; lent = l } ∷ ws)
+  middle : {r : List ℕ} {l : Lent} {xs ys zs : List (List ℕ)} {ws : List Call} → Merge xs ys zs ws → Merge xs (r ∷ ys) zs (record { request = r; lent = l } ∷ ws)
+  right : {r : List ℕ} {l : Lent} {xs ys zs : List (List ℕ)} {ws : List Call} → Merge xs ys zs ws → Merge xs ys (r ∷ zs) (record { request = r; lent = l } ∷ ws)
 
 abbrev pub Each {ℓ} : {A : Type ℓ} → (A → Type 0) → List A → Type 0
 Each P [] = Unit {0}
@@ -59,7 +88,7 @@ pub record Asks (d : Service) (r : List ℕ) : Type 0 where
   pub service : routeOf r ≡ d
 
 abbrev pub Roomy : Call → Type 0
-Roomy c = 36864 ≤ c .room
+Roomy c = 36864 ≤ c .lent .room
 
 -- a message's bytes without its sequence and time stamp
 unfoldable pub unstamped : List ℕ → List ℕ
@@ -77,21 +106,15 @@ given r a = record { request = r; code = a .code; reply = unstamped (a .reply) }
 pub record Run : Type 0 where
   pub replies : List Given
   pub notices : List ℕ
-  pub session : Session
-  pub image : List ℕ
+  pub last : Kept
 
--- calls one after the other, each on the session and image that the one before left
-unfoldable pub run : Session → List ℕ → List Call → Run
-run s image [] = record { replies = []; notices = []; session = s; image = image }
-run s image (c ∷ cs) =
-    let a = answered s (c .account) image (c .request) (c .time) (c .room) in
-    let rest = run (a .next) (a .image) cs in
-    record {
-      replies = given (c .request) a ∷ rest .replies;
-      notices = a .notices ++ rest .notices;
-      session = rest .session;
-      image = rest .image;
-    }
+-- calls one after the other, each on what the one before passed on
+unfoldable pub run : Kept → List Call → Run
+run k [] = record { replies = []; notices = []; last = k }
+run k (c ∷ cs) =
+    let a = answered k (c .lent) (c .request) in
+    let rest = run (a .next) cs in
+    record { replies = given (c .request) a ∷ rest .replies; notices = a .notices ++ rest .notices; last = rest .last }
 
 -- those of a service's requests, in order
 unfoldable pub repliesTo : Service → List Given → List Given
@@ -108,12 +131,11 @@ pub record SameEnd (valid : Bool) (v w : Run) : Type 0 where
   pub scsi-replies : repliesTo ScsiService (v .replies) ≡ repliesTo ScsiService (w .replies)
   pub codes : Each (λ g. g .code ≡ refusal valid) (v .replies) × Each (λ g. g .code ≡ refusal valid) (w .replies)
   pub quiet : (v .notices ≡ []) × (w .notices ≡ [])
-  pub session : v .session ≡ w .session
-  pub image : v .image ≡ w .image
+  pub last : v .last ≡ w .last
 
 abbrev pub AnyOrder : Type 0
 AnyOrder =
-    (s : Session) (image : List ℕ) → s .closed ≡ false
+    (k : Kept) → k .session .closed ≡ false
     → (xs ys zs : List (List ℕ)) → Each (Asks DataService) xs → Each (Asks TapeService) ys → Each (Asks ScsiService) zs
     → (v w : List Call) → Merge xs ys zs v → Merge xs ys zs w → Each Roomy v → Each Roomy w
-    → SameEnd (keeps s) (run s image v) (run s image w)
+    → SameEnd (keeps (k .session)) (run k v) (run k w)

@@ -16,7 +16,7 @@ use Rattle.session.specs.declared.types.Mover.{Mover}
 use Rattle.session.specs.declared.types.Tape.{Tape}
 use Rattle.session.specs.declared.types.Changer.{Changer}
 use Rattle.session.specs.Parts.{dataJoined, moverJoined, restMover, moverPauses}
-use Rattle.session.specs.DataService.{dataStep}
+use Rattle.session.specs.DataService.{dataServed}
 use Rattle.session.specs.MoverService.{moverStop, setSize, moverStep}
 use Rattle.session.specs.TapeService.{TapePart, tapeStep, moverPartStep}
 use Rattle.session.specs.ScsiService.{scsiStep}
@@ -44,7 +44,7 @@ pub record JointKeeps (d : Data) (m : Mover) (t : Tape) (next : Ends) : Type 0 w
 
 -- every request keeps the relation, whether it is authorized or not, accepted or refused
 pub record RelationKept : Type 0 where
-  pub source : (known : Bool) (d : Data) (q : DataRequest) (body : List ℕ) → Keeps dataWrong dataSide d (dataStep known d q body .part)
+  pub source : (known : Bool) (d : Data) (q : DataRequest) (body : List ℕ) → Keeps dataWrong dataSide d (dataServed known d q body .part)
   pub tape : (known : Bool) (p : TapePart) (q : TapeRequest) (body : List ℕ) → Keeps partWrong partSide p (tapeStep known p q body .part)
   pub mover : (known : Bool) (p : TapePart) (q : MoverRequest) → Keeps partWrong partSide p (moverPartStep known p q .part)
   pub joint : (known : Bool) (d : Data) (m : Mover) (t : Tape) → dataWrong d ≡ false → moverWrong m t ≡ false
@@ -61,7 +61,7 @@ pub record WindowRules : Type 0 where
 
 -- a refusal leaves the part of the session and the image as they were; of the tape 12 and 13 are outcomes
 pub record RefusalsLeave : Type 0 where
-  pub source : (known : Bool) (d : Data) (q : DataRequest) (body : List ℕ) → (numberOf (dataStep known d q body .reply) ≡ 0 → ⊥) → dataStep known d q body .part ≡ d
+  pub source : (known : Bool) (d : Data) (q : DataRequest) (body : List ℕ) → (numberOf (dataServed known d q body .reply) ≡ 0 → ⊥) → dataServed known d q body .part ≡ d
   pub mover : (known : Bool) (m : Mover) (t : Tape) (q : MoverRequest) → (numberOf (moverStep known m t q .reply) ≡ 0 → ⊥) → moverStep known m t q .part ≡ m
   pub tape : (known : Bool) (p : TapePart) (q : TapeRequest) (body : List ℕ) → Refused (numberOf (tapeStep known p q body .reply)) → tapeStep known p q body .part ≡ p
   pub scsi : (known : Bool) (c : Changer) (q : ScsiRequest) (body : List ℕ) → (numberOf (scsiStep known c q body .reply) ≡ 0 → ⊥) → scsiStep known c q body .part ≡ c

@@ -1,14 +1,10 @@
+use Rattle.session.specs.Judge.{judge}
 use Rattle.session.specs.DataService.{dataStep, DataTexts}
 use borrow.Author.Needs.{needs}
 use Rattle.data_service.proofs.serve.Statement.{statement}
 use Rattle.data_service.proofs.serve.Tie as tie
 use Rattle.data_service.proofs.serve.Reads as reads
 use Rattle.data_service.proofs.serve.Lts as lts
-use Rattle.data_service.proofs.get_state.Reads as get-state-reads
-use Rattle.data_service.proofs.is_dump.Reads as is-dump-reads
-use Rattle.data_service.proofs.listen.Reads as listen-reads
-use Rattle.data_service.proofs.start.Reads as start-reads
-use Rattle.data_service.proofs.stop.Reads as stop-reads
 
 enum-told : tie.Need-enum-told
 enum-told c = search needs
@@ -49,7 +45,7 @@ listen-requires : tie.Need-listen-requires
 listen-requires c κs = search needs
 
 returns : tie.Need-returns
-unfolding dataStep
+unfolding dataStep judge
 returns c = rw (c .before .enum-told .given .1) (c .get-state .ensures)
 
 returns-2 : tie.Need-returns-2

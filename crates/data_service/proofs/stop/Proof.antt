@@ -1,23 +1,23 @@
-use Rattle.replies.specs.declared.Reply.the-variants.{Plain}
+use Rattle.xdr.proofs.Tests.{picking}
+use Rattle.session.specs.Judge.{judge}
 use Rattle.session.specs.DataService.{dataStop}
-use Rattle.session.proofs.Serving.{told-ok, told-no}
 use borrow.Author.Needs.{needs}
 use Rattle.data_service.proofs.stop.Statement.{statement}
 use Rattle.data_service.proofs.stop.Tie as tie
 use Rattle.data_service.proofs.stop.Reads as reads
 use Rattle.data_service.proofs.stop.Lts as lts
-use Rattle.data_service.proofs.stop_error.Reads as stop-error-reads
-
-stop-error-requires : tie.Need-stop-error-requires
-stop-error-requires c κs = search needs
 
 returns : tie.Need-returns
-unfolding dataStop
-returns c = told-no (λ e. Plain e) _ _ _ _ (c .before .stop-error .ensures) (c .if1 .taken)
+unfolding dataStop judge
+returns c = search picking depth 8
 
 returns-2 : tie.Need-returns-2
-unfolding dataStop
-returns-2 c = told-ok (λ e. Plain e) _ _ _ _ (c .before .stop-error .ensures) (c .if1 .left)
+unfolding dataStop judge
+returns-2 c = search picking depth 8
 
 pub stop-spec : {M : Type 1} → statement M
-stop-spec = tie.close (tie.spec stop-error-requires returns returns-2)
+stop-spec =
+    tie.close
+    (tie.spec
+    returns
+    returns-2)

@@ -1,5 +1,5 @@
 use Rattle.events.proofs.Telling.{moved-as}
-use Rattle.session.proofs.Order.{kept-facts}
+use Rattle.session.proofs.Calls.{kept-facts}
 use mathlib.Core.List.{[]}
 use mathlib.Core.Path.{refl}
 use borrow.Author.Needs.{needs}

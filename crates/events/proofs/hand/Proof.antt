@@ -1,6 +1,6 @@
 use denote.Ref.{now}
 use Rattle.events.proofs.Telling.{moved-as}
-use Rattle.session.proofs.Order.{kept-facts}
+use Rattle.session.proofs.Calls.{kept-facts}
 use mathlib.Core.Path.{refl}
 use borrow.Author.Needs.{needs}
 use Rattle.events.proofs.hand.Statement.{statement}

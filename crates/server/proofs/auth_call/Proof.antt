@@ -2,7 +2,7 @@ use denote.Ref.{now}
 use Prim.Native.Nat.{ℕ}
 use mathlib.Core.List.{List}
 use native.Mathlib.Omega.{arith}
-use Rattle.session.specs.Answer.{byControl}
+use Rattle.session.specs.Answer.{held, byControl}
 use Rattle.server.specs.Call.{authorizing}
 use Rattle.server.proofs.Framing.{body-is}
 use Rattle.server.proofs.Routing.{auth-sends, arm}
@@ -40,7 +40,7 @@ returns : tie.Need-returns
 returns c =
     λ image.
     let a = c .before .before .before .before .before .before .before .before .before .before .before .before .before .before .before .before .args in
-    arm (byControl (a .s) image (now (a .input)) (a .time)) (λ (body : List ℕ). authorizing (a .s .authorized) body (a .name) (a .word) (now (a .id)) (now (a .password))) (now (a .input)) _ _ _ _ _ _ _
+    arm (byControl (held (a .s) image) (now (a .input)) (a .time)) (λ (body : List ℕ). authorizing (a .s .authorized) body (a .name) (a .word) (now (a .id)) (now (a .password))) (now (a .input)) _ _ _ _ _ _ _
     (body-is (now (a .input))) (c .before .before .before .before .before .before .before .before .before .before .client-auth .ensures)
     (rw (c .before .before .before .before .before .with-parts .ensures) at (c .before .before .finish .ensures .1 image))
 
