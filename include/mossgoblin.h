@@ -7,7 +7,8 @@
  * The code of every call is 0, 1001 or 1002, and comes before all else:
  *   1001  the output is shorter than MOSSGOBLIN_OUTPUT bytes
  *   1002  the session breaks the relation of docs/RELATION.md; no session that these calls give does
- * With 1001 and 1002 nothing is written and nothing changes: the session comes back as it went in.
+ * With 1001 and 1002 nothing is written and nothing changes: the session comes back as it went in (mossgoblin_open, which takes none and never gives 1002,
+ * gives a closed one).
  * On a closed session the code is 0, and nothing is written, moved or changed.
  *
  * `len` is how many bytes stand at the output's start: a reply and the notices behind it, or nothing. They are to be sent to the client as they are. The bytes
@@ -35,7 +36,8 @@ struct mossgoblin_data {
     uint64_t processed;
 };
 
-/* The mover. State: 0 IDLE, 1 LISTEN, 2 ACTIVE, 3 PAUSED, 4 HALTED. Mode: 0 to tape, 1 from tape, 2 none. A window of length 0 is none. */
+/* The mover. State: 0 IDLE, 1 LISTEN, 2 ACTIVE, 3 PAUSED, 4 HALTED. Mode: 0 to tape, 1 from tape, 2 none. A window of length 0 is none. Seek is the place on the stream
+ * that a mover read has come to, left the bytes that it has still to be given, origin the tape's position when the mover last became ACTIVE. */
 struct mossgoblin_mover {
     uint32_t state;
     uint32_t mode;
@@ -63,11 +65,17 @@ struct mossgoblin_changer {
     bool pending;
 };
 
-/* A session. Its fields may be read; a session is to be made by mossgoblin_open, and handed from call to call. */
+/* What the connection knows of its client; authorized is set by an accepted login, and stays. */
+struct mossgoblin_login {
+    bool authorized;
+};
+
+/* A session. Its fields may be read; a session is to be made by mossgoblin_open, and handed from call to call. First is set until a request has been
+ * answered; sequence is the number of the next message. */
 struct mossgoblin_session {
     bool closed;
     bool first;
-    bool authorized;
+    struct mossgoblin_login login;
     uint32_t sequence;
     struct mossgoblin_data source;
     struct mossgoblin_mover mover;

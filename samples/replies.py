@@ -135,6 +135,11 @@ SAMPLES = [
     ('mover_paused', notice(39, 1039, 0x504, mover_paused(3, 0x0123456789ABCDEF))),
     # "one reply, then its notices: data first, mover second"
     ('answer', reply(40, 1040, 0x403, 540, error_only(0)) + notice(41, 1040, 0x501, halted(2)) + notice(42, 1040, 0x503, halted(1))),
+    # refusals of the layouts that are not above: "other reply fields are zero or empty"
+    ('server_info_refused', reply(43, 1043, 0x108, 543, server_info(4, b'', b'', b'', []))),
+    ('tape_mtio_refused', reply(44, 1044, 0x303, 544, mtio(19, 0))),
+    ('tape_write_refused', reply(45, 1045, 0x304, 545, tape_write(19, 0))),
+    ('tape_read_refused', reply(46, 1046, 0x305, 546, tape_read(19, b''))),
 ]
 
 

@@ -13,7 +13,7 @@ use std::hint::black_box;
 
 use common::{RECORD, Random, head, image, median, medians, row, timed, turn};
 use plain::{BACKUP, FROM_TAPE, RECOVER, ROOM, TO_TAPE, Told, data, mover};
-use proved::{Answer, Changer, Data, Moved, Mover, Session, Tape};
+use proved::{Answer, Changer, Data, Login, Moved, Mover, Session, Tape};
 
 const TIME: u32 = 0x5eed_0001;
 
@@ -91,7 +91,7 @@ fn disturb(random: &mut Random, s: &mut Session) {
         9 => s.tape.opened = false,
         10 => s.tape.writable = false,
         11 => s.closed = true,
-        12 => s.authorized = false,
+        12 => s.login.authorized = false,
         13 => s.first = false,
         14 => s.sequence = u32::MAX,
         _ => s.changer.pending = true,
@@ -105,7 +105,7 @@ fn random_session(random: &mut Random, size: usize, entries: usize) -> Session {
     let mut s = Session {
         closed: false,
         first: random.below(2) == 0,
-        authorized: true,
+        login: Login { authorized: true },
         sequence: random.below(1 << 32) as u32,
         source: random_data(random, &mover),
         mover,

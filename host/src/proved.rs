@@ -7,7 +7,7 @@ mod types {
 
 use std::fmt;
 
-pub use types::{Answer, Changer, Data, Moved, Mover, Session, Tape};
+pub use types::{Answer, Changer, Data, Login, Moved, Mover, Session, Tape};
 
 /// The declarations hold nothing that Rust could derive from, so what is needed of them stands here, field by field.
 macro_rules! by_value {
@@ -37,7 +37,8 @@ by_value! {
     Mover { state, mode, pause, halt, size, offset, length, moved, seek, left, origin }
     Tape { opened, writable, position }
     Changer { opened, pending }
-    Session { closed, first, authorized, sequence, source, mover, tape, changer }
+    Login { authorized }
+    Session { closed, first, login, sequence, source, mover, tape, changer }
     Answer { code, len, session }
     Moved { code, count, len, session }
 }

@@ -78,7 +78,7 @@ impl Line<'_> {
     /// One record from the client. What it changed is on the disk before the reply goes out.
     fn request(&mut self, record: &[u8]) -> Result<(), String> {
         // No other request reads the image while the tape is closed.
-        if self.held.is_none() && self.core.authorized && records::message(record) == records::TAPE_OPEN {
+        if self.held.is_none() && self.core.login.authorized && records::message(record) == records::TAPE_OPEN {
             self.held = self.shared.vault.take();
         }
         let before = self.core.tape.position;

@@ -11,17 +11,23 @@ use Rattle.xdr.specs.Choose.{choose}
 use Rattle.xdr.specs.Xdr.{word, overlay}
 use Rattle.xdr.proofs.Laws.{more, overlay-none}
 use Rattle.xdr_opaque.specs.Put.{Put}
+use Rattle.frame.specs.Messages.{rowOf}
+use Rattle.frame.specs.declared.Row.{Row}
+use Rattle.frame.proofs.Laws.{around-small}
 use Rattle.replies.specs.declared.Reply.{Reply}
+use Rattle.replies.specs.declared.Reply.the-variants as Reply
+use Rattle.replies.specs.Fit.{Sendable}
 use Rattle.replies.specs.declared.Notice.{Notice}
 use Rattle.replies.specs.Replies.{replyBytes, noticeBytes}
 use Rattle.session.specs.declared.types.Session.{Session}
-use Rattle.session.specs.Answer.{held, Answered, replied, counted, silent, replying, noticed}
+use Rattle.session.specs.Parts.{afterMessage}
+use Rattle.session.specs.Answer.{held, Answered, silent, replying, refusedIn, noticed}
 use Rattle.session.specs.declared.types.Answer.{Answer}
 use Rattle.answering.specs.Call.{CallTold}
 
 -- a reply
 pub finished : (r out out′ : List ℕ) (time m e : ℕ) (reply : Reply) (seen : List ℕ) (next after : Session) (n : ℕ)
-    → m ≡ word r 16 → e ≡ word r 4 → Put 0 (replyBytes (next .sequence) time m e reply seen) out n out′ → after ≡ replied next
+    → m ≡ word r 16 → e ≡ word r 4 → Put 0 (replyBytes (next .sequence) time m e reply seen) out n out′ → after ≡ afterMessage next false
     → (image : List ℕ) → CallTold (replying r time reply seen (held next image)) (record { code = 0; len = n; session = after }) image out out′
 finished r out out′ time m e reply seen next after n hm he put ha image =
     let b : List ℕ = replyBytes (next .sequence) time (word r 16) (word r 4) reply seen in
@@ -34,6 +40,16 @@ finished r out out′ time m e reply seen next after n hm he put ha image =
       output = p .wrote ∙ ap (λ (k : List ℕ). overlay 0 k out) (sym (append-nil b));
     }
 
+-- a refusal, by the row that was found for the record's message
+pub refused-sends : (m : ℕ) {row : Row} → row ≡ rowOf m → (e : ℕ) → Sendable (Reply.Refused (row .before) e (row .after)) []
+unfolding Sendable
+refused-sends m hr e = rw hr (around-small m)
+
+pub refused-as : (r : List ℕ) (m e time : ℕ) (row : Row) (s : Session) (image : List ℕ) (v : Answer) (l l′ : List ℕ) → m ≡ word r 16 → row ≡ rowOf m
+    → CallTold (replying r time (Reply.Refused (row .before) e (row .after)) [] (held s image)) v image l l′
+    → CallTold (replying r time (refusedIn r e) [] (held s image)) v image l l′
+refused-as r m e time row s image v l l′ hm hr c = rw (hr, hm) at c
+
 -- no notice
 pub not-noticed : (time why : ℕ) (n : Notice) (a : Answered) (r : Answer) (image l l′ : List ℕ) → why ≡ 0 → CallTold a r image l l′ → CallTold (noticed time why n a) r image l l′
 unfolding noticed choose
@@ -41,7 +57,7 @@ not-noticed time why n a r image l l′ z t = rw (eq-eqb why 0 z) t
 
 -- a notice behind what was sent
 pub also-noticed : (time why : ℕ) (n : Notice) (a : Answered) (r : Answer) (image l l₁ l₂ : List ℕ) (k : ℕ) (after : Session) → (why ≡ 0 → ⊥)
-    → CallTold a r image l l₁ → Put (r .len) (noticeBytes (r .session .sequence) time n) l₁ k l₂ → after ≡ counted (r .session)
+    → CallTold a r image l l₁ → Put (r .len) (noticeBytes (r .session .sequence) time n) l₁ k l₂ → after ≡ afterMessage (r .session) (r .session .first)
     → CallTold (noticed time why n a) (record { code = r .code; len = k; session = after }) image l l₂
 unfolding noticed choose
 also-noticed time why n a r image l l₁ l₂ k after z t put ha =
@@ -55,7 +71,7 @@ also-noticed time why n a r image l l₁ l₂ k after z t put ha =
     (record {
       code = t .code;
       len = omega arith;
-      next = ha ∙ ap counted (t .next);
+      next = ha ∙ ap (λ (s : Session). afterMessage s (s .first)) (t .next);
       image = t .image;
       output = more 0 (r .len) (a .reply ++ a .notices) b l l₁ l₂ (t .output) (p .wrote) at ∙ ap (λ (x : List ℕ). overlay 0 x l) (append-assoc (a .reply) (a .notices) b);
     })

@@ -4,6 +4,7 @@ use mathlib.Core.List.{List, _++_}
 use mathlib.Core.Path.{_≡_}
 use lib.ListN.{length}
 use Rattle.xdr.specs.Xdr.{overlay}
+use Rattle.session.specs.Names.{leastRoom}
 use Rattle.session.specs.Answer.{Answered}
 use Rattle.session.specs.declared.types.Answer.{Answer}
 
@@ -18,4 +19,4 @@ pub record CallTold (a : Answered) (r : Answer) (image′ out out′ : List ℕ)
 -- what the functions below the calls lean on: a record with its header, and an output with room
 pub record Ready (r out : List ℕ) : Type 0 where
   pub long : 28 ≤ length r
-  pub room : 36864 ≤ length out
+  pub room : leastRoom ≤ length out

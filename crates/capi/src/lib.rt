@@ -1,11 +1,12 @@
 // The calls for a host in Rust or C. None asks anything of its caller: each promises what the call of the same name below promises.
-ghost use mathlib.Core.List.{[]};
+ghost use Prim.Native.Nat.{ℕ};
+ghost use mathlib.Core.List.{List, []};
 ghost use lib.ListN.{length};
 ghost use Rattle.session.specs.Answer.{held, answered};
 ghost use Rattle.session.specs.Calls.{opening};
 ghost use Rattle.answering.specs.Call.{CallTold};
 ghost use Rattle.server.specs.Call.{lent};
-ghost use Rattle.moves.specs.Events.{movedToTape, movedFromTape, methodEnded};
+ghost use Rattle.moves.specs.Events.{stamped, movedToTape, movedFromTape, methodEnded};
 ghost use Rattle.events.specs.Told.{MoveTold};
 use session::types::Answer;
 use session::types::Moved;
@@ -45,7 +46,7 @@ pub extern "C" fn mossgoblin_move_to_tape(
     time: u32,
     out: &mut [u8],
 ) -> Moved
-    ensures { λ r. ⌜ MoveTold (movedToTape s (now (image .entry)) (now (stream .entry)) last time (length (now (out .entry)))) r (now (image .exit)) [] (now (out .entry)) (now (out .exit)) ⌝ }
+    ensures { λ r. ⌜ MoveTold (movedToTape (held s (now (image .entry))) (stamped time (length (now (out .entry)))) (now (stream .entry)) last) r (now (image .exit)) [] (now (out .entry)) (now (out .exit)) ⌝ }
 {
     events::move_to_tape(s, image, stream, last, time, out)
 }
@@ -59,15 +60,15 @@ pub extern "C" fn mossgoblin_move_from_tape(
     time: u32,
     out: &mut [u8],
 ) -> Moved
-    ensures { λ r. ⌜ MoveTold (movedFromTape s (now (image .entry)) (now (dest .entry)) time (length (now (out .entry)))) r (now (image .entry)) (now (dest .exit)) (now (out .entry)) (now (out .exit)) ⌝ }
+    ensures { λ r. ⌜ MoveTold (movedFromTape (held s (now (image .entry))) (stamped time (length (now (out .entry)))) (now (dest .entry))) r (now (image .entry)) (now (dest .exit)) (now (out .entry)) (now (out .exit)) ⌝ }
 {
     events::move_from_tape(s, image, dest, time, out)
 }
 
-// The end of the method that reads or writes the stream, in success or not.
+// The end of the method that reads or writes the stream, in success or not. It is handed no cartridge, and leaves it.
 #[no_mangle]
 pub extern "C" fn mossgoblin_end_method(s: Session, ok: bool, time: u32, out: &mut [u8]) -> Answer
-    ensures { λ r. ⌜ CallTold (methodEnded s ok time (length (now (out .entry))) .answer) r [] (now (out .entry)) (now (out .exit)) ⌝ }
+    ensures { λ r. ⌜ ((image : List ℕ) → CallTold (methodEnded (held s image) (stamped time (length (now (out .entry)))) ok) r image (now (out .entry)) (now (out .exit))) ⌝ }
 {
     events::end_method(s, ok, time, out)
 }

@@ -6,7 +6,7 @@ use mathlib.Core.Path.{_≡_, refl, sym, ap, _∙_}
 use lib.ListN.{length}
 use lib.Dec.{ltb, eqb}
 use borrow.Author.Tests.{eq-eqb, ne-eqb, lt-ltb, le-ltb}
-use Rattle.xdr.specs.Choose.{choose}
+use Rattle.xdr.specs.Choose.{choose, least}
 use Rattle.image.specs.Image.{capacity, count, entryLen, entryStart, bodyAt, faulty}
 use Rattle.spacing.specs.Spacing.{ended}
 use Rattle.image.specs.Sound.{Placed}
@@ -16,7 +16,7 @@ use Rattle.image.proofs.Laws.{placed}
 use Rattle.writing.specs.Writing.{roomFor, written, withMarks, fillTo, FilledWrite}
 use Rattle.writing.proofs.Laws.{fill-whole}
 use Rattle.cartridge.specs.Step.{Step, Told, keeping}
-use Rattle.cartridge.specs.Operations.{wrote, part, least, standing, markStep, entryPart}
+use Rattle.cartridge.specs.Operations.{wrote, part, standing, markStep, entryPart}
 
 -- a position that was asked about and is no fault
 pub no-fault-here : (l : List ℕ) (p : ℕ) (r : Bool) → r ≡ faulty l p → r ≡ false → Placed l p
@@ -24,7 +24,8 @@ no-fault-here l p r e h = placed l p (sym e ∙ h)
 
 -- the end of a write: there was room, or not
 module _ (l : List ℕ) (p : ℕ) (b : List ℕ) (r : Bool) (l′ : List ℕ) (w : FilledWrite l p b (length b) r l′) where
-  pub told-room : r ≡ true → Told (choose (roomFor l p (length b)) (record { gives = wrote 0 (length b) (p + 1); image = written l p b }) (keeping l (wrote 13 0 p))) (wrote 0 (length b) (p + 1)) l′
+  pub told-room : r ≡ true → Told (choose (roomFor l p (length b)) (record { gives = wrote 0 (length b) (p + 1); image = written l p b }) (keeping l (wrote 13 0 p)))
+      (wrote 0 (length b) (p + 1)) l′
   unfolding choose
   told-room h =
       let e : roomFor l p (length b) ≡ true = sym (w .room) ∙ h in

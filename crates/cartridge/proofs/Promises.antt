@@ -4,12 +4,13 @@ use mathlib.Core.Bool.{Bool, true, false}
 use mathlib.Core.List.{List, [], _∷_}
 use mathlib.Core.Path.{_≡_, refl, sym, ap, _∙_}
 use native.Mathlib.Omega.{arith}
-use lib.ListN.{length, take, drop, length-take}
-use lib.Seq.{take-take, take-all, take-length}
+use lib.ListN.{length, take, drop}
+use lib.Seq.{take-length}
 use lib.Dec.{ltb, eqb}
-use borrow.Author.Tests.{ltb-true, ltb-false, eqb-true, eqb-false, eq-eqb, ne-eqb, lt-ltb, le-ltb}
-use Rattle.xdr.specs.Choose.{choose}
-use Rattle.xdr.proofs.Tests.{by-test}
+use borrow.Author.Tests.{ltb-false, eqb-true, eqb-false, eq-eqb, ne-eqb, lt-ltb, le-ltb}
+use Rattle.codes.specs.Codes.{longestRecord}
+use Rattle.xdr.specs.Choose.{choose, least}
+use Rattle.xdr.proofs.Tests.{by-test, least-take}
 use Rattle.image.specs.Image.{capacity, count, entryLen, entryStart, entryBytes, bodyAt, faulty}
 use Rattle.image.specs.Sound.{Sound, Placed}
 use Rattle.image.proofs.Laws.{placed, no-fault}
@@ -22,7 +23,7 @@ use Rattle.writing.proofs.Theorems.{written-placed, written-count, written-len,
 use Rattle.cartridge.specs.declared.Wrote.{Wrote}
 use Rattle.cartridge.specs.declared.Part.{Part}
 use Rattle.cartridge.specs.Step.{Step, keeping}
-use Rattle.cartridge.specs.Operations.{wrote, part, least, writeStep, readPart, entryPart, markStep, mtioStep}
+use Rattle.cartridge.specs.Operations.{wrote, part, writeStep, readPart, entryPart, markStep, mtioStep}
 use Rattle.cartridge.specs.Promises.{bytesOf, StaySound, Refused, Stand, Leave, ReadBack, FirstBytes, Promises}
 
 -- ---- a sound image stays sound
@@ -36,11 +37,11 @@ module _ (l : List ℕ) (p : ℕ) (at : Placed l p) where
   write-kept : (b : List ℕ) → Kept (writeStep l p b)
   unfolding writeStep Kept
   write-kept b =
-      by-test Kept (ltb 32768 (length b)) _ _ (λ _. at)
+      by-test Kept (ltb longestRecord (length b)) _ _ (λ _. at)
       (λ s. by-test Kept (faulty l p) _ _ (λ _. at)
       (λ f. by-test Kept (eqb (length b) 0) _ _ (λ _. at)
       (λ n. by-test Kept (roomFor l p (length b)) _ _
-      (λ r. written-placed l p b at (ltb-false 32768 (length b) s) (room-facts l p (length b) r))
+      (λ r. written-placed l p b at (ltb-false longestRecord (length b) s) (room-facts l p (length b) r))
       (λ _. at))))
 
   mark-kept : (times : ℕ) → Spaces (markStep l p times)
@@ -70,7 +71,7 @@ module _ (l : List ℕ) (p : ℕ) (at : Placed l p) where
   read-kept : (times : ℕ) → InTape (readPart l p times)
   unfolding readPart entryPart InTape
   read-kept times =
-      by-test InTape (ltb 32768 times) _ _ (λ _. at)
+      by-test InTape (ltb longestRecord times) _ _ (λ _. at)
       (λ _. by-test InTape (faulty l p) _ _ (λ _. at)
       (λ _. by-test InTape (eqb times 0) _ _ (λ _. at)
       (λ _. by-test InTape (eqb p (count l)) _ _ (λ _. at)
@@ -90,7 +91,7 @@ module _ (l : List ℕ) where
   write-leaves : (p : ℕ) (b : List ℕ) → Writes (writeStep l p b)
   unfolding writeStep Writes
   write-leaves p b =
-      by-test Writes (ltb 32768 (length b)) _ _ (λ _ _. refl)
+      by-test Writes (ltb longestRecord (length b)) _ _ (λ _ _. refl)
       (λ _. by-test Writes (faulty l p) _ _ (λ _ _. refl)
       (λ _. by-test Writes (eqb (length b) 0) _ _ (λ _ _. refl)
       (λ _. by-test Writes (roomFor l p (length b)) _ _ (λ _ h. nonzero h) (λ _ _. refl))))
@@ -134,7 +135,7 @@ module _ (l : List ℕ) (p : ℕ) where
   write-stands : (b : List ℕ) → WriteStands (writeStep l p b)
   unfolding writeStep WriteStands
   write-stands b =
-      by-test WriteStands (ltb 32768 (length b)) _ _ (λ _ _. refl)
+      by-test WriteStands (ltb longestRecord (length b)) _ _ (λ _ _. refl)
       (λ _. by-test WriteStands (faulty l p) _ _ (λ _ _. refl)
       (λ _. by-test WriteStands (eqb (length b) 0) _ _ (λ _ _. refl)
       (λ _. by-test WriteStands (roomFor l p (length b)) _ _ (λ _ o. absurd (o .0 refl)) (λ _ _. refl))))
@@ -155,20 +156,13 @@ module _ (l : List ℕ) (p : ℕ) where
   read-stands : (times : ℕ) → ReadStands (readPart l p times)
   unfolding readPart entryPart ReadStands
   read-stands times =
-      by-test ReadStands (ltb 32768 times) _ _ (λ _ _. refl)
+      by-test ReadStands (ltb longestRecord times) _ _ (λ _ _. refl)
       (λ _. by-test ReadStands (faulty l p) _ _ (λ _ _. refl)
       (λ _. by-test ReadStands (eqb times 0) _ _ (λ _ _. refl)
       (λ _. by-test ReadStands (eqb p (count l)) _ _ (λ _ _. refl)
       (λ _. by-test ReadStands (eqb (entryLen l p) 0) _ _ (λ _ o. absurd (o .1 refl)) (λ _ o. absurd (o .0 refl))))))
 
 -- ---- what a read hands out
-least-take : (a b : ℕ) (l : List ℕ) → take (least a b) l ≡ take a (take b l)
-unfolding least
-least-take a b l =
-    by-test (λ (k : ℕ). take k l ≡ take a (take b l)) (ltb a b) a b
-    (λ h. let k : a ≤ b = (let z = ltb-true a b h in omega arith) in sym (take-take a b l k))
-    (λ h. let k : b ≤ a = ltb-false a b h in sym (take-all a (take b l) (rw length-take (omega arith))))
-
 module _ (l : List ℕ) (p times : ℕ) (some : 0 < times) where
   First : Part → Type 0
   First r = r .error ≡ 0 → take (r .len) (drop (r .start) l) ≡ take times (entryBytes l p)
@@ -179,7 +173,7 @@ module _ (l : List ℕ) (p times : ℕ) (some : 0 < times) where
   read-first : First (readPart l p times)
   unfolding readPart entryPart First entryBytes
   read-first =
-      by-test First (ltb 32768 times) _ _ (λ _ h. wrong 8 h)
+      by-test First (ltb longestRecord times) _ _ (λ _ h. wrong 8 h)
       (λ _. by-test First (faulty l p) _ _ (λ _ h. wrong 6 h)
       (λ _. by-test First (eqb times 0) _ _ (λ e h. let z : times ≡ 0 = eqb-true times 0 e in absurd (omega arith))
       (λ _. by-test First (eqb p (count l)) _ _ (λ _ h. wrong 12 h)
@@ -187,13 +181,13 @@ module _ (l : List ℕ) (p times : ℕ) (some : 0 < times) where
       (λ _ h. least-take times (entryLen l p) (drop (bodyAt l + entryStart l p) l))))))
 
 -- a read of some bytes at a record
-read-record : (m : List ℕ) (p times : ℕ) → Placed m p → times ≤ 32768 → 0 < times → p < count m → (entryLen m p ≡ 0 → ⊥)
+read-record : (m : List ℕ) (p times : ℕ) → Placed m p → times ≤ longestRecord → 0 < times → p < count m → (entryLen m p ≡ 0 → ⊥)
     → readPart m p times ≡ part 0 (p + 1) (bodyAt m + entryStart m p) (least times (entryLen m p))
 unfolding readPart entryPart choose
 read-record m p times at small some below long =
     let t : times ≡ 0 → ⊥ = λ e. omega arith in
     let q : p ≡ count m → ⊥ = λ e. omega arith in
-    rw (le-ltb 32768 times small, ← no-fault m p at, ne-eqb times 0 t, ne-eqb p (count m) q, ne-eqb (entryLen m p) 0 long)
+    rw (le-ltb longestRecord times small, ← no-fault m p at, ne-eqb times 0 t, ne-eqb p (count m) q, ne-eqb (entryLen m p) 0 long)
 
 module _ (l : List ℕ) (p : ℕ) (b : List ℕ) (at : Placed l p) (some : 0 < length b) where
   pub record Back (m : List ℕ) : Type 0 where
@@ -201,7 +195,7 @@ module _ (l : List ℕ) (p : ℕ) (b : List ℕ) (at : Placed l p) (some : 0 < l
     pub bytes : bytesOf m p (length b) ≡ b
     pub before : (i : ℕ) → i < p → entryBytes m i ≡ entryBytes l i
 
-  written-back : length b ≤ 32768 → Room l p (length b) → Back (written l p b)
+  written-back : length b ≤ longestRecord → Room l p (length b) → Back (written l p b)
   unfolding First
   written-back small room =
       let m : List ℕ = written l p b in
@@ -223,11 +217,11 @@ module _ (l : List ℕ) (p : ℕ) (b : List ℕ) (at : Placed l p) (some : 0 < l
   write-back : Returned (writeStep l p b)
   unfolding writeStep Returned
   write-back =
-      by-test Returned (ltb 32768 (length b)) _ _ (λ _ h. absurd (omega arith))
+      by-test Returned (ltb longestRecord (length b)) _ _ (λ _ h. absurd (omega arith))
       (λ s. by-test Returned (faulty l p) _ _ (λ _ h. absurd (omega arith))
       (λ _. by-test Returned (eqb (length b) 0) _ _ (λ e h. let z : length b ≡ 0 = eqb-true (length b) 0 e in absurd (omega arith))
       (λ _. by-test Returned (roomFor l p (length b)) _ _
-      (λ r _. written-back (ltb-false 32768 (length b) s) (room-facts l p (length b) r))
+      (λ r _. written-back (ltb-false longestRecord (length b) s) (room-facts l p (length b) r))
       (λ _ h. absurd (omega arith)))))
 
 pub promises : Promises

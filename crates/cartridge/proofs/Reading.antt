@@ -6,21 +6,14 @@ use native.Mathlib.Omega.{arith}
 use lib.ListN.{length, take, drop}
 use lib.Seq.{take-take, drop-drop}
 use lib.Dec.{eqb, ltb}
-use borrow.Author.Tests.{ltb-true, ltb-false, eqb-false}
-use Rattle.xdr.proofs.Tests.{by-test}
+use borrow.Author.Tests.{ltb-false, eqb-false}
+use Rattle.codes.specs.Codes.{longestRecord}
+use Rattle.xdr.proofs.Tests.{by-test, least-left, least-right}
 use Rattle.image.specs.Image.{count, entryLen, entryStart, entryBytes, bodyAt, faulty}
 use Rattle.image.specs.Sound.{Placed}
 use Rattle.image.proofs.Laws.{placed, sum-next, sum-used}
 use Rattle.cartridge.specs.declared.Part.{Part}
-use Rattle.cartridge.specs.Operations.{least, entryPart, readPart}
-
-pub least-left : (a b : ℕ) → least a b ≤ a
-unfolding least
-least-left a b = by-test (λ (k : ℕ). k ≤ a) (ltb a b) a b (λ _. omega arith) (λ h. ltb-false a b h)
-
-pub least-right : (a b : ℕ) → least a b ≤ b
-unfolding least
-least-right a b = by-test (λ (k : ℕ). k ≤ b) (ltb a b) a b (λ h. let z : a < b = ltb-true a b h in omega arith) (λ _. omega arith)
+use Rattle.cartridge.specs.Operations.{entryPart, readPart}
 
 -- the bytes of an entry lie in the body
 pub entry-within : (l : List ℕ) (p : ℕ) → Placed l p → (p ≡ count l → ⊥) → bodyAt l + (entryStart l p + entryLen l p) ≤ length l
@@ -50,12 +43,12 @@ entry-part l i j n h =
 
 -- what is read lies in the image and is short, also where nothing is
 unfoldable pub Copied : List ℕ → Part → Type 0
-Copied l r = (r .start + r .len ≤ length l) × (r .len ≤ 32768)
+Copied l r = (r .start + r .len ≤ length l) × (r .len ≤ longestRecord)
 
 pub read-copies : (l : List ℕ) (p times : ℕ) → Copied l (readPart l p times)
 unfolding readPart entryPart Copied
 read-copies l p times =
-    by-test (Copied l) (ltb 32768 times) _ _ (λ _. (omega arith, omega arith))
+    by-test (Copied l) (ltb longestRecord times) _ _ (λ _. (omega arith, omega arith))
     (λ few. by-test (Copied l) (faulty l p) _ _ (λ _. (omega arith, omega arith))
     (λ f. by-test (Copied l) (eqb times 0) _ _ (λ _. (omega arith, omega arith))
     (λ _. by-test (Copied l) (eqb p (count l)) _ _ (λ _. (omega arith, omega arith))
@@ -63,5 +56,5 @@ read-copies l p times =
     (λ _. let e = entry-within l p (placed l p f) (eqb-false p (count l) h) in
     let j = least-left times (entryLen l p) in
     let k = least-right times (entryLen l p) in
-    let t = ltb-false 32768 times few in
+    let t = ltb-false longestRecord times few in
     (omega arith, omega arith))))))

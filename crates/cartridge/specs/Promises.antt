@@ -3,6 +3,7 @@ use Prim.Native.Nat.{ℕ, _+_, _≤_, _<_}
 use mathlib.Core.List.{List}
 use mathlib.Core.Path.{_≡_}
 use lib.ListN.{length, take, drop}
+use Rattle.codes.specs.Codes.{atMark, atEnd, writeMarks}
 use Rattle.image.specs.Image.{entryBytes, entryLen}
 use Rattle.image.specs.Sound.{Placed}
 use Rattle.cartridge.specs.Step.{Step}
@@ -20,7 +21,7 @@ pub record StaySound (l : List ℕ) (p : ℕ) : Type 0 where
 
 -- a refusal: an error that is no outcome of the tape
 abbrev pub Refused : ℕ → Type 0
-Refused e = (e ≡ 0 → ⊥) × (e ≡ 12 → ⊥) × (e ≡ 13 → ⊥)
+Refused e = (e ≡ 0 → ⊥) × (e ≡ atMark → ⊥) × (e ≡ atEnd → ⊥)
 
 -- a refusal leaves the position too
 pub record Stand (l : List ℕ) (p : ℕ) : Type 0 where
@@ -32,7 +33,7 @@ pub record Stand (l : List ℕ) (p : ℕ) : Type 0 where
 pub record Leave (l : List ℕ) (p : ℕ) : Type 0 where
   pub write : (b : List ℕ) → (writeStep l p b .gives .error ≡ 0 → ⊥) → writeStep l p b .image ≡ l
   pub mtio : (op times : ℕ) → (mtioStep l op p times .gives .error ≡ 0 → ⊥) → mtioStep l op p times .image ≡ l
-  pub spacing : (op times : ℕ) → op < 5 → mtioStep l op p times .image ≡ l
+  pub spacing : (op times : ℕ) → op < writeMarks → mtioStep l op p times .image ≡ l
 
 -- a record of some bytes that was written at p is what a read at p gives, and what was read before p stays the same
 pub record ReadBack (l : List ℕ) (p : ℕ) (b : List ℕ) : Type 0 where

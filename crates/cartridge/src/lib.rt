@@ -1,11 +1,9 @@
 // The tape operations on a cartridge image, for any image and any position: what a session calls. An unsound image or a position
 // above the number of entries is an answer, 7.
 ghost use mathlib.Core.Path.{_≡_};
-ghost use Prim.Native.Nat.{_≤_};
-ghost use lib.ListN.{length};
 ghost use Rattle.image.specs.Sound.{Placed};
 ghost use Rattle.cartridge.specs.Step.{Told};
-ghost use Rattle.cartridge.specs.Operations.{writeStep, readPart, markStep, mtioStep, entryPart, standingAt, least};
+ghost use Rattle.cartridge.specs.Operations.{writeStep, readPart, markStep, mtioStep, entryPart, standingAt};
 ghost use Rattle.cartridge.specs.Promises.{Promises};
 use spacing::Spaced;
 
@@ -39,16 +37,16 @@ pub fn write(image: &mut [u8], position: usize, bytes: &[u8]) -> Wrote
     ensures { λ r. ⌜ Told (writeStep (now (image .entry)) position (now (bytes .entry))) r (now (image .exit)) ⌝ }
 {
     let n = bytes.len();
-    if 32768 < n {
+    if codes::LONGEST_RECORD < n {
         return Wrote {
-            error: 9,
+            error: codes::ILLEGAL_ARGUMENTS,
             count: 0,
             position,
         };
     }
     if image::is_faulty(image, position) {
         return Wrote {
-            error: 7,
+            error: codes::IO_ERROR,
             count: 0,
             position,
         };
@@ -68,17 +66,10 @@ pub fn write(image: &mut [u8], position: usize, bytes: &[u8]) -> Wrote
         };
     }
     Wrote {
-        error: 13,
+        error: codes::AT_END,
         count: 0,
         position,
     }
-}
-
-// The lesser of two numbers.
-pub fn lesser(a: usize, b: usize) -> usize
-    ensures { λ r. ⌜ (r ≡ least a b) × (r ≤ a) × (r ≤ b) ⌝ }
-{
-    if a < b { a } else { b }
 }
 
 // What stands at a position that is not above the number of entries.
@@ -86,29 +77,28 @@ fn entry_part(image: &[u8], position: usize, times: u32) -> Part
     requires { ⌜ Placed (now image) position ⌝ }
     ensures { λ r. ⌜ r ≡ entryPart (now (image .entry)) position times ⌝ }
 {
-    if position == image::field(image, 8) {
+    if position == image::count(image) {
         return Part {
-            error: 13,
+            error: codes::AT_END,
             position,
             start: 0,
             len: 0,
         };
     }
-    let len = image::field(image, 16 + position * 8);
+    let len = image::entry_len(image, position);
     if len == 0 {
         return Part {
-            error: 12,
+            error: codes::AT_MARK,
             position: position + 1,
             start: 0,
             len: 0,
         };
     }
-    let body = 16 + image::field(image, 4) * 8;
     Part {
         error: 0,
         position: position + 1,
-        start: body + image::field(image, 20 + position * 8),
-        len: lesser(times as usize, len),
+        start: image::body_at(image) + image::entry_start(image, position),
+        len: xdr::lesser_len(times as usize, len),
     }
 }
 
@@ -116,9 +106,9 @@ fn entry_part(image: &[u8], position: usize, times: u32) -> Part
 pub fn read(image: &[u8], position: usize, times: u32) -> Part
     ensures { λ r. ⌜ r ≡ readPart (now (image .entry)) position times ⌝ }
 {
-    if 32768 < times {
+    if codes::LONGEST_RECORD < times as usize {
         return Part {
-            error: 9,
+            error: codes::ILLEGAL_ARGUMENTS,
             position,
             start: 0,
             len: 0,
@@ -126,7 +116,7 @@ pub fn read(image: &[u8], position: usize, times: u32) -> Part
     }
     if image::is_faulty(image, position) {
         return Part {
-            error: 7,
+            error: codes::IO_ERROR,
             position,
             start: 0,
             len: 0,
@@ -149,9 +139,9 @@ fn marks(image: &mut [u8], position: usize, times: u32) -> Spaced
     ensures { λ r. ⌜ Told (markStep (now (image .entry)) position times) r (now (image .exit)) ⌝ }
 {
     let n = times as usize;
-    if image::field(image, 4) < position + n {
+    if image::capacity(image) < position + n {
         return Spaced {
-            error: 13,
+            error: codes::AT_END,
             position,
             residue: times,
         };
@@ -168,31 +158,31 @@ fn marks(image: &mut [u8], position: usize, times: u32) -> Spaced
 pub fn mtio(image: &mut [u8], op: u32, position: usize, times: u32) -> Spaced
     ensures { λ r. ⌜ Told (mtioStep (now (image .entry)) op position times) r (now (image .exit)) ⌝ }
 {
-    if 6 < op {
+    if codes::OFF_LINE < op {
         return Spaced {
-            error: 9,
+            error: codes::ILLEGAL_ARGUMENTS,
             position,
             residue: 0,
         };
     }
-    if op == 6 {
+    if op == codes::OFF_LINE {
         return Spaced {
-            error: 1,
+            error: codes::NOT_SUPPORTED,
             position,
             residue: 0,
         };
     }
     if image::is_faulty(image, position) {
         return Spaced {
-            error: 7,
+            error: codes::IO_ERROR,
             position,
             residue: 0,
         };
     }
-    if op == 5 {
+    if op == codes::WRITE_MARKS {
         return marks(image, position, times);
     }
-    if op == 4 {
+    if op == codes::REWIND_TAPE {
         return Spaced {
             error: 0,
             position: 0,
@@ -208,7 +198,7 @@ pub fn state(image: &[u8], position: usize) -> Standing
 {
     if image::is_faulty(image, position) {
         return Standing {
-            error: 7,
+            error: codes::IO_ERROR,
             file: 0,
             block: 0,
         };

@@ -5,6 +5,7 @@ use mathlib.Core.Bool.{Bool}
 use mathlib.Core.Path.{_≡_}
 use lib.ListN.{length}
 use lib.Dec.{ltb}
+use Rattle.codes.specs.Codes.{shortOutput}
 use Rattle.xdr.specs.Choose.{choose}
 use Rattle.xdr.specs.Xdr.{overlay}
 use Rattle.cartridge.specs.declared.Part.{Part}
@@ -17,7 +18,7 @@ tooShort l p times o = ltb (length o) (readPart l p times .len)
 
 -- what is given: the core's answer, or 1001 with the position unchanged
 unfoldable pub handedPart : List ℕ → ℕ → ℕ → List ℕ → Part
-handedPart l p times o = choose (tooShort l p times o) (part 1001 p 0 0) (readPart l p times)
+handedPart l p times o = choose (tooShort l p times o) (part shortOutput p 0 0) (readPart l p times)
 
 -- the buffer after it: the bytes at its front, or all as it was
 unfoldable pub handedOut : List ℕ → ℕ → ℕ → List ℕ → List ℕ

@@ -43,7 +43,7 @@ pub extern "C" fn cartridge_read(image: &[u8], position: usize, times: u32, out:
     let len = part.len;
     if out.len() < len {
         return Part {
-            error: 1001,
+            error: codes::SHORT_OUTPUT,
             position,
             start: 0,
             len: 0,

@@ -1,46 +1,41 @@
-// The requests of CONNECT and CONFIG.
+// The requests of CONNECT and CONFIG, and what asks for a login.
 ghost use mathlib.Core.Path.{_≡_};
-ghost use Prim.Native.Nat.{_+_, _≤_};
-ghost use lib.ListN.{length};
 ghost use Rattle.xdr.specs.Xdr.{sameBytes};
-ghost use Rattle.session.specs.Judge.{first};
-ghost use Rattle.session.specs.Telling.{Told};
-ghost use Rattle.session.specs.DataService.{textOf, TextIn};
-ghost use Rattle.session.specs.Connection.{openedTests, connectOpen, matches, clientAuth, configReply};
+ghost use Rattle.requests.specs.Within.{bytesAt, Within, textsWithin};
+ghost use Rattle.requests.specs.declared.Request.the-variants as Request;
+ghost use Rattle.session.specs.Connection.{Account, connectOpen, matches, clientAuth, connectStep, configStep};
+ghost use Rattle.session.specs.Answer.{needsLogin, isLocked, isClose};
+ghost use Rattle.connection.specs.Done.{outcomeOf};
 use replies::Reply;
 use requests::ConfigRequest;
+use requests::ConnectRequest;
+use requests::Request;
 use requests::Text;
+use session::types::Login;
 
-// A reply, and whether the session is authorized after it.
-pub struct AuthDone {
-    pub reply: Reply,
-    pub known: bool,
-}
-
-fn open_error(fresh: bool, version: u32) -> u32
-    ensures { λ r. ⌜ r ≡ first (openedTests fresh version) ⌝ }
-{
-    if !fresh {
-        return 19;
-    }
-    if version != 4 {
-        return 9;
-    }
-    0
+// A refusal, or a reply and what the connection knows after it.
+pub enum LoginDone {
+    Refuse(u32),
+    Accept(Reply, Login),
 }
 
 // CONNECT open, in a session that has answered no request yet, or has.
-pub fn connect_open(fresh: bool, version: u32) -> Reply
-    ensures { λ r. ⌜ r ≡ connectOpen fresh version ⌝ }
+fn open(fresh: bool, g: Login, version: u32) -> LoginDone
+    ensures { λ r. ⌜ outcomeOf r ≡ connectOpen fresh g version ⌝ }
 {
-    let e = open_error(fresh, version);
-    Reply::Plain(e)
+    if !fresh {
+        return LoginDone::Refuse(codes::ILLEGAL_STATE);
+    }
+    if version != codes::VERSION_FOUR {
+        return LoginDone::Refuse(codes::ILLEGAL_ARGUMENTS);
+    }
+    LoginDone::Accept(Reply::Plain, g)
 }
 
 // Whether a text of the body is a given one.
 fn is_text(body: &[u8], t: Text, wanted: &[u8]) -> bool
-    requires { ⌜ TextIn (now body) t ⌝ }
-    ensures { λ r. ⌜ r ≡ sameBytes (textOf (now (body .entry)) t) (now (wanted .entry)) ⌝ }
+    requires { ⌜ Within (now body) t ⌝ }
+    ensures { λ r. ⌜ r ≡ sameBytes (bytesAt (now (body .entry)) t) (now (wanted .entry)) ⌝ }
 {
     let start = t.start;
     let end = start + t.len;
@@ -49,8 +44,8 @@ fn is_text(body: &[u8], t: Text, wanted: &[u8]) -> bool
 
 // Whether the id and the password of a login are the account's.
 fn is_right(body: &[u8], id: Text, password: Text, name: &[u8], word: &[u8]) -> bool
-    requires { ⌜ TextIn (now body) id × TextIn (now body) password ⌝ }
-    ensures { λ r. ⌜ r ≡ matches (textOf (now (body .entry)) id) (textOf (now (body .entry)) password) (now (name .entry)) (now (word .entry)) ⌝ }
+    requires { ⌜ Within (now body) id × Within (now body) password ⌝ }
+    ensures { λ r. ⌜ r ≡ matches (bytesAt (now (body .entry)) id) (bytesAt (now (body .entry)) password) (record { id = now (name .entry); password = now (word .entry) }) ⌝ }
 {
     if is_text(body, id, name) {
         return is_text(body, password, word);
@@ -59,38 +54,85 @@ fn is_right(body: &[u8], id: Text, password: Text, name: &[u8], word: &[u8]) -> 
 }
 
 // A text login against an account.
-pub fn client_auth(
-    known: bool,
+fn auth(body: &[u8], id: Text, password: Text, name: &[u8], word: &[u8]) -> LoginDone
+    requires { ⌜ Within (now body) id × Within (now body) password ⌝ }
+    ensures { λ r. ⌜ outcomeOf r ≡ clientAuth (matches (bytesAt (now (body .entry)) id) (bytesAt (now (body .entry)) password) (record { id = now (name .entry); password = now (word .entry) })) ⌝ }
+{
+    if !is_right(body, id, password, name, word) {
+        return LoginDone::Refuse(codes::NOT_AUTHORIZED);
+    }
+    let known = Login { authorized: true };
+    LoginDone::Accept(Reply::Plain, known)
+}
+
+// A request of CONNECT, with the account's id and password.
+pub fn serve(
+    fresh: bool,
+    g: Login,
+    q: ConnectRequest,
     body: &[u8],
-    id: Text,
-    password: Text,
     name: &[u8],
     word: &[u8],
-) -> AuthDone
-    requires { ⌜ TextIn (now body) id × TextIn (now body) password ⌝ }
-    ensures { λ r. ⌜ Told (clientAuth known (matches (textOf (now (body .entry)) id) (textOf (now (body .entry)) password) (now (name .entry)) (now (word .entry)))) (r .reply) (r .known) ⌝ }
+) -> LoginDone
+    requires { ⌜ textsWithin (now body) (Request.Connect q) ⌝ }
+    ensures { λ r. ⌜ outcomeOf r ≡ connectStep fresh g (record { id = now (name .entry); password = now (word .entry) }) q (now (body .entry)) ⌝ }
 {
-    if is_right(body, id, password, name, word) {
-        return AuthDone {
-            reply: Reply::Plain(0),
-            known: true,
-        };
-    }
-    AuthDone {
-        reply: Reply::Plain(4),
-        known,
+    match q {
+        ConnectRequest::Open(version) => open(fresh, g, version),
+        ConnectRequest::Auth(id, password) => auth(body, id, password, name, word),
+        ConnectRequest::OtherAuth => LoginDone::Refuse(codes::ILLEGAL_ARGUMENTS),
+        ConnectRequest::Close => LoginDone::Accept(Reply::Plain, g),
     }
 }
 
 // A request of CONFIG.
-pub fn config(known: bool, q: ConfigRequest) -> Reply
-    ensures { λ r. ⌜ r ≡ configReply known q ⌝ }
+pub fn config(g: Login, q: ConfigRequest) -> LoginDone
+    ensures { λ r. ⌜ outcomeOf r ≡ configStep g q ⌝ }
 {
     match q {
-        ConfigRequest::ConnectionType => {
-            let e = data_service::known_error(known);
-            Reply::ConnectionTypes(e)
-        }
-        ConfigRequest::ServerInfo => Reply::ServerInfo(known),
+        ConfigRequest::ConnectionType => LoginDone::Accept(Reply::ConnectionTypes, g),
+        ConfigRequest::ServerInfo => LoginDone::Accept(Reply::ServerInfo(g.authorized), g),
     }
+}
+
+// Whether a request of CONNECT closes the session, and so gets no reply.
+pub fn is_close(q: ConnectRequest) -> bool
+    ensures { λ r. ⌜ r ≡ isClose (Request.Connect q) ⌝ }
+{
+    match q {
+        ConnectRequest::Open(_) => false,
+        ConnectRequest::Auth(_, _) => false,
+        ConnectRequest::OtherAuth => false,
+        ConnectRequest::Close => true,
+    }
+}
+
+// Whether a request is refused before auth.
+fn needs_login(q: Request) -> bool
+    ensures { λ r. ⌜ r ≡ needsLogin q ⌝ }
+{
+    match q {
+        Request::Connect(_) => false,
+        Request::Config(c) => match c {
+            ConfigRequest::ConnectionType => true,
+            ConfigRequest::ServerInfo => false,
+        },
+        Request::Scsi(_) => true,
+        Request::Tape(_) => true,
+        Request::Data(_) => true,
+        Request::Mover(_) => true,
+        Request::Joint(_) => true,
+        Request::Unknown => false,
+        Request::Bad => false,
+    }
+}
+
+// Whether a request wants a login that the client has not made.
+pub fn is_locked(g: Login, q: Request) -> bool
+    ensures { λ r. ⌜ r ≡ isLocked g q ⌝ }
+{
+    if g.authorized {
+        return false;
+    }
+    needs_login(q)
 }

@@ -22,7 +22,7 @@ fn show(code: u32, len: usize, out: &[u8]) {
 
 // A new session.
 fn begin() -> Session {
-    let mut out = [0u8; 36864];
+    let mut out = [0u8; codes::LARGEST_MESSAGE];
     let a = server::open(TIME, &mut out);
     put(b"open");
     show(a.code, a.len, &out);
@@ -31,7 +31,7 @@ fn begin() -> Session {
 
 // One record.
 fn ask(s: Session, image: &mut [u8], input: &[u8]) -> Session {
-    let mut out = [0u8; 36864];
+    let mut out = [0u8; codes::LARGEST_MESSAGE];
     let a = server::request(s, b"vault", b"noon", image, input, TIME, &mut out);
     show(a.code, a.len, &out);
     a.session

@@ -1,35 +1,52 @@
--- The chain of a call without a request. Assumes nothing.
+-- A call without a request, by what its guard found and by what its move came to. Assumes nothing.
 use Prim.Native.Nat.{ℕ}
-use mathlib.Core.Bool.{Bool, true, false}
-use mathlib.Core.List.{List}
+use mathlib.Core.Bool.{Bool}
+use mathlib.Core.List.{List, []}
 use mathlib.Core.Path.{_≡_}
-use Rattle.xdr.specs.Choose.{choose}
 use Rattle.session.specs.declared.types.Answer.{Answer}
-use Rattle.answering.specs.Call.{CallTold}
-use Rattle.session.specs.declared.types.Session.{Session}
-use Rattle.moves.specs.declared.Move.{Move}
-use Rattle.moves.specs.Events.{Moving, moved}
 use Rattle.session.specs.declared.types.Moved.{Moved}
+use Rattle.session.specs.declared.Guard.the-variants.{Stop, Go}
+use Rattle.session.specs.Answer.{Kept, Lent, Answered, silent, guarded}
+use Rattle.session.proofs.Guarding.{when-stopped, when-goes}
+use Rattle.answering.specs.Call.{CallTold}
+use Rattle.moves.specs.declared.Move.{Move}
+use Rattle.moves.specs.Events.{Moving, idling, moved, feeding, handing, finishing, movedToTape, movedFromTape, methodEnded}
 use Rattle.events.specs.Told.{MoveTold}
 
-pub moved-if : {b : Bool} {x : Moving} (y : Moving) {r : Moved} {image dest l l′ : List ℕ} → b ≡ true → MoveTold x r image dest l l′ → MoveTold (choose b x y) r image dest l l′
-unfolding choose
-moved-if y h t = rw h t
+module _ (k : Kept) (l : Lent) {image dest out out′ : List ℕ} where
+  module _ (stream : List ℕ) (last : Bool) {r : Moved} where
+    pub to-stopped : (code : ℕ) → Stop code ≡ guarded (k .session) (l .room) Stop Go → MoveTold (idling code k []) r image dest out out′
+        → MoveTold (movedToTape k l stream last) r image dest out out′
+    unfolding movedToTape
+    to-stopped code h t = when-stopped (λ (e : Moving). MoveTold e r image dest out out′) (k .session) (l .room) code _ _ h t
 
-pub moved-else : {b : Bool} (x : Moving) {y : Moving} {r : Moved} {image dest l l′ : List ℕ} → b ≡ false → MoveTold y r image dest l l′ → MoveTold (choose b x y) r image dest l l′
-unfolding choose
-moved-else x h t = rw h t
+    pub to-goes : Go ≡ guarded (k .session) (l .room) Stop Go → MoveTold (feeding k l stream last) r image dest out out′
+        → MoveTold (movedToTape k l stream last) r image dest out out′
+    unfolding movedToTape
+    to-goes h t = when-goes (λ (e : Moving). MoveTold e r image dest out out′) (k .session) (l .room) _ _ h t
 
--- a call of which only the answer is told
-pub told-if : {b : Bool} (x y : Moving) {r : Answer} {image l l′ : List ℕ} → b ≡ true → CallTold (x .answer) r image l l′ → CallTold (choose b x y .answer) r image l l′
-unfolding choose
-told-if x y h t = rw h t
+  module _ (into : List ℕ) {r : Moved} where
+    pub from-stopped : (code : ℕ) → Stop code ≡ guarded (k .session) (l .room) Stop Go → MoveTold (idling code k into) r image dest out out′
+        → MoveTold (movedFromTape k l into) r image dest out out′
+    unfolding movedFromTape
+    from-stopped code h t = when-stopped (λ (e : Moving). MoveTold e r image dest out out′) (k .session) (l .room) code _ _ h t
 
-pub told-else : {b : Bool} (x y : Moving) {r : Answer} {image l l′ : List ℕ} → b ≡ false → CallTold (y .answer) r image l l′ → CallTold (choose b x y .answer) r image l l′
-unfolding choose
-told-else x y h t = rw h t
+    pub from-goes : Go ≡ guarded (k .session) (l .room) Stop Go → MoveTold (handing k l into) r image dest out out′
+        → MoveTold (movedFromTape k l into) r image dest out out′
+    unfolding movedFromTape
+    from-goes h t = when-goes (λ (e : Moving). MoveTold e r image dest out out′) (k .session) (l .room) _ _ h t
+
+module _ (k : Kept) (l : Lent) (ok : Bool) {r : Answer} {image out out′ : List ℕ} where
+  pub end-stopped : (code : ℕ) → Stop code ≡ guarded (k .session) (l .room) Stop Go → CallTold (silent code k) r image out out′
+      → CallTold (methodEnded k l ok) r image out out′
+  unfolding methodEnded
+  end-stopped code h t = when-stopped (λ (a : Answered). CallTold a r image out out′) (k .session) (l .room) code _ _ h t
+
+  pub end-goes : Go ≡ guarded (k .session) (l .room) Stop Go → CallTold (finishing k l ok) r image out out′ → CallTold (methodEnded k l ok) r image out out′
+  unfolding methodEnded
+  end-goes h t = when-goes (λ (a : Answered). CallTold a r image out out′) (k .session) (l .room) _ _ h t
 
 -- the same move, image and destination, whatever they are made of
-pub moved-as : (s : Session) (time : ℕ) (mv mv₂ : Move) (l l₂ b b₂ : List ℕ) (r : Moved) (image dest out out′ : List ℕ) → mv ≡ mv₂ → l ≡ l₂ → b ≡ b₂
-    → MoveTold (moved s time mv l b) r image dest out out′ → MoveTold (moved s time mv₂ l₂ b₂) r image dest out out′
-moved-as s time mv mv₂ l l₂ b b₂ r image dest out out′ e f g h = rw (e, f, g) at h
+pub moved-as : (k : Kept) (l : Lent) (mv mv₂ : Move) (i i₂ b b₂ : List ℕ) (r : Moved) (image dest out out′ : List ℕ) → mv ≡ mv₂ → i ≡ i₂ → b ≡ b₂
+    → MoveTold (moved k l mv i b) r image dest out out′ → MoveTold (moved k l mv₂ i₂ b₂) r image dest out out′
+moved-as k l mv mv₂ i i₂ b b₂ r image dest out out′ e f g h = rw (e, f, g) at h

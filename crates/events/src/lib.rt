@@ -4,34 +4,34 @@ ghost use mathlib.Core.Bool.{true};
 ghost use mathlib.Core.List.{List, []};
 ghost use Prim.Native.Nat.{ℕ, _≤_};
 ghost use lib.ListN.{length};
+ghost use Rattle.session.specs.Names.{leastRoom};
 ghost use Rattle.session.specs.Relation.{keeps};
+ghost use Rattle.session.specs.Answer.{held};
 ghost use Rattle.answering.specs.Call.{CallTold};
-ghost use Rattle.moves.specs.Events.{idling, announced, moved, feeding, handing, movedToTape, movedFromTape, methodEnded};
+ghost use Rattle.moves.specs.Events.{stamped, idling, announced, moved, feeding, handing, movedToTape, movedFromTape, methodEnded};
 ghost use Rattle.events.specs.Told.{MoveTold};
 use moves::Move;
 use replies::Notice;
+use session::Guard;
 use session::types::Answer;
-use session::types::Data;
 use session::types::Moved;
-use session::types::Mover;
 use session::types::Session;
-use session::types::Tape;
 
 // The session with a move's parts, and the notices of what it came to: data first, mover second.
 fn announce(s: Session, mv: Move, time: u32, out: &mut [u8]) -> Answer
-    requires { ⌜ 36864 ≤ length (now out) ⌝ }
-    ensures { λ r. ⌜ ((image : List ℕ) → CallTold (announced s time mv image) r image (now (out .entry)) (now (out .exit))) ⌝ }
+    requires { ⌜ leastRoom ≤ length (now out) ⌝ }
+    ensures { λ r. ⌜ ((before image : List ℕ) → CallTold (announced (held s before) (stamped time (length (now (out .entry)))) mv image) r image (now (out .entry)) (now (out .exit))) ⌝ }
 {
+    let g = s.login;
     let d = mv.source;
     let m = mv.mover;
     let t = mv.tape;
     let c = s.changer;
-    let session = answering::with_parts(s, s.authorized, d, m, t, c);
+    let session = s.with_parts(g, d, m, t, c);
     let sent = answering::quiet(0, session);
-    let halted = answering::notify(sent, time, mv.dwhy, Notice::DataHalted(mv.dwhy), out);
-    let stopped = answering::notify(halted, time, mv.mwhy, Notice::MoverHalted(mv.mwhy), out);
+    let halted = answering::halts(sent, time, mv.dwhy, mv.mwhy, out);
     answering::notify(
-        stopped,
+        halted,
         time,
         mv.pause,
         Notice::MoverPaused(mv.pause, m.seek),
@@ -39,18 +39,13 @@ fn announce(s: Session, mv: Move, time: u32, out: &mut [u8]) -> Answer
     )
 }
 
-// The end of the method that reads or writes the stream, in success or not.
+// The end of the method that reads or writes the stream, in success or not. No image is handed to it.
 pub fn end_method(s: Session, ok: bool, time: u32, out: &mut [u8]) -> Answer
-    ensures { λ r. ⌜ CallTold (methodEnded s ok time (length (now (out .entry))) .answer) r [] (now (out .entry)) (now (out .exit)) ⌝ }
+    ensures { λ r. ⌜ ((image : List ℕ) → CallTold (methodEnded (held s image) (stamped time (length (now (out .entry)))) ok) r image (now (out .entry)) (now (out .exit))) ⌝ }
 {
-    if out.len() < 36864 {
-        return answering::quiet(1001, s);
-    }
-    if !relation::is_kept(s) {
-        return answering::quiet(1002, s);
-    }
-    if s.closed {
-        return answering::quiet(0, s);
+    let guard = relation::guard(s, out.len());
+    if let Guard::Stop(code) = guard {
+        return answering::quiet(code, s);
     }
     let d = s.source;
     let m = s.mover;
@@ -61,7 +56,7 @@ pub fn end_method(s: Session, ok: bool, time: u32, out: &mut [u8]) -> Answer
 
 // Nothing is moved or sent, and nothing changes.
 fn unmoved(code: u32, s: Session) -> Moved
-    ensures { λ r. ⌜ ((image dest l : List ℕ) → MoveTold (idling code s image dest) r image dest l l) ⌝ }
+    ensures { λ r. ⌜ ((image dest l : List ℕ) → MoveTold (idling code (held s image) dest) r image dest l l) ⌝ }
 {
     Moved {
         code,
@@ -73,8 +68,8 @@ fn unmoved(code: u32, s: Session) -> Moved
 
 // What a move came to, with its notices.
 fn report(s: Session, mv: Move, time: u32, out: &mut [u8]) -> Moved
-    requires { ⌜ 36864 ≤ length (now out) ⌝ }
-    ensures { λ r. ⌜ ((image dest : List ℕ) → MoveTold (moved s time mv image dest) r image dest (now (out .entry)) (now (out .exit))) ⌝ }
+    requires { ⌜ leastRoom ≤ length (now out) ⌝ }
+    ensures { λ r. ⌜ ((before image dest : List ℕ) → MoveTold (moved (held s before) (stamped time (length (now (out .entry)))) mv image dest) r image dest (now (out .entry)) (now (out .exit))) ⌝ }
 {
     let count = mv.count;
     let sent = announce(s, mv, time, out);
@@ -89,8 +84,8 @@ fn report(s: Session, mv: Move, time: u32, out: &mut [u8]) -> Moved
 
 // A move to tape of a session that is in order.
 fn feed(s: Session, image: &mut [u8], stream: &[u8], last: bool, time: u32, out: &mut [u8]) -> Moved
-    requires { ⌜ (keeps s ≡ true) × (36864 ≤ length (now out)) ⌝ }
-    ensures { λ r. ⌜ MoveTold (feeding s (now (image .entry)) (now (stream .entry)) last time) r (now (image .exit)) [] (now (out .entry)) (now (out .exit)) ⌝ }
+    requires { ⌜ (keeps s ≡ true) × (leastRoom ≤ length (now out)) ⌝ }
+    ensures { λ r. ⌜ MoveTold (feeding (held s (now (image .entry))) (stamped time (length (now (out .entry)))) (now (stream .entry)) last) r (now (image .exit)) [] (now (out .entry)) (now (out .exit)) ⌝ }
 {
     let d = s.source;
     let m = s.mover;
@@ -108,24 +103,19 @@ pub fn move_to_tape(
     time: u32,
     out: &mut [u8],
 ) -> Moved
-    ensures { λ r. ⌜ MoveTold (movedToTape s (now (image .entry)) (now (stream .entry)) last time (length (now (out .entry)))) r (now (image .exit)) [] (now (out .entry)) (now (out .exit)) ⌝ }
+    ensures { λ r. ⌜ MoveTold (movedToTape (held s (now (image .entry))) (stamped time (length (now (out .entry)))) (now (stream .entry)) last) r (now (image .exit)) [] (now (out .entry)) (now (out .exit)) ⌝ }
 {
-    if out.len() < 36864 {
-        return unmoved(1001, s);
-    }
-    if !relation::is_kept(s) {
-        return unmoved(1002, s);
-    }
-    if s.closed {
-        return unmoved(0, s);
+    let guard = relation::guard(s, out.len());
+    if let Guard::Stop(code) = guard {
+        return unmoved(code, s);
     }
     feed(s, image, stream, last, time, out)
 }
 
 // A move from tape of a session that is in order.
 fn hand(s: Session, image: &[u8], dest: &mut [u8], time: u32, out: &mut [u8]) -> Moved
-    requires { ⌜ (keeps s ≡ true) × (36864 ≤ length (now out)) ⌝ }
-    ensures { λ r. ⌜ MoveTold (handing s (now (image .entry)) (now (dest .entry)) time) r (now (image .entry)) (now (dest .exit)) (now (out .entry)) (now (out .exit)) ⌝ }
+    requires { ⌜ (keeps s ≡ true) × (leastRoom ≤ length (now out)) ⌝ }
+    ensures { λ r. ⌜ MoveTold (handing (held s (now (image .entry))) (stamped time (length (now (out .entry)))) (now (dest .entry))) r (now (image .entry)) (now (dest .exit)) (now (out .entry)) (now (out .exit)) ⌝ }
 {
     let d = s.source;
     let m = s.mover;
@@ -136,16 +126,11 @@ fn hand(s: Session, image: &[u8], dest: &mut [u8], time: u32, out: &mut [u8]) ->
 
 // One move from tape: the session, the cartridge, which is only read, the destination, the time stamp and the output.
 pub fn move_from_tape(s: Session, image: &[u8], dest: &mut [u8], time: u32, out: &mut [u8]) -> Moved
-    ensures { λ r. ⌜ MoveTold (movedFromTape s (now (image .entry)) (now (dest .entry)) time (length (now (out .entry)))) r (now (image .entry)) (now (dest .exit)) (now (out .entry)) (now (out .exit)) ⌝ }
+    ensures { λ r. ⌜ MoveTold (movedFromTape (held s (now (image .entry))) (stamped time (length (now (out .entry)))) (now (dest .entry))) r (now (image .entry)) (now (dest .exit)) (now (out .entry)) (now (out .exit)) ⌝ }
 {
-    if out.len() < 36864 {
-        return unmoved(1001, s);
-    }
-    if !relation::is_kept(s) {
-        return unmoved(1002, s);
-    }
-    if s.closed {
-        return unmoved(0, s);
+    let guard = relation::guard(s, out.len());
+    if let Guard::Stop(code) = guard {
+        return unmoved(code, s);
     }
     hand(s, image, dest, time, out)
 }

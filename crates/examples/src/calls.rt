@@ -30,7 +30,7 @@ pub fn ask(label: &[u8], s: Session, image: &mut [u8], message: u32, body: &[u32
 
 // A record, and the body of its reply.
 fn answer(s: Session, image: &mut [u8], record: &[u8]) -> Session {
-    let mut out = [0u8; 36864];
+    let mut out = [0u8; codes::LARGEST_MESSAGE];
     let a = server::request(s, b"v", b"pw", image, record, 0, &mut out);
     put(b":");
     put_body(&out, a.len);
@@ -39,7 +39,7 @@ fn answer(s: Session, image: &mut [u8], record: &[u8]) -> Session {
 
 // A new session that has logged in.
 pub fn login(image: &mut [u8]) -> Session {
-    let mut out = [0u8; 36864];
+    let mut out = [0u8; codes::LARGEST_MESSAGE];
     let a = server::open(0, &mut out);
     let s = ask(b"  connect open", a.session, image, 2304, &[4]);
     ask(
@@ -103,7 +103,7 @@ fn show(s: Session, count: usize) {
 
 // A move to tape.
 fn feed(s: Session, image: &mut [u8], stream: &[u8], last: bool) -> Session {
-    let mut out = [0u8; 36864];
+    let mut out = [0u8; codes::LARGEST_MESSAGE];
     let r = events::move_to_tape(s, image, stream, last, 0, &mut out);
     put_number(b"  move of ", stream.len() as u64);
     if last {

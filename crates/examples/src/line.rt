@@ -12,7 +12,7 @@ pub fn put_number(label: &[u8], n: u64) {
 
 // The words from byte 28 up to an end, or up to the last: the body of a reply.
 pub fn put_body(s: &[u8], end: usize) {
-    let stop = cartridge::lesser(end, s.len());
+    let stop = xdr::lesser_len(end, s.len());
     let mut at: usize = 28;
     while at < stop {
         if stop - at < 4 {

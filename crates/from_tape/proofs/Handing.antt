@@ -15,11 +15,13 @@ use Rattle.cartridge.proofs.Reading.{entry-part}
 use Rattle.session.specs.declared.types.Data.{Data}
 use Rattle.session.specs.declared.types.Mover.{Mover}
 use Rattle.session.specs.declared.types.Tape.{Tape}
+use Rattle.session.specs.Names.{fromTapeMode, recoverOperation, dataConnectError, moverMediaError, endOfMedium, endOfFile}
+use Rattle.session.specs.Parts.{windowEnd}
 use Rattle.session.specs.Relation.{moverWrong}
 use Rattle.session.specs.TapeService.{movedTo}
 use Rattle.session.proofs.Kept.{mover-kept}
 use Rattle.session.proofs.Keeping.{active-holds}
-use Rattle.moves.proofs.Moving.{runs}
+use Rattle.moves.proofs.Moving.{running}
 use Rattle.moves.specs.declared.Move.{Move}
 use Rattle.moves.specs.declared.Found.{Found}
 use Rattle.moves.specs.Moves.{idle, outside, halts, hands, pauses, inRecord, amount, sought, reading, onFound, Handing, untouched, HandedAs}
@@ -46,17 +48,17 @@ module _ (d : Data) (m : Mover) (t : Tape) (l b : List ℕ) where
   unfolding onFound
   on-target i r b′ e h = rw e h
 
-  pub on-mark : (j : ℕ) (r : Move) → sought m l ≡ Found.Mark j → r ≡ pauses 2 d m (movedTo j t) → HandedAs (onFound (sought m l) d m t l b) r b
+  pub on-mark : (j : ℕ) (r : Move) → sought m l ≡ Found.Mark j → r ≡ pauses endOfFile d m (movedTo j t) → HandedAs (onFound (sought m l) d m t l b) r b
   unfolding onFound
   on-mark j r e h = rw e (handed-same h)
 
-  pub on-end : (r : Move) → sought m l ≡ Found.End → r ≡ pauses 1 d m (movedTo (count l) t) → HandedAs (onFound (sought m l) d m t l b) r b
+  pub on-end : (r : Move) → sought m l ≡ Found.End → r ≡ pauses endOfMedium d m (movedTo (count l) t) → HandedAs (onFound (sought m l) d m t l b) r b
   unfolding onFound
   on-end r e h = rw e (handed-same h)
 
 -- ---- what is read of a record: nothing where its length is another, else the bytes from the place in it on
 module _ (i : ℕ) (d : Data) (m : Mover) (t : Tape) (l b : List ℕ) where
-  pub read-wrong : (r : Move) → (entryLen l i ≡ m .size → ⊥) → r ≡ halts 4 5 d m t → HandedAs (reading i d m t l b) r b
+  pub read-wrong : (r : Move) → (entryLen l i ≡ m .size → ⊥) → r ≡ halts dataConnectError moverMediaError d m t → HandedAs (reading i d m t l b) r b
   unfolding reading choose
   read-wrong r ne e = rw (ne-eqb _ _ ne) (handed-same e)
 
@@ -75,23 +77,23 @@ module _ (seek offset length : ℕ) where
   unfolding outside choose
   before-it h = rw (lt-ltb seek offset h)
 
-  pub in-it : offset ≤ seek → seek < offset + length → false ≡ outside seek offset length
+  pub in-it : offset ≤ seek → seek < windowEnd offset length → false ≡ outside seek offset length
   unfolding outside choose
-  in-it h k = rw (le-ltb seek offset h, lt-ltb seek (offset + length) k)
+  in-it h k = rw (le-ltb seek offset h, lt-ltb seek (windowEnd offset length) k)
 
-  pub after-it : offset ≤ seek → offset + length ≤ seek → true ≡ outside seek offset length
+  pub after-it : offset ≤ seek → windowEnd offset length ≤ seek → true ≡ outside seek offset length
   unfolding outside choose
-  after-it h k = rw (le-ltb seek offset h, le-ltb seek (offset + length) k)
+  after-it h k = rw (le-ltb seek offset h, le-ltb seek (windowEnd offset length) k)
 
 -- ---- the facts that the tests leave
 pub inside : (seek offset length : ℕ) → outside seek offset length ≡ false → offset ≤ seek
 unfolding outside
 inside seek offset length h = ltb-false seek offset (none-of _ h .0)
 
-pub seekable : (d : Data) (m : Mover) (t : Tape) (l : List ℕ) → moverWrong m t ≡ false → idle 1 2 d m ≡ false → faulty l (t .position) ≡ false → Seekable m l
+pub seekable : (d : Data) (m : Mover) (t : Tape) (l : List ℕ) → moverWrong m t ≡ false → idle fromTapeMode recoverOperation d m ≡ false → faulty l (t .position) ≡ false → Seekable m l
 seekable d m t l h i f =
     let k = mover-kept m t h in
-    let active = runs 1 2 d m i .active in
+    let active = running fromTapeMode recoverOperation d m i .active in
     let p = placed l (t .position) f in
     let w = k .window (k .hold (active-holds (m .state) active) .window) in
     let o = k .origins active in

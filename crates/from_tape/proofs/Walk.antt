@@ -8,46 +8,46 @@ use Rattle.xdr.specs.Choose.{choose}
 use Rattle.image.specs.Image.{count, entryLen}
 use Rattle.session.specs.declared.types.Mover.{Mover}
 use Rattle.moves.specs.declared.Found.{Found}
-use Rattle.moves.specs.Moves.{walk, sought, ordinal}
+use Rattle.moves.specs.Moves.{seekFrom, sought, ordinal}
 use Rattle.moves.proofs.Moving.{target-at}
 
 module _ (l : List ℕ) (m i k : ℕ) where
-  walk-end : m ≡ 0 → walk l m i k ≡ Found.End
-  unfolding walk
+  walk-end : m ≡ 0 → seekFrom l m i k ≡ Found.End
+  unfolding seekFrom
   walk-end e = rw e
 
-  walk-mark : (m ≡ 0 → ⊥) → entryLen l i ≡ 0 → walk l m i k ≡ Found.Mark (i + 1)
-  unfolding walk choose
+  walk-mark : (m ≡ 0 → ⊥) → entryLen l i ≡ 0 → seekFrom l m i k ≡ Found.Mark (i + 1)
+  unfolding seekFrom choose
   walk-mark on q =
       let more : m ≡ suc (m - 1) = omega arith in
       rw (more, eq-eqb _ _ q)
 
-  walk-hit : (m ≡ 0 → ⊥) → (entryLen l i ≡ 0 → ⊥) → k ≡ 0 → walk l m i k ≡ Found.Target i
-  unfolding walk choose
+  walk-hit : (m ≡ 0 → ⊥) → (entryLen l i ≡ 0 → ⊥) → k ≡ 0 → seekFrom l m i k ≡ Found.Target i
+  unfolding seekFrom choose
   walk-hit on q z =
       let more : m ≡ suc (m - 1) = omega arith in
       rw (more, ne-eqb _ _ q, eq-eqb _ _ z)
 
-  walk-pass : (j : ℕ) → m ≡ suc j → (entryLen l i ≡ 0 → ⊥) → (k ≡ 0 → ⊥) → walk l m i k ≡ walk l j (i + 1) (k - 1)
-  unfolding walk choose
+  walk-pass : (j : ℕ) → m ≡ suc j → (entryLen l i ≡ 0 → ⊥) → (k ≡ 0 → ⊥) → seekFrom l m i k ≡ seekFrom l j (i + 1) (k - 1)
+  unfolding seekFrom choose
   walk-pass j more q z = rw (more, ne-eqb _ _ q, ne-eqb _ _ z)
 
 -- the walk under way: at entry `at`, `left` records to pass, `rest` entries ahead
 pub record Walking (l : List ℕ) (n o k at left rest : ℕ) : Type 0 where
   pub ends : at + rest ≡ n
-  pub same : walk l (n - o) o k ≡ walk l rest at left
+  pub same : seekFrom l (n - o) o k ≡ seekFrom l rest at left
 
 module _ {l : List ℕ} {n o k at left rest : ℕ} (w : Walking l n o k at left rest) where
   pub turn : (rest ≡ 0 → ⊥) → (entryLen l at ≡ 0 → ⊥) → (left ≡ 0 → ⊥) → Walking l n o k (at + 1) (left - 1) (rest - 1)
   turn on q z = record { ends = omega arith; same = w .same ∙ walk-pass l rest at left (rest - 1) (omega arith) q z }
 
-  pub found-end : rest ≡ 0 → Found.End ≡ walk l (n - o) o k
+  pub found-end : rest ≡ 0 → Found.End ≡ seekFrom l (n - o) o k
   found-end e = sym (w .same ∙ walk-end l rest at left e)
 
-  pub found-mark : (rest ≡ 0 → ⊥) → entryLen l at ≡ 0 → Found.Mark (at + 1) ≡ walk l (n - o) o k
+  pub found-mark : (rest ≡ 0 → ⊥) → entryLen l at ≡ 0 → Found.Mark (at + 1) ≡ seekFrom l (n - o) o k
   found-mark on q = sym (w .same ∙ walk-mark l rest at left on q)
 
-  pub found-target : (rest ≡ 0 → ⊥) → (entryLen l at ≡ 0 → ⊥) → left ≡ 0 → Found.Target at ≡ walk l (n - o) o k
+  pub found-target : (rest ≡ 0 → ⊥) → (entryLen l at ≡ 0 → ⊥) → left ≡ 0 → Found.Target at ≡ seekFrom l (n - o) o k
   found-target on q z = sym (w .same ∙ walk-hit l rest at left on q z)
 
 -- a target is an entry of the table

@@ -6,15 +6,16 @@ use lib.ListN.{length}
 use Rattle.image.specs.Image.{count, entryLen, entryStart, bodyAt}
 use Rattle.image.specs.Sound.{Sound}
 use Rattle.session.specs.declared.types.Mover.{Mover}
-use Rattle.session.specs.Parts.{top}
+use Rattle.session.specs.Names.{largestSize, top}
+use Rattle.session.specs.Parts.{windowEnd}
 use Rattle.moves.specs.Moves.{inRecord, amount}
 
 -- a mover with a window in force, whose walk begins in the tape of a sound image
 pub record Seekable (m : Mover) (l : List ℕ) : Type 0 where
   pub ok : Sound l
   pub some : 1 ≤ m .size
-  pub small : m .size ≤ 32768
-  pub fits : m .offset + m .length ≤ top
+  pub small : m .size ≤ largestSize
+  pub fits : windowEnd (m .offset) (m .length) ≤ top
   pub seeks : m .seek + m .left ≤ top
   pub begins : m .origin ≤ count l
 
@@ -26,6 +27,6 @@ pub record Start (l : List ℕ) (i r : ℕ) : Type 0 where
 -- r is how much is handed over: what is left, what there is room for and what the record has
 pub record Amount (m : Mover) (room r : ℕ) : Type 0 where
   pub is : r ≡ amount m room
-  pub asked : r ≤ m .left
+  pub owed : r ≤ m .left
   pub roomy : r ≤ room
   pub rest : inRecord m + r ≤ m .size

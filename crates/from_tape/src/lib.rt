@@ -1,14 +1,14 @@
 // One move from tape: the walk to the record that the seek position is in, and the bytes of it that are handed over.
 ghost use mathlib.Core.Path.{_≡_};
 ghost use mathlib.Core.Bool.{false};
-ghost use Prim.Native.Nat.{_+_, _-_, _*_, _<_, _≤_};
-ghost use lib.ListN.{length};
-ghost use Rattle.image.specs.Image.{count};
+ghost use Prim.Native.Nat.{_+_, _-_, _<_, _≤_};
+ghost use Rattle.image.specs.Image.{count, Table};
 ghost use Rattle.image.specs.Sound.{Sound};
-ghost use Rattle.session.specs.Parts.{top};
+ghost use Rattle.session.specs.Names.{top};
+ghost use Rattle.session.specs.Parts.{windowEnd};
 ghost use Rattle.session.specs.Relation.{moverWrong};
 ghost use Rattle.session.specs.TapeService.{movedTo};
-ghost use Rattle.moves.specs.Moves.{outside, walk, sought, inRecord, pauses, reading, onFound, seeking, fromTape, HandedAs};
+ghost use Rattle.moves.specs.Moves.{outside, seekFrom, sought, inRecord, pauses, reading, onFound, seeking, fromTape, HandedAs};
 ghost use Rattle.from_tape.specs.Facts.{Seekable, Start, Amount};
 use moves::Found;
 use moves::Move;
@@ -18,7 +18,7 @@ use session::types::Tape;
 
 // Whether the seek position is outside the window.
 fn is_outside(seek: u64, offset: u64, length: u64) -> bool
-    requires { ⌜ offset + length ≤ top ⌝ }
+    requires { ⌜ windowEnd offset length ≤ top ⌝ }
     ensures { λ r. ⌜ r ≡ outside seek offset length ⌝ }
 {
     if seek < offset {
@@ -32,8 +32,8 @@ fn is_outside(seek: u64, offset: u64, length: u64) -> bool
 
 // Walks from an origin over k records to the one after them, in a table of n entries.
 fn find_record(image: &[u8], n: usize, origin: usize, k: u64) -> Found
-    requires { ⌜ (16 + n * 8 ≤ length (now image)) × (n ≤ 4096) × (origin ≤ n) ⌝ }
-    ensures { λ r. ⌜ r ≡ walk (now (image .entry)) (n - origin) origin k ⌝ }
+    requires { ⌜ Table (now image) n × (origin ≤ n) ⌝ }
+    ensures { λ r. ⌜ r ≡ seekFrom (now (image .entry)) (n - origin) origin k ⌝ }
 {
     let mut at = origin;
     let mut left = k;
@@ -42,7 +42,7 @@ fn find_record(image: &[u8], n: usize, origin: usize, k: u64) -> Found
         if rest == 0 {
             break Found::End;
         }
-        let len = image::field(image, 16 + at * 8);
+        let len = image::entry_len(image, at);
         if len == 0 {
             break Found::Mark(at + 1);
         }
@@ -60,7 +60,7 @@ fn record_start(image: &[u8], i: usize) -> usize
     requires { ⌜ Sound (now image) × (i < count (now image)) ⌝ }
     ensures { λ r. ⌜ Start (now (image .entry)) i r ⌝ }
 {
-    16 + image::field(image, 4) * 8 + image::field(image, 20 + i * 8)
+    image::body_at(image) + image::entry_start(image, i)
 }
 
 // The place of the seek position in its record.
@@ -79,8 +79,8 @@ fn amount(m: Mover, room: usize) -> usize
     let size = m.size as usize;
     let into = into_record(m);
     let rest = size - into;
-    let some = cartridge::lesser(m.left as usize, rest);
-    cartridge::lesser(some, room)
+    let some = xdr::lesser_len(m.left as usize, rest);
+    xdr::lesser_len(some, room)
 }
 
 // Hands over what is asked for of record i.
@@ -89,9 +89,9 @@ fn read_record(i: usize, d: Data, m: Mover, t: Tape, image: &[u8], dest: &mut [u
     ensures { λ r. ⌜ HandedAs (reading i d m t (now (image .entry)) (now (dest .entry))) r (now (dest .exit)) ⌝ }
 {
     let size = m.size as usize;
-    let len = image::field(image, 16 + i * 8);
+    let len = image::entry_len(image, i);
     if len != size {
-        return moves::halt_both(4, 5, d, m, t);
+        return moves::halt_both(Data::CONNECT_ERROR, Mover::MEDIA_ERROR, d, m, t);
     }
     let into = into_record(m);
     let n = amount(m, dest.len());
@@ -118,13 +118,13 @@ fn walk_back(d: Data, m: Mover, t: Tape, image: &[u8], dest: &mut [u8]) -> Move
     requires { ⌜ Seekable m (now image) × (m .offset ≤ m .seek) ⌝ }
     ensures { λ r. ⌜ HandedAs (onFound (sought m (now (image .entry))) d m t (now (image .entry)) (now (dest .entry))) r (now (dest .exit)) ⌝ }
 {
-    let n = image::field(image, 8);
+    let n = image::count(image);
     let k = (m.seek - m.offset) / (m.size as u64);
     let found = find_record(image, n, m.origin, k);
     match found {
         Found::Target(i) => read_record(i, d, m, t, image, dest),
-        Found::Mark(j) => pause_there(2, j, d, m, t),
-        Found::End => pause_there(1, n, d, m, t),
+        Found::Mark(j) => pause_there(Mover::END_OF_FILE, j, d, m, t),
+        Found::End => pause_there(Mover::END_OF_MEDIUM, n, d, m, t),
     }
 }
 
@@ -134,7 +134,7 @@ fn seek_back(d: Data, m: Mover, t: Tape, image: &[u8], dest: &mut [u8]) -> Move
     ensures { λ r. ⌜ HandedAs (seeking d m t (now (image .entry)) (now (dest .entry))) r (now (dest .exit)) ⌝ }
 {
     if is_outside(m.seek, m.offset, m.length) {
-        return moves::pause_at(3, d, m, t);
+        return moves::pause_at(Mover::SEEK, d, m, t);
     }
     walk_back(d, m, t, image, dest)
 }
@@ -144,12 +144,12 @@ pub fn from_tape(d: Data, m: Mover, t: Tape, image: &[u8], dest: &mut [u8]) -> M
     requires { ⌜ moverWrong m t ≡ false ⌝ }
     ensures { λ r. ⌜ HandedAs (fromTape d m t (now (image .entry)) (now (dest .entry))) r (now (dest .exit)) ⌝ }
 {
-    if moves::is_idle(1, 2, d, m) {
+    if moves::is_idle(Mover::FROM_TAPE, Data::RECOVER, d, m) {
         return moves::no_move(d, m, t);
     }
     let position = t.position;
     if image::is_faulty(image, position) {
-        return moves::halt_both(4, 5, d, m, t);
+        return moves::halt_both(Data::CONNECT_ERROR, Mover::MEDIA_ERROR, d, m, t);
     }
     if m.left == 0 {
         return moves::no_move(d, m, t);

@@ -9,10 +9,12 @@ use native.Mathlib.Numerals.{add-one}
 use lib.ListN.{length, getD}
 use lib.Dec.{leb, ltb, eqb}
 use borrow.Author.Tests.{leb-true, eqb-true, le-leb, lt-leb, eq-eqb, ne-eqb, ltb-false, lt-ltb, le-ltb}
+use Rattle.codes.specs.Codes.{longestRecord}
 use Rattle.xdr.specs.Choose.{choose, allOf}
 use Rattle.xdr.specs.Xdr.{word}
 use Rattle.xdr.proofs.Tests.{and-l, and-r, all-get}
-use Rattle.image.specs.Image.{capacity, count, used, entryLen, entryStart, bodyAt, headerTests, headerOk, tableOk, isSound, faulty}
+use Rattle.image.specs.Image.{capacity, count, used, entryLen, entryStart, bodyAt, Table}
+use Rattle.image.specs.Image.{headerTests, headerOk, tableOk, isSound, faulty}
 use Rattle.image.specs.Sound.{Header, Entry, Sound, Placed, sumBefore}
 
 pub header-facts : (l : List ℕ) → headerOk l ≡ true → Header l
@@ -37,7 +39,7 @@ header-holds l f =
 
 -- one entry of the table, where the code counts i up to n
 pub table-step : (l : List ℕ) (total n i s : ℕ) → i < n
-    → tableOk l total (n - i) i s ≡ (leb (entryLen l i) 32768 && eqb (entryStart l i) s && tableOk l total (n - (i + 1)) (i + 1) (s + entryLen l i))
+    → tableOk l total (n - i) i s ≡ (leb (entryLen l i) longestRecord && eqb (entryStart l i) s && tableOk l total (n - (i + 1)) (i + 1) (s + entryLen l i))
 unfolding tableOk
 table-step l total n i s h =
     let e : n - i ≡ suc (n - (i + 1)) = omega arith in
@@ -50,13 +52,13 @@ table-end l total n i s h =
     rw e
 
 module _ (l : List ℕ) (total n i s : ℕ) (h : i < n) where
-  pub table-long : 32768 < entryLen l i → tableOk l total (n - i) i s ≡ false
+  pub table-long : longestRecord < entryLen l i → tableOk l total (n - i) i s ≡ false
   table-long p = rw (table-step, lt-leb _ _ p)
 
-  pub table-gap : entryLen l i ≤ 32768 → (entryStart l i ≡ s → ⊥) → tableOk l total (n - i) i s ≡ false
+  pub table-gap : entryLen l i ≤ longestRecord → (entryStart l i ≡ s → ⊥) → tableOk l total (n - i) i s ≡ false
   table-gap p q = rw (table-step, le-leb _ _ p, ne-eqb _ _ q)
 
-  pub table-next : entryLen l i ≤ 32768 → entryStart l i ≡ s → tableOk l total (n - i) i s ≡ tableOk l total (n - (i + 1)) (i + 1) (s + entryLen l i)
+  pub table-next : entryLen l i ≤ longestRecord → entryStart l i ≡ s → tableOk l total (n - i) i s ≡ tableOk l total (n - (i + 1)) (i + 1) (s + entryLen l i)
   table-next p q = rw (table-step, le-leb _ _ p, eq-eqb _ _ q)
 
 pub sound-table : (l : List ℕ) → headerOk l ≡ true → isSound l ≡ tableOk l (used l) (count l) 0 0
@@ -69,14 +71,14 @@ unsound-header l h = rw h
 
 -- the first of the entries that are left, as facts
 record Row (l : List ℕ) (total k i s : ℕ) : Type 0 where
-  short : entryLen l i ≤ 32768
+  short : entryLen l i ≤ longestRecord
   start : entryStart l i ≡ s
   rest : tableOk l total k (i + 1) (s + entryLen l i) ≡ true
 
 table-head : (l : List ℕ) (total k i s : ℕ) → tableOk l total (suc k) i s ≡ true → Row l total k i s
 unfolding tableOk
 table-head l total k i s h =
-    let a = leb (entryLen l i) 32768 in
+    let a = leb (entryLen l i) longestRecord in
     let b = eqb (entryStart l i) s in
     let r = tableOk l total k (i + 1) (s + entryLen l i) in
     let ab = and-l (a && b) r h in
@@ -150,6 +152,12 @@ unfolding sumBefore
 sound-holds l s =
     sound-table l (sym (header-holds l (s .header)))
     ∙ entries-table l (used l) (count l) 0 0 refl (λ m b. rw (zero-add m) (s .entry m b)) (rw (zero-add (count l)) (s .total))
+
+-- the place of an entry of a sound image
+pub entry-there : (l : List ℕ) (i : ℕ) → Sound l → i < capacity l → Table l (i + 1)
+entry-there l i ok h =
+    let f = ok .header in
+    record { few = omega arith; whole = omega arith }
 
 -- ---- sums
 pub sum-mono : (l : List ℕ) (i k : ℕ) → sumBefore l i ≤ sumBefore l (i + k)

@@ -1,3 +1,5 @@
--- `Laws` has the laws of soundness, `PlaceLaws` those of file and block number. They serve the crates above too.
+-- `Laws` has the laws of soundness, `PlaceLaws` those of file and block number, `Writes` what an entry or bytes of the body that are
+-- written leave. They serve the crates above too.
 pub mod Laws
 pub mod PlaceLaws
+pub mod Writes

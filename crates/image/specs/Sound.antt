@@ -4,16 +4,18 @@ use Prim.Native.Nat.{ℕ, zero, suc, _+_, _-_, _*_, _≤_, _<_}
 use mathlib.Core.List.{List}
 use mathlib.Core.Path.{_≡_}
 use lib.ListN.{length}
+use Rattle.codes.specs.Codes.{longestRecord}
 use Rattle.xdr.specs.Xdr.{word}
+use Rattle.image.specs.Image.{mostEntries, largestBody, headerLen}
 use Rattle.image.specs.Image.{capacity, count, used, entryLen, entryStart, bodyAt, bodyLen}
 
 pub record Header (l : List ℕ) : Type 0 where
-  pub whole : 16 ≤ length l
+  pub whole : headerLen ≤ length l
   pub first : word l 0 ≡ 1
   pub some : 1 ≤ capacity l
-  pub few : capacity l ≤ 4096
+  pub few : capacity l ≤ mostEntries
   pub table : bodyAt l ≤ length l
-  pub body : bodyLen l ≤ 134217728
+  pub body : bodyLen l ≤ largestBody
   pub entries : count l ≤ capacity l
   pub bytes : used l ≤ bodyLen l
 
@@ -23,7 +25,7 @@ sumBefore l zero = 0
 sumBefore l (suc i) = sumBefore l i + entryLen l i
 
 pub record Entry (l : List ℕ) (i : ℕ) : Type 0 where
-  pub short : entryLen l i ≤ 32768
+  pub short : entryLen l i ≤ longestRecord
   pub start : entryStart l i ≡ sumBefore l i
 
 pub record Sound (l : List ℕ) : Type 0 where

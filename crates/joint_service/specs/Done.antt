@@ -1,7 +1,9 @@
 -- What the code of a joint request hands back, as the definitions have it.
-use Rattle.session.specs.Joint.{Ends}
+use Rattle.session.specs.declared.Ends.{Ends}
+use Rattle.session.specs.Judge.{Outcome, refuse, accept}
 use Rattle.joint_service.specs.declared.JointDone.{JointDone}
+use Rattle.joint_service.specs.declared.JointDone.the-variants as JointDone
 
--- all but the reply
-abbrev pub endsOf : JointDone → Ends
-endsOf r = record { source = r .source; mover = r .mover; dwhy = r .dwhy; mwhy = r .mwhy }
+abbrev pub outcomeOf : JointDone → Outcome Ends
+outcomeOf (JointDone.Refuse e) = refuse e
+outcomeOf (JointDone.Accept reply next) = accept reply next

@@ -1,237 +1,153 @@
 // The joint requests: those that read or change both ends.
 ghost use mathlib.Core.Path.{_≡_};
-ghost use Rattle.replies.specs.declared.Reply.the-variants.{Plain};
-ghost use Rattle.session.specs.Judge.{first};
-ghost use Rattle.session.specs.Telling.{Told};
-ghost use Rattle.session.specs.Parts.{dataJoined, moverJoined};
-ghost use Rattle.session.specs.Joint.{ends, dataConnectTests, dataConnect, moverConnect, atRest, abortTests, dataAborted, dataAbort, moverAborted, moverAbort, closeTests, moverClose, jointStep};
-ghost use Rattle.joint_service.specs.Done.{endsOf};
+ghost use Rattle.session.specs.Joint.{joined, halted, dataConnect, moverConnect, atRest, dataAborted, dataAbort, moverAborted, moverAbort, moverClose, jointStep};
+ghost use Rattle.joint_service.specs.Done.{outcomeOf};
 use replies::Reply;
 use requests::JointRequest;
+use session::Ends;
 use session::types::Data;
 use session::types::Mover;
 use session::types::Tape;
 
-// The reasons of a halt.
-const ABORTED: u32 = 2;
-
-const DATA_CONNECT_ERROR: u32 = 4;
-
-const MOVER_CONNECT_CLOSED: u32 = 1;
-
-// A reply, both ends after it, and why each halted, or 0.
-pub struct JointDone {
-    pub reply: Reply,
-    pub source: Data,
-    pub mover: Mover,
-    pub dwhy: u32,
-    pub mwhy: u32,
+// A refusal, or a reply and both ends after it.
+pub enum JointDone {
+    Refuse(u32),
+    Accept(Reply, Ends),
 }
 
-fn connect_error(known: bool, state: u32, mover: u32, address: u32) -> u32
-    ensures { λ r. ⌜ r ≡ first (dataConnectTests known state mover address) ⌝ }
+// Both ends joined, with the tape at a position.
+fn join(d: Data, m: Mover, mode: u32, position: usize) -> Ends
+    ensures { λ r. ⌜ r ≡ joined d m mode position ⌝ }
 {
-    if !known {
-        return 4;
+    Ends {
+        source: d.goes(Data::CONNECTED),
+        mover: m.runs(mode, position),
+        dwhy: 0,
+        mwhy: 0,
     }
-    if state != Data::IDLE {
-        return 19;
-    }
-    if address != 0 {
-        return 9;
-    }
-    if mover != Mover::LISTEN {
-        return 23;
-    }
-    0
 }
 
-// Whether an end is IDLE or HALTED. IDLE is 0 for both.
-fn is_at_rest(state: u32, halted: u32) -> bool
-    ensures { λ r. ⌜ r ≡ atRest state halted ⌝ }
+// Both ends halted, each for its reason.
+fn halt(dwhy: u32, mwhy: u32, d: Data, m: Mover) -> Ends
+    ensures { λ r. ⌜ r ≡ halted dwhy mwhy d m ⌝ }
 {
-    if state == 0 {
+    Ends {
+        source: d.halts(dwhy),
+        mover: m.halts(mwhy),
+        dwhy,
+        mwhy,
+    }
+}
+
+fn data_connect(d: Data, m: Mover, t: Tape, address: u32) -> JointDone
+    ensures { λ r. ⌜ outcomeOf r ≡ dataConnect d m t address ⌝ }
+{
+    if d.state != Data::IDLE {
+        return JointDone::Refuse(codes::ILLEGAL_STATE);
+    }
+    if address != codes::LOCAL_ADDRESS {
+        return JointDone::Refuse(codes::ILLEGAL_ARGUMENTS);
+    }
+    if m.state != Mover::LISTEN {
+        return JointDone::Refuse(codes::OTHER_NOT_LISTENING);
+    }
+    let next = join(d, m, m.mode, t.position);
+    JointDone::Accept(Reply::Plain, next)
+}
+
+fn mover_connect(d: Data, m: Mover, t: Tape, mode: u32, address: u32) -> JointDone
+    ensures { λ r. ⌜ outcomeOf r ≡ moverConnect d m t mode address ⌝ }
+{
+    let e = mover_service::join_error(m, t, mode, address);
+    if e != 0 {
+        return JointDone::Refuse(e);
+    }
+    if d.state != Data::LISTEN {
+        return JointDone::Refuse(codes::OTHER_NOT_LISTENING);
+    }
+    let next = join(d, m, mode, t.position);
+    JointDone::Accept(Reply::Plain, next)
+}
+
+// Whether an end is IDLE or HALTED, by the numbers of that end.
+fn is_at_rest(state: u32, idle: u32, halted: u32) -> bool
+    ensures { λ r. ⌜ r ≡ atRest state idle halted ⌝ }
+{
+    if state == idle {
         return true;
     }
     state == halted
 }
 
-fn abort_error(known: bool, state: u32, halted: u32) -> u32
-    ensures { λ r. ⌜ r ≡ first (abortTests known state halted) ⌝ }
-{
-    if !known {
-        return 4;
-    }
-    if is_at_rest(state, halted) {
-        return 19;
-    }
-    0
-}
-
-fn close_error(known: bool, state: u32) -> u32
-    ensures { λ r. ⌜ r ≡ first (closeTests known state) ⌝ }
-{
-    if !known {
-        return 4;
-    }
-    if state != Mover::PAUSED {
-        return 19;
-    }
-    0
-}
-
-pub fn is_data_joined(state: u32) -> bool
-    ensures { λ r. ⌜ r ≡ dataJoined state ⌝ }
-{
-    if state == Data::ACTIVE {
-        return true;
-    }
-    state == Data::CONNECTED
-}
-
-pub fn is_mover_joined(state: u32) -> bool
-    ensures { λ r. ⌜ r ≡ moverJoined state ⌝ }
-{
-    if state == Mover::ACTIVE {
-        return true;
-    }
-    state == Mover::PAUSED
-}
-
-// A reply with which neither end halts.
-fn no_halt(error: u32, d: Data, m: Mover) -> JointDone
-    ensures { λ r. ⌜ (r .reply ≡ Plain error) × (endsOf r ≡ ends d m) ⌝ }
-{
-    JointDone {
-        reply: Reply::Plain(error),
-        source: d,
-        mover: m,
-        dwhy: 0,
-        mwhy: 0,
-    }
-}
-
-fn data_connect(known: bool, d: Data, m: Mover, t: Tape, address: u32) -> JointDone
-    ensures { λ r. ⌜ Told (dataConnect known d m t address) (r .reply) (endsOf r) ⌝ }
-{
-    let e = connect_error(known, d.state, m.state, address);
-    if e != 0 {
-        return no_halt(e, d, m);
-    }
-    no_halt(0, d.goes(Data::CONNECTED), m.runs(m.mode, t.position))
-}
-
-fn mover_connect(known: bool, d: Data, m: Mover, t: Tape, mode: u32, address: u32) -> JointDone
-    ensures { λ r. ⌜ Told (moverConnect known d m t mode address) (r .reply) (endsOf r) ⌝ }
-{
-    let absent = d.state != Data::LISTEN;
-    let e = mover_service::join_error(
-        known,
-        t.opened,
-        t.writable,
-        m.state,
-        m.size,
-        m.offset,
-        m.length,
-        mode,
-        address,
-        absent,
-    );
-    if e != 0 {
-        return no_halt(e, d, m);
-    }
-    no_halt(0, d.goes(Data::CONNECTED), m.runs(mode, t.position))
-}
-
 // Data aborted, and the mover with it where they are joined.
-fn data_aborted(d: Data, m: Mover) -> JointDone
-    ensures { λ r. ⌜ (r .reply ≡ Plain 0) × (endsOf r ≡ dataAborted d m) ⌝ }
+fn data_aborted(d: Data, m: Mover) -> Ends
+    ensures { λ r. ⌜ r ≡ dataAborted d m ⌝ }
 {
-    if is_data_joined(d.state) {
-        return JointDone {
-            reply: Reply::Plain(0),
-            source: d.halts(ABORTED),
-            mover: m.halts(MOVER_CONNECT_CLOSED),
-            dwhy: ABORTED,
-            mwhy: MOVER_CONNECT_CLOSED,
-        };
+    if d.is_joined() {
+        return halt(Data::ABORTED, Mover::CONNECT_CLOSED, d, m);
     }
-    JointDone {
-        reply: Reply::Plain(0),
-        source: d.halts(ABORTED),
+    Ends {
+        source: d.halts(Data::ABORTED),
         mover: m,
-        dwhy: ABORTED,
+        dwhy: Data::ABORTED,
         mwhy: 0,
     }
 }
 
-fn data_abort(known: bool, d: Data, m: Mover) -> JointDone
-    ensures { λ r. ⌜ Told (dataAbort known d m) (r .reply) (endsOf r) ⌝ }
+fn data_abort(d: Data, m: Mover) -> JointDone
+    ensures { λ r. ⌜ outcomeOf r ≡ dataAbort d m ⌝ }
 {
-    let e = abort_error(known, d.state, Data::HALTED);
-    if e != 0 {
-        return no_halt(e, d, m);
+    if is_at_rest(d.state, Data::IDLE, Data::HALTED) {
+        return JointDone::Refuse(codes::ILLEGAL_STATE);
     }
-    data_aborted(d, m)
+    let next = data_aborted(d, m);
+    JointDone::Accept(Reply::Plain, next)
 }
 
 // The mover aborted, and data with it where they are joined.
-fn mover_aborted(d: Data, m: Mover) -> JointDone
-    ensures { λ r. ⌜ (r .reply ≡ Plain 0) × (endsOf r ≡ moverAborted d m) ⌝ }
+fn mover_aborted(d: Data, m: Mover) -> Ends
+    ensures { λ r. ⌜ r ≡ moverAborted d m ⌝ }
 {
-    if is_mover_joined(m.state) {
-        return JointDone {
-            reply: Reply::Plain(0),
-            source: d.halts(DATA_CONNECT_ERROR),
-            mover: m.halts(ABORTED),
-            dwhy: DATA_CONNECT_ERROR,
-            mwhy: ABORTED,
-        };
+    if m.is_joined() {
+        return halt(Data::CONNECT_ERROR, Mover::ABORTED, d, m);
     }
-    JointDone {
-        reply: Reply::Plain(0),
+    Ends {
         source: d,
-        mover: m.halts(ABORTED),
+        mover: m.halts(Mover::ABORTED),
         dwhy: 0,
-        mwhy: ABORTED,
+        mwhy: Mover::ABORTED,
     }
 }
 
-fn mover_abort(known: bool, d: Data, m: Mover) -> JointDone
-    ensures { λ r. ⌜ Told (moverAbort known d m) (r .reply) (endsOf r) ⌝ }
+fn mover_abort(d: Data, m: Mover) -> JointDone
+    ensures { λ r. ⌜ outcomeOf r ≡ moverAbort d m ⌝ }
 {
-    let e = abort_error(known, m.state, Mover::HALTED);
-    if e != 0 {
-        return no_halt(e, d, m);
+    if is_at_rest(m.state, Mover::IDLE, Mover::HALTED) {
+        return JointDone::Refuse(codes::ILLEGAL_STATE);
     }
-    mover_aborted(d, m)
+    let next = mover_aborted(d, m);
+    JointDone::Accept(Reply::Plain, next)
 }
 
-fn mover_close(known: bool, d: Data, m: Mover) -> JointDone
-    ensures { λ r. ⌜ Told (moverClose known d m) (r .reply) (endsOf r) ⌝ }
+fn mover_close(d: Data, m: Mover) -> JointDone
+    ensures { λ r. ⌜ outcomeOf r ≡ moverClose d m ⌝ }
 {
-    let e = close_error(known, m.state);
-    if e != 0 {
-        return no_halt(e, d, m);
+    if m.state != Mover::PAUSED {
+        return JointDone::Refuse(codes::ILLEGAL_STATE);
     }
-    JointDone {
-        reply: Reply::Plain(0),
-        source: d.halts(DATA_CONNECT_ERROR),
-        mover: m.halts(MOVER_CONNECT_CLOSED),
-        dwhy: DATA_CONNECT_ERROR,
-        mwhy: MOVER_CONNECT_CLOSED,
-    }
+    let next = halt(Data::CONNECT_ERROR, Mover::CONNECT_CLOSED, d, m);
+    JointDone::Accept(Reply::Plain, next)
 }
 
 // A joint request.
-pub fn serve(known: bool, d: Data, m: Mover, t: Tape, q: JointRequest) -> JointDone
-    ensures { λ r. ⌜ Told (jointStep known d m t q) (r .reply) (endsOf r) ⌝ }
+pub fn serve(d: Data, m: Mover, t: Tape, q: JointRequest) -> JointDone
+    ensures { λ r. ⌜ outcomeOf r ≡ jointStep d m t q ⌝ }
 {
     match q {
-        JointRequest::DataAbort => data_abort(known, d, m),
-        JointRequest::DataConnect(address) => data_connect(known, d, m, t, address),
-        JointRequest::MoverAbort => mover_abort(known, d, m),
-        JointRequest::MoverClose => mover_close(known, d, m),
-        JointRequest::MoverConnect(mode, address) => mover_connect(known, d, m, t, mode, address),
+        JointRequest::DataAbort => data_abort(d, m),
+        JointRequest::DataConnect(address) => data_connect(d, m, t, address),
+        JointRequest::MoverAbort => mover_abort(d, m),
+        JointRequest::MoverClose => mover_close(d, m),
+        JointRequest::MoverConnect(mode, address) => mover_connect(d, m, t, mode, address),
     }
 }

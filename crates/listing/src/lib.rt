@@ -13,10 +13,10 @@ fn put_number(n: usize) {
 fn put_header(image: &[u8])
     requires { ⌜ Sound (now image) ⌝ }
 {
-    let capacity = image::field(image, 4);
-    let entries = image::field(image, 8);
-    let used = image::field(image, 12);
-    let body = image.len() - (16 + capacity * 8);
+    let capacity = image::capacity(image);
+    let entries = image::count(image);
+    let used = image::used_bytes(image);
+    let body = image.len() - image::body_at(image);
     put(b"cartridge ");
     put_number(entries);
     put(b" of ");
@@ -48,11 +48,11 @@ fn put_entry(i: usize, len: usize, start: usize) {
 fn put_entries(image: &[u8])
     requires { ⌜ Sound (now image) ⌝ }
 {
-    let entries = image::field(image, 8);
+    let entries = image::count(image);
     let mut i: usize = 0;
     while i < entries {
-        let len = image::field(image, 16 + i * 8);
-        let start = image::field(image, 20 + i * 8);
+        let len = image::entry_len(image, i);
+        let start = image::entry_start(image, i);
         put_entry(i, len, start);
         i += 1;
     }

@@ -1,9 +1,8 @@
--- What a request shows, and what it leaves of the register. Assumes nothing.
+-- What an accepted request leaves of the register is what it shows, which is no move, service by service; so of a call. Assumes nothing.
 use Prim.Native.Nat.{ℕ}
 use mathlib.Core.Bool.{Bool, true, false, not}
 use mathlib.Core.List.{List}
-use mathlib.Core.Path.{_≡_, refl, ap}
-use native.Mathlib.Omega.{arith}
+use mathlib.Core.Path.{_≡_, refl}
 use lib.Dec.{eqb, ltb}
 use Rattle.xdr.specs.Choose.{choose}
 use Rattle.xdr.proofs.Tests.{by-test}
@@ -14,191 +13,168 @@ use Rattle.requests.specs.declared.MoverRequest.{MoverRequest}
 use Rattle.requests.specs.declared.MoverRequest.the-variants as MoverRequest
 use Rattle.requests.specs.declared.JointRequest.{JointRequest}
 use Rattle.requests.specs.declared.JointRequest.the-variants as JointRequest
-use Rattle.requests.specs.declared.ConnectRequest.{ConnectRequest}
-use Rattle.requests.specs.declared.ConnectRequest.the-variants as ConnectRequest
 use Rattle.requests.specs.declared.Request.{Request}
 use Rattle.requests.specs.declared.Request.the-variants as Request
-use Rattle.replies.specs.Replies.{numberOf}
 use Rattle.replies.specs.declared.Reply.{Reply}
-use Rattle.replies.specs.declared.Notice.{Notice}
 use Rattle.session.specs.declared.types.Data.{Data}
 use Rattle.session.specs.declared.types.Mover.{Mover}
 use Rattle.session.specs.declared.types.Tape.{Tape}
 use Rattle.session.specs.declared.types.Session.{Session}
-use Rattle.session.specs.Judge.{Test, first, Outcome, refuse, accept, judge, allowed, settled, isAccepted}
-use Rattle.session.proofs.JudgeLaws.{outcome-part}
-use Rattle.session.specs.Parts.{restData, dataTo, dataStarts, dataJoined, moverJoined}
-use Rattle.session.specs.DataService.{knownTests, dataListen, dataStart, dataStop, dataStep, dataServed}
-use Rattle.session.specs.MoverService.{moverState, joinOf, moverListen, continueTests, moverContinue, moverStopTests, moverStop, windowTests, setWindow, moverReadTests, moverRead, sizeTests, setSize, moverStep}
-use Rattle.session.specs.TapeService.{moverPartStep, tapeStep}
-use Rattle.session.specs.Joint.{Ends, ends, dataConnectTests, dataConnect, moverConnect, abortTests, dataAborted, dataAbort, moverAborted, moverAbort, closeTests, moverClose, jointStep}
+use Rattle.session.specs.declared.Ends.{Ends}
+use Rattle.session.specs.Names.{leastRoom}
+use Rattle.session.specs.Judge.{Outcome, refuse, accept, onto, isAccepted, Accepts}
+use Rattle.session.specs.Parts.{dataJoined, moverJoined}
+use Rattle.session.specs.DataService.{dataState, dataListen, dataStart, dataStop, dataStep}
+use Rattle.session.specs.MoverService.{moverState, moverListen, moverContinue, moverStop, setWindow, moverRead, setSize, moverStep}
+use Rattle.session.specs.TapeService.{withLoaded, withMover, moverPartStep, tapeStep}
+use Rattle.session.specs.Joint.{dataConnect, moverConnect, dataAborted, dataAbort, moverAborted, moverAbort, moverClose, jointStep}
 use Rattle.session.specs.Relation.{keeps}
-use Rattle.session.specs.Answer.{Kept, Lent, Answered, answered, requested, judged, connected, noticed, requestIn}
-use Rattle.moves.specs.Sequence.{Seen, Sized, Windowed, MoverStopped, DataStopped, Nothing, Register, partsRegister, registerOf, after, Fits, isHeard, moverShown, dataShown, shown}
+use Rattle.session.specs.Answer.{Kept, Lent, Answered, guarded, answered, requested, judged, isClose, settled, verdict, outcome, closing}
+use Rattle.session.specs.Answer.{Done, tapePart, withData, withTape, withChanger, withLogin, withEnds, requestIn}
+use Rattle.session.proofs.JudgeLaws.{judged-by, accepts, accepts-any, refusal-says, carried}
+use Rattle.session.proofs.Keeping.{clash}
+use Rattle.session.proofs.Calls.{noticed-holds}
+use Rattle.moves.specs.Sequence.{Seen, Sized, Windowed, MoverStopped, DataStopped, Nothing, partsRegister, registerOf, after, Fits, isHeard, moverAsked, dataAsked, asked}
 
--- an accepted stop leaves the data end at rest
-accept-is : {r s : Reply} {x y : Data} → accept r x ≡ accept s y → x ≡ y
-accept-is e = cc
-
-stop-rests : (d : Data) (known : Bool) (r : Reply) (y : Data) → allowed known (dataStop d) ≡ accept r y → y ≡ restData
-unfolding allowed dataStop judge
-stop-rests d known r y =
-    by-test (λ (o : Outcome Data). o ≡ accept r y → y ≡ restData) known _ _
-    (λ _. by-test (λ (o : Outcome Data). o ≡ accept r y → y ≡ restData) (not (eqb (d .state) 2)) _ _ (λ _ e. absurd (let z : _≡_ {A = ℕ} 0 1 = cc in omega arith)) (λ _ e. cc))
-    (λ _ e. absurd (let z : _≡_ {A = ℕ} 0 1 = cc in omega arith))
-
--- ---- the mover and the data end
+-- ---- the mover and the data end: what is shown makes the next register, and fits the one before
 module _ (d : Data) (m : Mover) where
-  Same : Mover → Type 0
-  Same x = partsRegister d x ≡ partsRegister d m
+  Shown : Seen → Data → Mover → Type 0
+  Shown x e n = (partsRegister e n ≡ after (partsRegister d m) x) × Fits (partsRegister d m) x
 
-  -- accepted or refused, the register stays
-  both : (b : Bool) (x : Mover) → Same x → Same (choose b x m)
-  unfolding Same
-  both b x h = by-test Same b x m (λ _. h) (λ _. refl)
+  MoverShown : Seen → Reply → Mover → Type 0
+  MoverShown x _ n = Shown x d n
 
-  -- accepted, the register is what was shown makes of it
-  accepted : (b : Bool) (x : Mover) (what : Seen) → partsRegister d x ≡ after (partsRegister d m) what
-      → partsRegister d (choose b x m) ≡ after (partsRegister d m) (choose b what Nothing)
-  unfolding choose after
-  accepted true x what h = h
-  accepted false x what h = refl
+  mover-shown : (t : Tape) (q : MoverRequest) → Accepts (MoverShown (moverAsked q)) (moverStep m t q)
+  unfolding moverStep moverState moverListen moverContinue moverStop setWindow moverRead setSize moverAsked after MoverShown Shown
+  mover-shown t MoverRequest.State = accepts (MoverShown Nothing) _ _ _ (λ _. (refl, tt))
+  mover-shown t (MoverRequest.Listen mode address) = accepts (MoverShown Nothing) _ _ _ (λ _. (refl, tt))
+  mover-shown t MoverRequest.Continue = accepts (MoverShown Nothing) _ _ _ (λ _. (refl, tt))
+  mover-shown t MoverRequest.Stop = accepts (MoverShown MoverStopped) _ _ _ (λ _. (refl, tt))
+  mover-shown t (MoverRequest.Window offset length) = accepts (MoverShown (Windowed offset length)) _ _ _ (λ _. (refl, tt))
+  mover-shown t (MoverRequest.Read offset length) = accepts (MoverShown Nothing) _ _ _ (λ _. (refl, tt))
+  mover-shown t (MoverRequest.Size size) = accepts (MoverShown (Sized size)) _ _ _ (λ _. (refl, tt))
 
-  mover-register : (known : Bool) (t : Tape) (q : MoverRequest)
-      → partsRegister d (moverStep known m t q .part) ≡ after (partsRegister d m) (moverShown known m q)
-  unfolding moverStep moverState moverListen moverContinue moverStop setWindow moverRead setSize moverShown numberOf after Same
-  mover-register known t MoverRequest.State = both (eqb (first (knownTests known)) 0) m refl
-  mover-register known t (MoverRequest.Listen mode address) = both (eqb (first (joinOf known m t mode address false)) 0) _ refl
-  mover-register known t MoverRequest.Continue = both (eqb (first (continueTests known (t .opened) (t .writable) (m .state) (m .mode) (m .length))) 0) _ refl
-  mover-register known t MoverRequest.Stop = accepted (eqb (first (moverStopTests known (m .state))) 0) _ MoverStopped refl
-  mover-register known t (MoverRequest.Window offset length) =
-      accepted (eqb (first (windowTests known (m .state) (m .mode) (m .size) (m .moved) offset length)) 0) _ (Windowed offset length) refl
-  mover-register known t (MoverRequest.Read offset length) =
-      both (eqb (first (moverReadTests known (m .state) (m .mode) (m .left) offset length)) 0) _ refl
-  mover-register known t (MoverRequest.Size size) = accepted (eqb (first (sizeTests known (m .state) size)) 0) _ (Sized size) refl
+  DataShown : Seen → Reply → Data → Type 0
+  DataShown x _ e = Shown x e m
 
-  SameData : Data → Type 0
-  SameData x = partsRegister x m ≡ partsRegister d m
+  data-shown : (q : DataRequest) (body : List ℕ) → Accepts (DataShown (dataAsked q)) (dataStep d q body)
+  unfolding dataStep dataState dataListen dataStart dataStop dataAsked after DataShown Shown
+  data-shown DataRequest.State body = accepts (DataShown Nothing) _ _ _ (λ _. (refl, tt))
+  data-shown (DataRequest.Backup name) body = accepts (DataShown Nothing) _ _ _ (λ _. (refl, tt))
+  data-shown (DataRequest.Recover name) body = accepts (DataShown Nothing) _ _ _ (λ _. (refl, tt))
+  data-shown DataRequest.Stop body = accepts (DataShown DataStopped) _ _ _ (λ _. (refl, tt))
+  data-shown (DataRequest.Listen address) body = accepts (DataShown Nothing) _ _ _ (λ _. (refl, tt))
 
-  -- accepted or refused, the register stays
-  both-data : (f : ℕ → Reply) (known : Bool) (ts : List Test) (r : Reply) (x : Data) → SameData x → SameData (settled d f (allowed known (judge ts (accept r x))) .part)
-  unfolding SameData
-  both-data f known ts r x h = outcome-part SameData d f known refl ts r x (λ _. h)
+  EndsShown : Ends → Type 0
+  EndsShown e = Shown Nothing (e .source) (e .mover)
 
-  -- accepted, the register is what was shown makes of it
-  accepted-data : (f : ℕ → Reply) (what : Seen) (x : Data) → partsRegister x m ≡ after (partsRegister d m) what → (o : Outcome Data)
-      → ((r : Reply) (y : Data) → o ≡ accept r y → y ≡ x) → partsRegister (settled d f o .part) m ≡ after (partsRegister d m) (choose (isAccepted o) what Nothing)
-  unfolding settled isAccepted choose after
-  accepted-data f what x h (refuse e) k = refl
-  accepted-data f what x h (accept r y) k = rw (k r y refl) h
+  joint-shown : (t : Tape) (q : JointRequest) → Accepts (λ _ e. EndsShown e) (jointStep d m t q)
+  unfolding jointStep dataAbort dataConnect moverAbort moverClose moverConnect dataAborted moverAborted after EndsShown Shown
+  joint-shown t JointRequest.DataAbort =
+      accepts (λ _ e. EndsShown e) _ _ _ (λ _. by-test EndsShown (dataJoined (d .state)) _ _ (λ _. (refl, tt)) (λ _. (refl, tt)))
+  joint-shown t (JointRequest.DataConnect address) = accepts (λ _ e. EndsShown e) _ _ _ (λ _. (refl, tt))
+  joint-shown t JointRequest.MoverAbort =
+      accepts (λ _ e. EndsShown e) _ _ _ (λ _. by-test EndsShown (moverJoined (m .state)) _ _ (λ _. (refl, tt)) (λ _. (refl, tt)))
+  joint-shown t JointRequest.MoverClose = accepts (λ _ e. EndsShown e) _ _ _ (λ _. (refl, tt))
+  joint-shown t (JointRequest.MoverConnect mode address) = accepts (λ _ e. EndsShown e) _ _ _ (λ _. (refl, tt))
 
-  data-register : (known : Bool) (q : DataRequest) (body : List ℕ)
-      → partsRegister (dataServed known d q body .part) m ≡ after (partsRegister d m) (dataShown known d q)
-  unfolding dataStep dataListen dataStart dataShown after SameData
-  data-register known DataRequest.State body = both-data _ known _ _ d refl
-  data-register known (DataRequest.Backup name) body = both-data _ known _ _ (dataStarts 1 d) refl
-  data-register known (DataRequest.Recover name) body = both-data _ known _ _ (dataStarts 2 d) refl
-  data-register known DataRequest.Stop body = accepted-data _ DataStopped restData refl (allowed known (dataStop d)) (λ r y e. stop-rests d known r y e)
-  data-register known (DataRequest.Listen address) body = both-data _ known _ _ (dataTo 3 d) refl
+-- ---- two values behind one guard
+guards-two : {A B : Type 0} (P : A → B → Type 0) (a b c : Bool) (i : ℕ → A) (j : ℕ → B) (x : A) (y : B) → ((code : ℕ) → P (i code) (j code)) → P x y
+    → P (choose a (i 1001) (choose (not b) (i 1002) (choose c (i 0) x))) (choose a (j 1001) (choose (not b) (j 1002) (choose c (j 0) y)))
+unfolding choose
+guards-two P true b c i j x y h g = h 1001
+guards-two P false false c i j x y h g = h 1002
+guards-two P false true true i j x y h g = h 0
+guards-two P false true false i j x y h g = g
 
-  SameEnds : Ends → Type 0
-  SameEnds x = partsRegister (x .source) (x .mover) ≡ partsRegister d m
+by-two : {A B : Type 0} (P : A → B → Type 0) (s : Session) (room : ℕ) (i : ℕ → A) (j : ℕ → B) (x : A) (y : B) → ((code : ℕ) → P (i code) (j code)) → P x y
+    → P (guarded s room i x) (guarded s room j y)
+unfolding guarded
+by-two P s room i j x y h g = guards-two P (ltb room leastRoom) (keeps s) (s .closed) i j x y h g
 
-  both-ends : (b : Bool) (x : Ends) → SameEnds x → SameEnds (choose b x (ends d m))
-  unfolding SameEnds
-  both-ends b x h = by-test SameEnds b x (ends d m) (λ _. h) (λ _. refl)
+-- a record that is framed and a request, and one that is not
+framed-two : {A : Type 0} (P : A → Bool → Type 0) (framed request : Bool) (skip close x : A) → P skip false → P close false → P x true
+    → P (choose framed (choose (not request) skip x) close) (choose framed request false)
+unfolding choose
+framed-two P true true skip close x a b c = c
+framed-two P true false skip close x a b c = a
+framed-two P false request skip close x a b c = b
 
-  joint-register : (known : Bool) (t : Tape) (q : JointRequest) → SameEnds (jointStep known d m t q .part)
-  unfolding jointStep dataAbort dataConnect moverAbort moverClose moverConnect dataAborted moverAborted SameEnds
-  joint-register known t JointRequest.DataAbort =
-      both-ends (eqb (first (abortTests known (d .state) 2)) 0) (dataAborted d m) (by-test SameEnds (dataJoined (d .state)) _ _ (λ _. refl) (λ _. refl))
-  joint-register known t (JointRequest.DataConnect address) = both-ends (eqb (first (dataConnectTests known (d .state) (m .state) address)) 0) _ refl
-  joint-register known t JointRequest.MoverAbort =
-      both-ends (eqb (first (abortTests known (m .state) 4)) 0) (moverAborted d m) (by-test SameEnds (moverJoined (m .state)) _ _ (λ _. refl) (λ _. refl))
-  joint-register known t JointRequest.MoverClose = both-ends (eqb (first (closeTests known (m .state))) 0) _ refl
-  joint-register known t (JointRequest.MoverConnect mode address) =
-      both-ends (eqb (first (joinOf known m t mode address (not (eqb (d .state) 3)))) 0) _ refl
-
--- a notice leaves the register
-pub noticed-register : (R : Register) (time why : ℕ) (n : Notice) (a : Answered) → registerOf (a .next .session) ≡ R → registerOf (noticed time why n a .next .session) ≡ R
-unfolding noticed
-noticed-register R time why n a h = by-test (λ (x : Answered). registerOf (x .next .session) ≡ R) (eqb why 0) _ _ (λ _. h) (λ _. h)
-
+-- ---- a request call
 module _ (k : Kept) (l : Lent) (r : List ℕ) where
-  Left : Seen → Answered → Type 0
-  Left x b = registerOf (b .next .session) ≡ after (registerOf (k .session)) x
+  Left : Seen → Kept → Type 0
+  Left x n = (registerOf (n .session) ≡ after (registerOf (k .session)) x) × Fits (registerOf (k .session)) x
 
-  connected-register : (q : ConnectRequest) → Left Nothing (connected k l r q)
-  unfolding Left connected after
-  connected-register (ConnectRequest.Open version) = refl
-  connected-register (ConnectRequest.Auth id password) = refl
-  connected-register ConnectRequest.OtherAuth = refl
-  connected-register ConnectRequest.Close = refl
+  DoneLeft : Seen → Reply → Done → Type 0
+  DoneLeft x _ d = Left x (d .kept)
 
-  judged-register : (q : Request) → Left (shown (k .session) q) (judged k l r q)
-  unfolding Left judged tapeStep moverPartStep shown after SameEnds
-  judged-register (Request.Data q) = data-register (k .session .source) (k .session .mover) (k .session .authorized) q (bodyOf r)
-  judged-register (Request.Mover q) = mover-register (k .session .source) (k .session .mover) (k .session .authorized) (k .session .tape) q
-  judged-register (Request.Tape q) = refl
-  judged-register (Request.Scsi q) = refl
-  judged-register (Request.Joint q) =
-      noticed-register _ (l .time) _ _ _ (noticed-register _ (l .time) _ _ _ (joint-register (k .session .source) (k .session .mover) (k .session .authorized) (k .session .tape) q))
-  judged-register (Request.Connect q) = connected-register q
-  judged-register (Request.Config q) = refl
-  judged-register Request.Unknown = refl
-  judged-register Request.Bad = refl
+  -- of the services whose part the register does not look at
+  aside : {A : Type 0} (put : A → Done) → ((p : A) → Left Nothing (put p .kept)) → (o : Outcome A) → Accepts (DoneLeft Nothing) (onto put o)
+  unfolding DoneLeft
+  aside put f o = carried (DoneLeft Nothing) put o (accepts-any (λ reply p. DoneLeft Nothing reply (put p)) (λ _ p. f p) o)
 
-  -- a test that comes before: it leaves the register and shows nothing
-  before : (b h : Bool) (x : Seen) (y z : Answered) → registerOf (y .next .session) ≡ registerOf (k .session) → Left (choose h x Nothing) z → Left (choose (choose b false h) x Nothing) (choose b y z)
-  unfolding choose Left after
-  before true h x y z p q = p
-  before false h x y z p q = q
+  outcome-left : (q : Request) → Accepts (DoneLeft (asked q)) (outcome k l r q)
+  unfolding outcome asked tapeStep moverPartStep Left DoneLeft MoverShown DataShown EndsShown Shown after
+  outcome-left Request.Unknown = refusal-says (DoneLeft Nothing) _
+  outcome-left Request.Bad = refusal-says (DoneLeft Nothing) _
+  outcome-left (Request.Connect q) = aside (withLogin k) (λ _. (refl, tt)) _
+  outcome-left (Request.Config q) = aside (withLogin k) (λ _. (refl, tt)) _
+  outcome-left (Request.Scsi q) = aside (withChanger k) (λ _. (refl, tt)) _
+  outcome-left (Request.Tape q) =
+      carried (DoneLeft Nothing) (withTape k) _ (carried (λ reply p. DoneLeft Nothing reply (withTape k p)) (withLoaded (tapePart k)) _
+      (accepts-any (λ reply p. DoneLeft Nothing reply (withTape k (withLoaded (tapePart k) p))) (λ _ _. (refl, tt)) _))
+  outcome-left (Request.Data q) =
+      carried (DoneLeft (dataAsked q)) (withData k) _ (data-shown (k .session .source) (k .session .mover) q (bodyOf r))
+  outcome-left (Request.Mover q) =
+      carried (DoneLeft (moverAsked q)) (withTape k) _ (carried (λ reply p. DoneLeft (moverAsked q) reply (withTape k p)) (withMover (tapePart k)) _
+      (mover-shown (k .session .source) (k .session .mover) (k .session .tape) q))
+  outcome-left (Request.Joint q) =
+      carried (DoneLeft Nothing) (withEnds k) _ (joint-shown (k .session .source) (k .session .mover) (k .session .tape) q)
 
-  last : (b : Bool) (x : Seen) (y z : Answered) → registerOf (y .next .session) ≡ registerOf (k .session) → Left x z → Left (choose b x Nothing) (choose (not b) y z)
-  unfolding choose Left after
-  last true x y z p q = q
-  last false x y z p q = p
+  verdict-left : (q : Request) → Accepts (DoneLeft (asked q)) (verdict k l r q)
+  unfolding verdict
+  verdict-left q = judged-by (DoneLeft (asked q)) _ _ (λ _. outcome-left q)
 
-  pub asked-register : registerOf (answered k l r .next .session) ≡ after (registerOf (k .session)) (choose (isHeard (k .session) r (l .room)) (shown (k .session) (requestIn r)) Nothing)
-  unfolding answered requested isHeard Left
-  asked-register =
-      before (ltb (l .room) 36864) _ _ _ _ refl (before (not (keeps (k .session))) _ _ _ _ refl (before (k .session .closed) _ _ _ _ refl (before (not (wellFramed r)) _ _ _ _ refl
-      (last (eqb (kindOf r) 0) _ _ _ refl (judged-register (requestIn r))))))
+  -- accepted, the register is what was shown makes of it; refused, it stays
+  settled-left : (x : Seen) (q : Request) (o : Outcome Done) → Accepts (DoneLeft x) o → Left (choose (isAccepted o) x Nothing) (settled k (l .time) r q o .next)
+  unfolding settled Accepts isAccepted choose after Left DoneLeft
+  settled-left x q (refuse e) h = (refl, tt)
+  settled-left x q (accept reply d) h =
+      let told = noticed-holds (Left x) (λ _ _ e. e) (λ _ e. e) (l .time) in
+      told (d .mwhy) _ _ (told (d .dwhy) _ _ h)
 
--- ---- nothing that a request shows is a move
-module _ (R : Register) where
-  plain : (b : Bool) (x : Seen) → Fits R x → Fits R (choose b x Nothing)
-  plain b x h = by-test (Fits R) b x Nothing (λ _. h) (λ _. tt)
+  -- a close shows nothing
+  close-shows : (q : Request) → isClose q ≡ true → asked q ≡ Nothing
+  unfolding isClose asked
+  close-shows Request.Unknown e = refl
+  close-shows Request.Bad e = refl
+  close-shows (Request.Connect q) e = refl
+  close-shows (Request.Config q) e = refl
+  close-shows (Request.Scsi q) e = refl
+  close-shows (Request.Tape q) e = refl
+  close-shows (Request.Data q) e = clash false refl e
+  close-shows (Request.Mover q) e = clash false refl e
+  close-shows (Request.Joint q) e = refl
 
-  mover-fits : (known : Bool) (m : Mover) (q : MoverRequest) → Fits R (moverShown known m q)
-  unfolding moverShown
-  mover-fits known m MoverRequest.State = tt
-  mover-fits known m (MoverRequest.Listen mode address) = tt
-  mover-fits known m MoverRequest.Continue = tt
-  mover-fits known m MoverRequest.Stop = plain (eqb (numberOf (moverStop known m .reply)) 0) MoverStopped tt
-  mover-fits known m (MoverRequest.Window offset length) = plain (eqb (numberOf (setWindow known m offset length .reply)) 0) (Windowed offset length) tt
-  mover-fits known m (MoverRequest.Read offset length) = tt
-  mover-fits known m (MoverRequest.Size size) = plain (eqb (numberOf (setSize known m size .reply)) 0) (Sized size) tt
+  close-left : (b : Bool) (x : Seen) → x ≡ Nothing → Left (choose b x Nothing) (closing k .next)
+  unfolding Left after
+  close-left b x e = rw e (by-test (λ (y : Seen). Left y (closing k .next)) b Nothing Nothing (λ _. (refl, tt)) (λ _. (refl, tt)))
 
-  data-fits : (known : Bool) (d : Data) (q : DataRequest) → Fits R (dataShown known d q)
-  unfolding dataShown
-  data-fits known d DataRequest.State = tt
-  data-fits known d (DataRequest.Backup name) = tt
-  data-fits known d (DataRequest.Recover name) = tt
-  data-fits known d DataRequest.Stop = plain (isAccepted (allowed known (dataStop d))) DataStopped tt
-  data-fits known d (DataRequest.Listen address) = tt
+  judged-left : (q : Request) → Left (choose (isAccepted (verdict k l r q)) (asked q) Nothing) (judged k l r q .next)
+  unfolding judged
+  judged-left q =
+      by-test (λ (a : Answered). Left (choose (isAccepted (verdict k l r q)) (asked q) Nothing) (a .next)) (isClose q) _ _
+      (λ e. close-left (isAccepted (verdict k l r q)) (asked q) (close-shows q e))
+      (λ _. settled-left (asked q) q (verdict k l r q) (verdict-left q))
 
-  shown-fits : (s : Session) (q : Request) → Fits R (shown s q)
-  unfolding shown
-  shown-fits s (Request.Mover q) = mover-fits (s .authorized) (s .mover) q
-  shown-fits s (Request.Data q) = data-fits (s .authorized) (s .source) q
-  shown-fits s (Request.Connect q) = tt
-  shown-fits s (Request.Config q) = tt
-  shown-fits s (Request.Scsi q) = tt
-  shown-fits s (Request.Tape q) = tt
-  shown-fits s (Request.Joint q) = tt
-  shown-fits s Request.Unknown = tt
-  shown-fits s Request.Bad = tt
+  -- of a request that is heard or not
+  HeardLeft : Seen → Answered → Bool → Type 0
+  HeardLeft x a heard = Left (choose heard x Nothing) (a .next)
 
-  pub asked-fits : (s : Session) (r : List ℕ) (room : ℕ) → Fits R (choose (isHeard s r room) (shown s (requestIn r)) Nothing)
-  asked-fits s r room = plain (isHeard s r room) (shown s (requestIn r)) (shown-fits s (requestIn r))
+  pub asked-left : let x = choose (isHeard k l r) (choose (isAccepted (verdict k l r (requestIn r))) (asked (requestIn r)) Nothing) Nothing in
+      (registerOf (answered k l r .next .session) ≡ after (registerOf (k .session)) x) × Fits (registerOf (k .session)) x
+  unfolding answered requested isHeard Left HeardLeft choose after
+  asked-left =
+      let P = HeardLeft (choose (isAccepted (verdict k l r (requestIn r))) (asked (requestIn r)) Nothing) in
+      by-two P (k .session) (l .room) _ _ _ _ (λ _. (refl, tt))
+      (framed-two P (wellFramed r) (eqb (kindOf r) 0) _ _ _ (refl, tt) (refl, tt) (judged-left (requestIn r)))

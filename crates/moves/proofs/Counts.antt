@@ -1,4 +1,4 @@
--- The counts over any sequence of moves. Assumes nothing.
+-- The counts over any sequence of moves: what one call adds, from what is seen of it, and by induction what a list adds. Assumes nothing.
 use Prim.Native.Nat.{ℕ, _+_, _*_, _/_, _%_}
 use mathlib.Core.Bool.{true, not}
 use mathlib.Core.List.{List, [], _∷_}
@@ -9,22 +9,23 @@ use lib.Dec.{eqb}
 use borrow.Author.Tests.{ne-eqb}
 use Rattle.xdr.specs.Choose.{choose}
 use Rattle.xdr.proofs.Tests.{by-test}
+use Rattle.xdr_opaque.specs.Put.{Each}
 use Rattle.session.specs.declared.types.Mover.{Mover}
 use Rattle.session.specs.Parts.{wrapped}
 use Rattle.session.specs.MoverService.{recordNumber}
 use Rattle.session.specs.Relation.{keeps}
-use Rattle.session.specs.Order.{Each}
 use Rattle.session.specs.Answer.{Kept}
-use Rattle.moves.specs.Sequence.{Event, Asked, ToTape, FromTape, Ended, Loaded, next, runs, Seen, Sized, Windowed, MoverStopped, DataStopped, Paused, Wrote, Handed, Nothing, Register, registerOf, after, seen, Fits, Legitimate, moveShown, countOf}
-use Rattle.moves.specs.Counts.{trace, replay, movedBy, recordsIn, sum, IsMove, IsToTape, Counted, Recorded, CountsHold}
-use Rattle.moves.proofs.Sequence.{goes, legitimate}
+use Rattle.moves.specs.Sequence.{Event, Asked, ToTape, FromTape, Ended, Inserted, step, runs, Seen, Sized, Windowed, MoverStopped, DataStopped, Paused, Wrote, Handed, Nothing}
+use Rattle.moves.specs.Sequence.{Register, registerOf, after, seen, Fits, Legitimate, moveShown, countOf}
+use Rattle.moves.specs.Counts.{trace, replay, movedBy, recordsIn, sum, IsMove, IsToTape, CountsOfMoves, CountsOfRecords, CountsHold}
+use Rattle.moves.proofs.Sequence.{stepped, legitimate}
 
 replayed : (w : Kept) → keeps (w .session) ≡ true → (es : List Event) → registerOf (runs w es .session) ≡ replay (registerOf (w .session)) (trace w es)
 unfolding runs trace replay
 replayed w h [] = refl
 replayed w h (e ∷ es) =
-    let g = goes w h e in
-    replayed (next e w) (g .kept) es ∙ ap (λ (r : Register). replay r (trace (next e w) es)) (g .register)
+    let g = stepped w h e in
+    replayed (step e w) (g .kept) es ∙ ap (λ (r : Register). replay r (trace (step e w) es)) (g .register)
 
 -- ---- what is seen of a move
 abbrev Moves : Seen → Type 0
@@ -54,19 +55,19 @@ by-shown P m next n what a b c =
 
 moves : (e : Event) (w : Kept) → IsMove e → Moves (seen e w)
 unfolding seen
-moves (ToTape stream last time room) w i = by-shown Moves _ _ _ _ tt tt tt
-moves (FromTape dest time room) w i = by-shown Moves _ _ _ _ tt tt tt
-moves (Loaded image) w i = tt
+moves (ToTape l stream last) w i = by-shown Moves _ _ _ _ tt tt tt
+moves (FromTape l dest) w i = by-shown Moves _ _ _ _ tt tt tt
+moves (Inserted image) w i = tt
 moves (Asked c) w i = absurd i
-moves (Ended ok time room) w i = absurd i
+moves (Ended l ok) w i = absurd i
 
 writes : (e : Event) (w : Kept) → IsToTape e → Writes (seen e w)
 unfolding seen
-writes (ToTape stream last time room) w i = by-shown Writes _ _ _ _ tt tt tt
-writes (Loaded image) w i = tt
-writes (FromTape dest time room) w i = absurd i
+writes (ToTape l stream last) w i = by-shown Writes _ _ _ _ tt tt tt
+writes (Inserted image) w i = tt
+writes (FromTape l dest) w i = absurd i
 writes (Asked c) w i = absurd i
-writes (Ended ok time room) w i = absurd i
+writes (Ended l ok) w i = absurd i
 
 -- ---- modulo 2^64
 wrap-more : (a b c : ℕ) → wrapped (wrapped (a + b) + c) ≡ wrapped (a + (b + c))
@@ -88,16 +89,16 @@ counts-after r (Windowed o n) j k m = absurd m
 counts-after r MoverStopped j k m = absurd m
 counts-after r DataStopped j k m = absurd m
 
-counted : (w : Kept) → keeps (w .session) ≡ true → (es : List Event) → Each IsMove es → Counted w es
+totalled : (w : Kept) → keeps (w .session) ≡ true → (es : List Event) → Each IsMove es → CountsOfMoves w es
 unfolding runs trace sum
-counted w h [] is = record { moved = ap wrapped (sym (add-zero _)); processed = ap wrapped (sym (add-zero _)) }
-counted w h (e ∷ es) is =
-    let g = goes w h e in
+totalled w h [] is = record { moved = ap wrapped (sym (add-zero _)); processed = ap wrapped (sym (add-zero _)) }
+totalled w h (e ∷ es) is =
+    let g = stepped w h e in
     let x = moves e w (is .0) in
-    let c = counted (next e w) (g .kept) es (is .1) in
-    let n = counts-after (registerOf (w .session)) (seen e w) (sum movedBy (trace (next e w) es)) (sum countOf (trace (next e w) es)) x in
-    let a = ap (λ (r : Register). wrapped (r .moved + sum movedBy (trace (next e w) es))) (g .register) in
-    let b = ap (λ (r : Register). wrapped (r .processed + sum countOf (trace (next e w) es))) (g .register) in
+    let c = totalled (step e w) (g .kept) es (is .1) in
+    let n = counts-after (registerOf (w .session)) (seen e w) (sum movedBy (trace (step e w) es)) (sum countOf (trace (step e w) es)) x in
+    let a = ap (λ (r : Register). wrapped (r .moved + sum movedBy (trace (step e w) es))) (g .register) in
+    let b = ap (λ (r : Register). wrapped (r .processed + sum countOf (trace (step e w) es))) (g .register) in
     record {
       moved = c .moved ∙ a ∙ n .0;
       processed = c .processed ∙ b ∙ n .1;
@@ -134,26 +135,26 @@ record Grown (w v : Kept) (k : ℕ) : Type 0 where
 
 grown-more : (w u v : Kept) (j k : ℕ) → Grown w u j → Grown u v k → Grown w v (j + k)
 grown-more w u v j k a b =
-    record {
-      size = b .size ∙ a .size;
-      moved = b .moved ∙ rw (a .size, a .moved) (add-assoc (w .session .mover .moved) (j * w .session .mover .size) (k * w .session .mover .size) ∙ ap (λ (n : ℕ). w .session .mover .moved + n) (sym (add-mul j k (w .session .mover .size))));
-    }
+    let n = w .session .mover .moved in
+    let z = w .session .mover .size in
+    let sums = add-assoc n (j * z) (k * z) ∙ ap (λ (i : ℕ). n + i) (sym (add-mul j k z)) in
+    record { size = b .size ∙ a .size; moved = b .moved ∙ rw (a .size, a .moved) sums }
 
 grown : (w : Kept) → keeps (w .session) ≡ true → (es : List Event) → Each IsToTape es → Grown w (runs w es) (sum recordsIn (trace w es))
 unfolding runs trace sum
 grown w h [] is = record { size = refl; moved = sym (ap (λ (k : ℕ). w .session .mover .moved + k) (zero-mul (w .session .mover .size)) ∙ add-zero (w .session .mover .moved)) }
 grown w h (e ∷ es) is =
-    let g = goes w h e in
+    let g = stepped w h e in
     let R = registerOf (w .session) in
     let o = one-record R (seen e w) (writes e w (is .0)) (g .fits) (legitimate (w .session) h) in
     let a = ap (λ (r : Register). r .size) (g .register) in
     let b = ap (λ (r : Register). r .moved) (g .register) in
-    grown-more w (next e w) (runs (next e w) es) (recordsIn (seen e w)) _ (record { size = a ∙ o .size; moved = b ∙ o .moved }) (grown (next e w) (g .kept) es (is .1))
+    grown-more w (step e w) (runs (step e w) es) (recordsIn (seen e w)) _ (record { size = a ∙ o .size; moved = b ∙ o .moved }) (grown (step e w) (g .kept) es (is .1))
 
-recorded : (w : Kept) → keeps (w .session) ≡ true → (es : List Event) → Each IsToTape es → Recorded w es
+recorded : (w : Kept) → keeps (w .session) ≡ true → (es : List Event) → Each IsToTape es → CountsOfRecords w es
 recorded w h es is =
     let g = grown w h es is in
     record { size = g .size; moved = g .moved; number = λ n. rw (g .size, g .moved) (number-of (w .session .mover .moved) (w .session .mover .size) (sum recordsIn (trace w es)) n) }
 
 pub counts-hold : CountsHold
-counts-hold = record { replayed = replayed; counted = counted; recorded = recorded }
+counts-hold = record { replayed = replayed; totalled = totalled; recorded = recorded }

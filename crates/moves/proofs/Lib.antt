@@ -1,4 +1,5 @@
--- `Asking` has what a request shows and leaves of the register, `Moving` what a move shows and leaves, `Sequence` what holds over any sequence of calls.
+-- `Asking` has what a request shows and leaves of the register, `Moving` what a move shows and leaves, `Sequence` what holds over any
+-- sequence of calls, `Counts` what the counts are after it.
 pub mod Asking
 pub mod Moving
 pub mod Sequence

@@ -1,5 +1,4 @@
--- One move, on the parts of a session that keep the relation: what is shown of it fits the register and is all that it did; the relation
--- and a sound image are kept. Assumes nothing.
+-- One move, test by test, on parts that keep the relation: what is shown of it fits and is all it did; it keeps the relation. Assumes nothing.
 use Prim.Native.Nat.{ℕ, zero, suc, _+_, _-_, _*_, _/_, _%_, _≤_, _<_}
 use mathlib.Core.Bool.{Bool, true, false, not}
 use mathlib.Core.List.{List}
@@ -9,27 +8,26 @@ use native.Mathlib.Nat.{div-add-mod', mul-le-mul-right, lt-of-mul-lt-mul-right, 
 use lib.ListN.{length, take, length-take}
 use lib.Dec.{eqb, ltb}
 use borrow.Author.Tests.{eq-eqb, ne-eqb, eqb-true, eqb-false, ltb-true, ltb-false}
-use Rattle.xdr.specs.Choose.{choose}
-use Rattle.xdr.proofs.Tests.{by-test, none-of, is, isnt, yes}
+use Rattle.xdr.specs.Choose.{choose, least}
+use Rattle.xdr.proofs.Tests.{by-test, none-of, is, isnt, yes, least-left, least-right, least-some}
 use Rattle.image.specs.Image.{isSound, count, entryLen, faulty}
 use Rattle.image.proofs.Laws.{placed, sound-holds}
 use Rattle.writing.specs.Writing.{roomFor, fillTo}
 use Rattle.writing.proofs.Laws.{length-fill, room-facts}
 use Rattle.writing.proofs.Theorems.{written-sound}
 use Rattle.cartridge.specs.Step.{Step, keeping}
-use Rattle.cartridge.specs.Operations.{least}
-use Rattle.cartridge.proofs.Reading.{least-left, least-right}
 use Rattle.session.specs.declared.types.Data.{Data}
 use Rattle.session.specs.declared.types.Mover.{Mover}
 use Rattle.session.specs.declared.types.Tape.{Tape}
 use Rattle.session.specs.Parts.{wrapped, moverPauses, moverHalts, moverRecords, moverHands, dataJoined, moverJoined, holdsTape}
 use Rattle.session.specs.TapeService.{movedTo}
-use Rattle.session.specs.Relation.{dataWrong, moverWrong, sameFlag, Legal, Held, Within, MoverKept}
+use Rattle.session.specs.Relation.{dataWrong, moverWrong, sameFlag, Legal, Held, InWindow, MoverKept}
 use Rattle.session.proofs.Kept.{mover-kept, kept-mover}
 use Rattle.session.proofs.Keeping.{clash, active-holds, halts-kept}
 use Rattle.moves.specs.declared.Move.{Move}
 use Rattle.moves.specs.declared.Found.{Found}
-use Rattle.moves.specs.Moves.{still, pauses, halts, takes, hands, idle, ending, scant, writing, filling, toTape, outside, ordinal, inRecord, walk, amount, Handing, untouched, reading, onFound, sought, seeking, fromTape, methodEnd}
+use Rattle.moves.specs.Moves.{still, pauses, halts, takes, hands, idle, streamEnds, scant, writing, filling, toTape}
+use Rattle.moves.specs.Moves.{outside, ordinal, inRecord, seekFrom, amount, Handing, untouched, reading, onFound, sought, seeking, fromTape, methodEnd}
 use Rattle.moves.specs.Sequence.{Seen, Wrote, Handed, Paused, Nothing, partsRegister, after, Fits, moveShown, imageAfter, soughtEntry, destAfter, countOf}
 
 -- the relation, on the parts that a move may change
@@ -82,14 +80,14 @@ module _ (d : Data) (m : Mover) (what : ℕ → Seen) where
   pauses-turn t why e = turn-by (pauses why d m t) Paused (shown-pause m (what 0) why e) tt refl refl
 
 -- ---- the relation after each
-pub record Runs (mode operation : ℕ) (d : Data) (m : Mover) : Type 0 where
+pub record Running (mode operation : ℕ) (d : Data) (m : Mover) : Type 0 where
   pub active : m .state ≡ 2
   pub moded : m .mode ≡ mode
   pub feeding : d .state ≡ 1
 
-pub runs : (mode operation : ℕ) (d : Data) (m : Mover) → idle mode operation d m ≡ false → Runs mode operation d m
+pub running : (mode operation : ℕ) (d : Data) (m : Mover) → idle mode operation d m ≡ false → Running mode operation d m
 unfolding idle
-runs mode operation d m h =
+running mode operation d m h =
     let a = none-of _ h in
     let b = none-of _ (a .1) in
     let c = none-of _ (b .1) in
@@ -137,7 +135,7 @@ whole-more s a b c h =
 times : (a s : ℕ) → a % s ≡ 0 → a / s * s ≡ a
 times a s h = let e = div-add-mod' a s in omega arith
 
-one-more : (s o n v : ℕ) → Legal s o n → Within s o n v → (v ≡ o + n → ⊥) → v + s ≤ o + n
+one-more : (s o n v : ℕ) → Legal s o n → InWindow s o n v → (v ≡ o + n → ⊥) → v + s ≤ o + n
 one-more s o n v w p h =
     let a = times v s (p .records) in
     let b = times o s (w .offsets) in
@@ -147,13 +145,9 @@ one-more s o n v w p h =
     let g = whole-more s (v / s) (o / s) (n / s) lt in
     omega arith
 
-least-some : (a b : ℕ) → 1 ≤ a → 1 ≤ b → 1 ≤ least a b
-unfolding least
-least-some a b h k = by-test (λ (n : ℕ). 1 ≤ n) (ltb a b) a b (λ _. h) (λ _. k)
-
 -- where the part is not the empty last one, nor less than a record and not last, there is something to take
-some-taken : (last : Bool) (n size : ℕ) → ending last n ≡ false → scant last n size ≡ false → 1 ≤ size → 1 ≤ least n size
-unfolding ending scant choose
+some-taken : (last : Bool) (n size : ℕ) → streamEnds last n ≡ false → scant last n size ≡ false → 1 ≤ size → 1 ≤ least n size
+unfolding streamEnds scant choose
 some-taken true n size e f h = let z : n ≡ 0 → ⊥ = eqb-false n 0 e in least-some n size (omega arith) h
 some-taken false n size e f h = let z : size ≤ n = ltb-false n size f in least-some n size (omega arith) h
 
@@ -192,7 +186,7 @@ module _ (d : Data) (m : Mover) (t : Tape) (l s : List ℕ) (k : PartsKept d m t
         sound = λ h. h;
       }
 
-  module _ (r : Runs 0 1 d m) (n : ℕ) (some : 1 ≤ n) (part : n ≤ m .size) (room : m .moved + m .size ≤ m .offset + m .length) where
+  module _ (r : Running 0 1 d m) (n : ℕ) (some : 1 ≤ n) (part : n ≤ m .size) (room : m .moved + m .size ≤ m .offset + m .length) where
     held : Held m t
     held = facts d m t k .hold (active-holds (m .state) (r .active))
 
@@ -241,11 +235,11 @@ module _ (d : Data) (m : Mover) (t : Tape) (l s : List ℕ) (k : PartsKept d m t
       let z = facts d m t k .sizes in
       sound-holds _ (written-sound l (t .position) _ (placed l (t .position) f) (omega arith) (room-facts l (t .position) _ (rw e r)))
 
-  writes-to : (last : Bool) → idle 0 1 d m ≡ false → faulty l (t .position) ≡ false → ending last (length s) ≡ false → (m .moved ≡ m .offset + m .length → ⊥)
+  writes-to : (last : Bool) → idle 0 1 d m ≡ false → faulty l (t .position) ≡ false → streamEnds last (length s) ≡ false → (m .moved ≡ m .offset + m .length → ⊥)
       → scant last (length s) (m .size) ≡ false → roomFor l (t .position) (m .size) ≡ true → ToTurn d m t l s (writing d m t l s)
   unfolding imageAfter
   writes-to last i f z w c r =
-      let g = runs 0 1 d m i in
+      let g = running 0 1 d m i in
       let h = facts d m t k in
       let u = h .runs (g .moded) (g .active) in
       let n = least (length s) (m .size) in
@@ -268,9 +262,9 @@ module _ (d : Data) (m : Mover) (t : Tape) (l s : List ℕ) (k : PartsKept d m t
       by-test P _ _ _ (λ _. still-to)
       (λ i. by-test P _ _ _ (λ _. halts-to 4 5)
       (λ f. by-test P _ _ _ (λ _. halts-to 1 1)
-      (λ z. by-test P _ _ _ (λ _. pauses-to 5 (runs 0 1 d m i .active))
+      (λ z. by-test P _ _ _ (λ _. pauses-to 5 (running 0 1 d m i .active))
       (λ w. by-test P _ _ _ (λ _. still-to)
-      (λ c. by-test P _ _ _ (λ _. pauses-to 1 (runs 0 1 d m i .active))
+      (λ c. by-test P _ _ _ (λ _. pauses-to 1 (running 0 1 d m i .active))
       (λ r. writes-to last i f z (isnt w) c (yes r)))))))
 
 -- ---- from tape
@@ -282,11 +276,11 @@ on-target f i n k j true b p q r e = absurd (let z : _≡_ {A = ℕ} 0 1 = cc in
 on-target f i n k j false true p q r e = let z : i ≡ j = cc in let h = p refl in (omega arith, omega arith)
 on-target f i n k j false false p q r e = let h = q refl in let g = r h e in (omega arith, omega arith)
 
-pub target-at : (l : List ℕ) (n i k j : ℕ) → walk l n i k ≡ Found.Target j → (j ≡ i + k) × (j < i + n)
-unfolding walk
+pub target-at : (l : List ℕ) (n i k j : ℕ) → seekFrom l n i k ≡ Found.Target j → (j ≡ i + k) × (j < i + n)
+unfolding seekFrom
 target-at l zero i k j h = absurd (let z : _≡_ {A = ℕ} 0 1 = cc in omega arith)
 target-at l (suc n) i k j h =
-    on-target (walk l n (i + 1) (k - 1)) i n k j (eqb (entryLen l i) 0) (eqb k 0) (λ e. eqb-true k 0 e) (λ e. let z : k ≡ 0 → ⊥ = eqb-false k 0 e in omega arith)
+    on-target (seekFrom l n (i + 1) (k - 1)) i n k j (eqb (entryLen l i) 0) (eqb k 0) (λ e. eqb-true k 0 e) (λ e. let z : k ≡ 0 → ⊥ = eqb-false k 0 e in omega arith)
     (λ _ e. target-at l n (i + 1) (k - 1) j e) h
 
 -- a record of the window does not reach past its end
@@ -313,14 +307,15 @@ module _ (d : Data) (m : Mover) (t : Tape) (l b : List ℕ) (k : PartsKept d m t
   halts-from : (dwhy mwhy : ℕ) → FromTurn d m t l b (untouched b (halts dwhy mwhy d m t))
   unfolding destAfter
   halts-from dwhy mwhy =
-      record { turn = halts-turn d m _ t dwhy mwhy; dest-end = rw (shown-halt m (Handed (m .seek) 0) (moverHalts mwhy m) refl) refl; room = omega arith; exact = λ z. absurd (z refl); kept = halts-keep d m t k dwhy mwhy }
+      let e = shown-halt m (Handed (m .seek) 0) (moverHalts mwhy m) refl in
+      record { turn = halts-turn d m _ t dwhy mwhy; dest-end = rw e refl; room = omega arith; exact = λ z. absurd (z refl); kept = halts-keep d m t k dwhy mwhy }
 
   pauses-from : (u : Tape) (why : ℕ) → m .state ≡ 2 → FromTurn d m t l b (untouched b (pauses why d m u))
   unfolding destAfter
   pauses-from u why e =
       record { turn = pauses-turn d m _ u why e; dest-end = rw (shown-pause m (Handed (m .seek) 0) why e) refl; room = omega arith; exact = λ z. absurd (z refl); kept = pauses-keep d m t k u why e }
 
-  module _ (r : Runs 1 2 d m) (n i : ℕ) (some : 1 ≤ n) (asked : n ≤ m .left) (low : m .offset ≤ m .seek) (high : m .seek + n ≤ m .offset + m .length)
+  module _ (r : Running 1 2 d m) (n i : ℕ) (some : 1 ≤ n) (asked : n ≤ m .left) (low : m .offset ≤ m .seek) (high : m .seek + n ≤ m .offset + m .length)
       (part : inRecord m + n ≤ m .size) (at : i ≡ m .origin + ordinal m) where
     hands-held : Held m t
     hands-held = facts d m t k .hold (active-holds (m .state) (r .active))
@@ -358,7 +353,7 @@ module _ (d : Data) (m : Mover) (t : Tape) (l b : List ℕ) (k : PartsKept d m t
       → FromTurn d m t l b (reading i d m t l b)
   unfolding reading destAfter outside amount
   reading-from i h left room inside at =
-      let g = runs 1 2 d m h in
+      let g = running 1 2 d m h in
       let f = facts d m t k in
       let w = f .window (f .hold (active-holds (m .state) (g .active)) .window) in
       let a = none-of _ inside in
@@ -390,8 +385,8 @@ module _ (d : Data) (m : Mover) (t : Tape) (l b : List ℕ) (k : PartsKept d m t
       → FromTurn d m t l b (onFound f d m t l b)
   unfolding onFound
   found-from (Found.Target i) h left room inside e = reading-from i h left room inside (target-at l (count l - m .origin) (m .origin) (ordinal m) i e .0)
-  found-from (Found.Mark j) h left room inside e = pauses-from (movedTo j t) 2 (runs 1 2 d m h .active)
-  found-from Found.End h left room inside e = pauses-from (movedTo (count l) t) 1 (runs 1 2 d m h .active)
+  found-from (Found.Mark j) h left room inside e = pauses-from (movedTo j t) 2 (running 1 2 d m h .active)
+  found-from Found.End h left room inside e = pauses-from (movedTo (count l) t) 1 (running 1 2 d m h .active)
 
   pub from-turn : FromTurn d m t l b (fromTape d m t l b)
   unfolding fromTape seeking
@@ -401,7 +396,7 @@ module _ (d : Data) (m : Mover) (t : Tape) (l b : List ℕ) (k : PartsKept d m t
       (λ h. by-test P _ _ _ (λ _. halts-from 4 5)
       (λ _. by-test P _ _ _ (λ _. still-from)
       (λ left. by-test P _ _ _ (λ _. still-from)
-      (λ room. by-test P _ _ _ (λ _. pauses-from t 3 (runs 1 2 d m h .active))
+      (λ room. by-test P _ _ _ (λ _. pauses-from t 3 (running 1 2 d m h .active))
       (λ inside. found-from (sought m l) h (isnt left) (isnt room) inside refl)))))
 
 -- ---- the method's end: it shows nothing and leaves the register

@@ -5,17 +5,17 @@ use Prim.Native.Nat.{ℕ, _+_, _*_, _/_, _%_}
 use mathlib.Core.Bool.{true}
 use mathlib.Core.List.{List, [], _∷_}
 use mathlib.Core.Path.{_≡_}
+use Rattle.xdr_opaque.specs.Put.{Each}
 use Rattle.session.specs.Parts.{wrapped}
 use Rattle.session.specs.MoverService.{recordNumber}
 use Rattle.session.specs.Relation.{keeps}
-use Rattle.session.specs.Order.{Each}
 use Rattle.session.specs.Answer.{Kept}
-use Rattle.moves.specs.Sequence.{Event, Asked, ToTape, FromTape, Ended, Loaded, next, runs, Seen, Sized, Windowed, MoverStopped, DataStopped, Paused, Wrote, Handed, Nothing, Register, registerOf, after, seen, countOf}
+use Rattle.moves.specs.Sequence.{Event, Asked, ToTape, FromTape, Ended, Inserted, step, runs, Seen, Sized, Windowed, MoverStopped, DataStopped, Paused, Wrote, Handed, Nothing, Register, registerOf, after, seen, countOf}
 
 -- what is seen of a list of calls, and the register that is replayed from it
 unfoldable pub trace : Kept → List Event → List Seen
 trace w [] = []
-trace w (e ∷ es) = seen e w ∷ trace (next e w) es
+trace w (e ∷ es) = seen e w ∷ trace (step e w) es
 
 unfoldable pub replay : Register → List Seen → Register
 replay r [] = r
@@ -47,26 +47,26 @@ sum f [] = 0
 sum f (x ∷ xs) = f x + sum f xs
 
 abbrev pub IsMove : Event → Type 0
-IsMove (ToTape stream last time room) = Unit {0}
-IsMove (FromTape dest time room) = Unit {0}
+IsMove (ToTape l stream last) = Unit {0}
+IsMove (FromTape l dest) = Unit {0}
 IsMove (Asked c) = ⊥
-IsMove (Ended ok time room) = ⊥
-IsMove (Loaded image) = Unit {0}
+IsMove (Ended l ok) = ⊥
+IsMove (Inserted image) = Unit {0}
 
 abbrev pub IsToTape : Event → Type 0
-IsToTape (ToTape stream last time room) = Unit {0}
-IsToTape (FromTape dest time room) = ⊥
+IsToTape (ToTape l stream last) = Unit {0}
+IsToTape (FromTape l dest) = ⊥
 IsToTape (Asked c) = ⊥
-IsToTape (Ended ok time room) = ⊥
-IsToTape (Loaded image) = Unit {0}
+IsToTape (Ended l ok) = ⊥
+IsToTape (Inserted image) = Unit {0}
 
 -- after moves either way: `countOf` is what each call told as taken or handed over
-pub record Counted (w : Kept) (es : List Event) : Type 0 where
+pub record CountsOfMoves (w : Kept) (es : List Event) : Type 0 where
   pub moved : wrapped (runs w es .session .mover .moved) ≡ wrapped (w .session .mover .moved + sum movedBy (trace w es))
   pub processed : wrapped (runs w es .session .source .processed) ≡ wrapped (w .session .source .processed + sum countOf (trace w es))
 
 -- after moves to tape: no count wraps, and the record number goes up by one a record
-pub record Recorded (w : Kept) (es : List Event) : Type 0 where
+pub record CountsOfRecords (w : Kept) (es : List Event) : Type 0 where
   pub size : runs w es .session .mover .size ≡ w .session .mover .size
   pub moved : runs w es .session .mover .moved ≡ w .session .mover .moved + sum recordsIn (trace w es) * w .session .mover .size
   pub number : (w .session .mover .size ≡ 0 → ⊥)
@@ -76,5 +76,5 @@ pub record Recorded (w : Kept) (es : List Event) : Type 0 where
 pub record CountsHold : Type 0 where
   -- of any sequence of calls, the closing register is what is replayed from what was seen
   pub replayed : (w : Kept) → keeps (w .session) ≡ true → (es : List Event) → registerOf (runs w es .session) ≡ replay (registerOf (w .session)) (trace w es)
-  pub counted : (w : Kept) → keeps (w .session) ≡ true → (es : List Event) → Each IsMove es → Counted w es
-  pub recorded : (w : Kept) → keeps (w .session) ≡ true → (es : List Event) → Each IsToTape es → Recorded w es
+  pub totalled : (w : Kept) → keeps (w .session) ≡ true → (es : List Event) → Each IsMove es → CountsOfMoves w es
+  pub recorded : (w : Kept) → keeps (w .session) ≡ true → (es : List Event) → Each IsToTape es → CountsOfRecords w es

@@ -6,17 +6,16 @@ use mathlib.Core.List.{List}
 use mathlib.Core.Path.{_≡_}
 use lib.ListN.{length, take, drop}
 use lib.Dec.{eqb, ltb}
-use Rattle.xdr.specs.Choose.{choose}
+use Rattle.xdr.specs.Choose.{choose, least}
 use Rattle.xdr.specs.Xdr.{overlay}
 use Rattle.image.specs.Image.{count, entryLen, entryBytes, faulty}
 use Rattle.writing.specs.Writing.{roomFor, written, fillTo}
 use Rattle.cartridge.specs.Step.{Step, keeping}
-use Rattle.cartridge.specs.Operations.{least}
 use Rattle.session.specs.declared.types.Data.{Data}
 use Rattle.session.specs.declared.types.Mover.{Mover}
 use Rattle.session.specs.declared.types.Tape.{Tape}
-use Rattle.session.specs.Names.{toTapeMode, fromTapeMode, dataSuccessful, dataInternalError, dataConnectError, moverConnectClosed, moverMediaError, endOfMedium, endOfFile, seekOutside, endOfWindow}
-use Rattle.session.specs.Parts.{dataHalts, dataFed, moverPauses, moverHalts, moverRecords, moverHands}
+use Rattle.session.specs.Names.{dataActive, moverActive, toTapeMode, fromTapeMode, backupOperation, recoverOperation, dataSuccessful, dataInternalError, dataConnectError, moverConnectClosed, moverMediaError, endOfMedium, endOfFile, seekOutside, endOfWindow}
+use Rattle.session.specs.Parts.{dataHalts, dataFed, moverPauses, moverHalts, moverRecords, moverHands, windowEnd}
 use Rattle.session.specs.TapeService.{movedTo}
 use Rattle.moves.specs.declared.Move.{Move}
 use Rattle.moves.specs.declared.Found.{Found}
@@ -40,17 +39,17 @@ abbrev pub hands : ℕ → ℕ → Data → Mover → Tape → Move
 hands n i d m t = record { count = n; dwhy = 0; mwhy = 0; pause = 0; source = dataFed n d; mover = moverHands n m; tape = movedTo (i + 1) t }
 
 -- ---- to tape
--- "mover not ACTIVE in mode 0, or data not ACTIVE in a backup"; and likewise from tape, with mode 1 and a recover, which is operation 2
+-- "mover not ACTIVE in mode 0, or data not ACTIVE in a backup"; and likewise from tape, with mode 1 and a recover
 unfoldable pub idle : ℕ → ℕ → Data → Mover → Bool
 idle mode operation d m =
-    choose (not (eqb (m .state) 2)) true
+    choose (not (eqb (m .state) moverActive)) true
     (choose (not (eqb (m .mode) mode)) true
-    (choose (not (eqb (d .state) 1)) true
+    (choose (not (eqb (d .state) dataActive)) true
     (not (eqb (d .operation) operation))))
 
 -- "stream part empty and marked last"
-unfoldable pub ending : Bool → ℕ → Bool
-ending last n = choose last (eqb n 0) false
+unfoldable pub streamEnds : Bool → ℕ → Bool
+streamEnds last n = choose last (eqb n 0) false
 
 -- "less than a record and not last"
 unfoldable pub scant : Bool → ℕ → ℕ → Bool
@@ -68,7 +67,7 @@ writing d m t l s =
 -- EOM 1; (7) one record is taken and written"
 unfoldable pub filling : Data → Mover → Tape → List ℕ → List ℕ → Bool → Step Move
 filling d m t l s last =
-    choose (eqb (m .moved) (m .offset + m .length)) (keeping l (pauses endOfWindow d m t))
+    choose (eqb (m .moved) (windowEnd (m .offset) (m .length))) (keeping l (pauses endOfWindow d m t))
     (choose (scant last (length s) (m .size)) (keeping l (still d m t))
     (choose (not (roomFor l (t .position) (m .size))) (keeping l (pauses endOfMedium d m t))
     (writing d m t l s)))
@@ -78,15 +77,15 @@ filling d m t l s last =
 -- CONNECT_CLOSED", then (4) to (7)
 unfoldable pub toTape : Data → Mover → Tape → List ℕ → List ℕ → Bool → Step Move
 toTape d m t l s last =
-    choose (idle toTapeMode 1 d m) (keeping l (still d m t))
+    choose (idle toTapeMode backupOperation d m) (keeping l (still d m t))
     (choose (faulty l (t .position)) (keeping l (halts dataConnectError moverMediaError d m t))
-    (choose (ending last (length s)) (keeping l (halts dataSuccessful moverConnectClosed d m t))
+    (choose (streamEnds last (length s)) (keeping l (halts dataSuccessful moverConnectClosed d m t))
     (filling d m t l s last)))
 
 -- ---- from tape
 -- "seek position outside the window"
 unfoldable pub outside : ℕ → ℕ → ℕ → Bool
-outside seek offset length = choose (ltb seek offset) true (not (ltb seek (offset + length)))
+outside seek offset length = choose (ltb seek offset) true (not (ltb seek (windowEnd offset length)))
 
 -- the record of the window that the seek position is in, counted from the window's start, and the place in it
 abbrev pub ordinal : Mover → ℕ
@@ -96,10 +95,10 @@ abbrev pub inRecord : Mover → ℕ
 inRecord m = (m .seek - m .offset) % m .size
 
 -- "Walking from there (each record passed counts one record size)": `ahead` entries from entry i on, and k records to pass
-unfoldable pub walk : List ℕ → ℕ → ℕ → ℕ → Found
-walk l zero i k = Found.End
-walk l (suc ahead) i k =
-    choose (eqb (entryLen l i) 0) (Found.Mark (i + 1)) (choose (eqb k 0) (Found.Target i) (walk l ahead (i + 1) (k - 1)))
+unfoldable pub seekFrom : List ℕ → ℕ → ℕ → ℕ → Found
+seekFrom l zero i k = Found.End
+seekFrom l (suc ahead) i k =
+    choose (eqb (entryLen l i) 0) (Found.Mark (i + 1)) (choose (eqb k 0) (Found.Target i) (seekFrom l ahead (i + 1) (k - 1)))
 
 -- "the least of bytes left, rest of that record and destination room"
 unfoldable pub amount : Mover → ℕ → ℕ
@@ -130,7 +129,7 @@ onFound Found.End d m t l b = untouched b (pauses endOfMedium d m (movedTo (coun
 
 -- "The tape position when the mover became ACTIVE stands for the window's offset."
 abbrev pub sought : Mover → List ℕ → Found
-sought m l = walk l (count l - m .origin) (m .origin) (ordinal m)
+sought m l = seekFrom l (count l - m .origin) (m .origin) (ordinal m)
 
 -- "seek position outside the window: PAUSED SEEK 3", then the walk
 unfoldable pub seeking : Data → Mover → Tape → List ℕ → List ℕ → Handing
@@ -142,7 +141,7 @@ seeking d m t l b =
 -- room: nothing", then the seek position
 unfoldable pub fromTape : Data → Mover → Tape → List ℕ → List ℕ → Handing
 fromTape d m t l b =
-    choose (idle fromTapeMode 2 d m) (untouched b (still d m t))
+    choose (idle fromTapeMode recoverOperation d m) (untouched b (still d m t))
     (choose (faulty l (t .position)) (untouched b (halts dataConnectError moverMediaError d m t))
     (choose (eqb (m .left) 0) (untouched b (still d m t))
     (choose (eqb (length b) 0) (untouched b (still d m t))
@@ -155,4 +154,5 @@ pub record HandedAs (st : Handing) (r : Move) (b′ : List ℕ) : Type 0 where
 
 -- ---- "The method's end, while data is ACTIVE, halts it SUCCESSFUL or INTERNAL_ERROR 3 and the mover CONNECT_CLOSED; otherwise it does nothing."
 unfoldable pub methodEnd : Bool → Data → Mover → Tape → Move
-methodEnd ok d m t = choose (eqb (d .state) 1) (halts (choose ok dataSuccessful dataInternalError) moverConnectClosed d m t) (still d m t)
+methodEnd ok d m t =
+    choose (eqb (d .state) dataActive) (halts (choose ok dataSuccessful dataInternalError) moverConnectClosed d m t) (still d m t)

@@ -6,7 +6,7 @@ use mathlib.Core.Bool.{Bool, true, false, not}
 use mathlib.Core.List.{List, [], _∷_}
 use mathlib.Core.Path.{_≡_}
 use lib.ListN.{length, take, drop}
-use lib.Dec.{eqb, ltb}
+use lib.Dec.{eqb}
 use Rattle.xdr.specs.Choose.{choose}
 use Rattle.xdr.specs.Xdr.{overlay}
 use Rattle.image.specs.Image.{entryLen, entryBytes}
@@ -18,40 +18,38 @@ use Rattle.requests.specs.declared.MoverRequest.{MoverRequest}
 use Rattle.requests.specs.declared.MoverRequest.the-variants as MoverRequest
 use Rattle.requests.specs.declared.Request.{Request}
 use Rattle.requests.specs.declared.Request.the-variants as Request
-use Rattle.replies.specs.Replies.{numberOf}
 use Rattle.session.specs.declared.types.Data.{Data}
 use Rattle.session.specs.declared.types.Mover.{Mover}
-use Rattle.session.specs.declared.types.Tape.{Tape}
 use Rattle.session.specs.declared.types.Session.{Session}
-use Rattle.session.specs.Judge.{allowed, isAccepted}
-use Rattle.session.specs.Parts.{wrapped}
-use Rattle.session.specs.DataService.{dataStop}
-use Rattle.session.specs.MoverService.{setSize, setWindow, moverStop}
+use Rattle.session.specs.Names.{moverActive, moverPaused}
+use Rattle.session.specs.Judge.{isAccepted}
+use Rattle.session.specs.Parts.{wrapped, windowEnd}
 use Rattle.session.specs.Relation.{keeps, Legal}
-use Rattle.session.specs.Answer.{Kept, held, answered, requestIn}
+use Rattle.session.specs.Answer.{Kept, Lent, held, guarded, verdict, answered, requestIn}
 use Rattle.session.specs.Order.{Call}
-use Rattle.moves.specs.Events.{movedToTape, movedFromTape, methodEnded}
+use Rattle.moves.specs.Moves.{ordinal}
+use Rattle.moves.specs.Events.{Moving, movedToTape, movedFromTape, methodEnded}
 
 -- ---- the calls
 pub data Event : Type 0 where
   Asked : Call → Event
-  -- a stream part and whether it is the last; a destination; whether the method ended well; each with a time stamp and an output's length
-  ToTape : List ℕ → Bool → ℕ → ℕ → Event
-  FromTape : List ℕ → ℕ → ℕ → Event
-  Ended : Bool → ℕ → ℕ → Event
+  -- what is lent, and a stream part and whether it is the last; a destination; whether the method ended well
+  ToTape : Lent → List ℕ → Bool → Event
+  FromTape : Lent → List ℕ → Event
+  Ended : Lent → Bool → Event
   -- another image is handed to the calls that follow
-  Loaded : List ℕ → Event
+  Inserted : List ℕ → Event
 
-unfoldable pub next : Event → Kept → Kept
-next (Asked c) w = answered w (c .lent) (c .request) .next
-next (ToTape stream last time room) w = movedToTape (w .session) (w .image) stream last time room .answer .next
-next (FromTape dest time room) w = held (movedFromTape (w .session) (w .image) dest time room .answer .next .session) (w .image)
-next (Ended ok time room) w = held (methodEnded (w .session) ok time room .answer .next .session) (w .image)
-next (Loaded image) w = held (w .session) image
+unfoldable pub step : Event → Kept → Kept
+step (Asked c) w = answered w (c .lent) (c .ask .request) .next
+step (ToTape l stream last) w = movedToTape w l stream last .answer .next
+step (FromTape l dest) w = movedFromTape w l dest .answer .next
+step (Ended l ok) w = methodEnded w l ok .next
+step (Inserted image) w = held (w .session) image
 
 unfoldable pub runs : Kept → List Event → Kept
 runs w [] = w
-runs w (e ∷ es) = runs (next e w) es
+runs w (e ∷ es) = runs (step e w) es
 
 -- ---- what is seen of a call
 pub data Seen : Type 0 where
@@ -67,60 +65,60 @@ pub data Seen : Type 0 where
   Handed : ℕ → ℕ → Seen
   Nothing : Seen
 
--- a request that its service answers
-unfoldable pub isHeard : Session → List ℕ → ℕ → Bool
-isHeard s r room =
-    choose (ltb room 36864) false
-    (choose (not (keeps s)) false
-    (choose (s .closed) false
-    (choose (not (wellFramed r)) false
-    (eqb (kindOf r) 0))))
+-- a request that is judged
+unfoldable pub isHeard : Kept → Lent → List ℕ → Bool
+isHeard k l r = guarded (k .session) (l .room) (λ _. false) (choose (wellFramed r) (eqb (kindOf r) 0) false)
 
-unfoldable pub moverShown : Bool → Mover → MoverRequest → Seen
-moverShown known m (MoverRequest.Size size) = choose (eqb (numberOf (setSize known m size .reply)) 0) (Sized size) Nothing
-moverShown known m (MoverRequest.Window offset length) = choose (eqb (numberOf (setWindow known m offset length .reply)) 0) (Windowed offset length) Nothing
-moverShown known m MoverRequest.Stop = choose (eqb (numberOf (moverStop known m .reply)) 0) MoverStopped Nothing
-moverShown known m MoverRequest.State = Nothing
-moverShown known m (MoverRequest.Listen mode address) = Nothing
-moverShown known m MoverRequest.Continue = Nothing
-moverShown known m (MoverRequest.Read offset length) = Nothing
+-- what an accepted request shows
+unfoldable pub moverAsked : MoverRequest → Seen
+moverAsked (MoverRequest.Size size) = Sized size
+moverAsked (MoverRequest.Window offset length) = Windowed offset length
+moverAsked MoverRequest.Stop = MoverStopped
+moverAsked MoverRequest.State = Nothing
+moverAsked (MoverRequest.Listen mode address) = Nothing
+moverAsked MoverRequest.Continue = Nothing
+moverAsked (MoverRequest.Read offset length) = Nothing
 
-unfoldable pub dataShown : Bool → Data → DataRequest → Seen
-dataShown known d DataRequest.Stop = choose (isAccepted (allowed known (dataStop d))) DataStopped Nothing
-dataShown known d DataRequest.State = Nothing
-dataShown known d (DataRequest.Backup method) = Nothing
-dataShown known d (DataRequest.Recover method) = Nothing
-dataShown known d (DataRequest.Listen address) = Nothing
+unfoldable pub dataAsked : DataRequest → Seen
+dataAsked DataRequest.Stop = DataStopped
+dataAsked DataRequest.State = Nothing
+dataAsked (DataRequest.Backup method) = Nothing
+dataAsked (DataRequest.Recover method) = Nothing
+dataAsked (DataRequest.Listen address) = Nothing
 
-unfoldable pub shown : Session → Request → Seen
-shown s (Request.Mover q) = moverShown (s .authorized) (s .mover) q
-shown s (Request.Data q) = dataShown (s .authorized) (s .source) q
-shown s (Request.Connect q) = Nothing
-shown s (Request.Config q) = Nothing
-shown s (Request.Scsi q) = Nothing
-shown s (Request.Tape q) = Nothing
-shown s (Request.Joint q) = Nothing
-shown s Request.Unknown = Nothing
-shown s Request.Bad = Nothing
+unfoldable pub asked : Request → Seen
+asked (Request.Mover q) = moverAsked q
+asked (Request.Data q) = dataAsked q
+asked (Request.Connect q) = Nothing
+asked (Request.Config q) = Nothing
+asked (Request.Scsi q) = Nothing
+asked (Request.Tape q) = Nothing
+asked (Request.Joint q) = Nothing
+asked Request.Unknown = Nothing
+asked Request.Bad = Nothing
 
 -- a move: bytes, or a pause of a mover that was ACTIVE
 unfoldable pub moveShown : Mover → Mover → ℕ → Seen → Seen
-moveShown m after count what =
+moveShown m next count what =
     choose (not (eqb count 0)) what
-    (choose (not (eqb (m .state) 2)) Nothing
-    (choose (eqb (after .state) 3) Paused Nothing))
+    (choose (not (eqb (m .state) moverActive)) Nothing
+    (choose (eqb (next .state) moverPaused) Paused Nothing))
+
+abbrev pub toTapeShown : Mover → Moving → Seen
+toTapeShown m e = moveShown m (e .answer .next .session .mover) (e .count) (Wrote (m .size) (e .count))
+
+abbrev pub fromTapeShown : Mover → Moving → Seen
+fromTapeShown m e = moveShown m (e .answer .next .session .mover) (e .count) (Handed (m .seek) (e .count))
 
 unfoldable pub seen : Event → Kept → Seen
 seen (Asked c) w =
-    choose (isHeard (w .session) (c .request) (c .lent .room)) (shown (w .session) (requestIn (c .request))) Nothing
-seen (ToTape stream last time room) w =
-    let e = movedToTape (w .session) (w .image) stream last time room in
-    moveShown (w .session .mover) (e .answer .next .session .mover) (e .count) (Wrote (w .session .mover .size) (e .count))
-seen (FromTape dest time room) w =
-    let e = movedFromTape (w .session) (w .image) dest time room in
-    moveShown (w .session .mover) (e .answer .next .session .mover) (e .count) (Handed (w .session .mover .seek) (e .count))
-seen (Ended ok time room) w = Nothing
-seen (Loaded image) w = Nothing
+    let r = c .ask .request in
+    let q = requestIn r in
+    choose (isHeard w (c .lent) r) (choose (isAccepted (verdict w (c .lent) r q)) (asked q) Nothing) Nothing
+seen (ToTape l stream last) w = toTapeShown (w .session .mover) (movedToTape w l stream last)
+seen (FromTape l dest) w = fromTapeShown (w .session .mover) (movedFromTape w l dest)
+seen (Ended l ok) w = Nothing
+seen (Inserted image) w = Nothing
 
 -- ---- the register: the record size, the window in force (of length 0 there is none), bytes moved and processed
 pub record Register : Type 0 where
@@ -157,7 +155,7 @@ pub record WroteInside (r : Register) (n k : ℕ) : Type 0 where
   pub some : 1 ≤ k
   pub part : k ≤ n
   pub from : r .offset ≤ r .moved
-  pub to : r .moved + n ≤ r .offset + r .length
+  pub to : r .moved + n ≤ windowEnd (r .offset) (r .length)
 
 -- Bytes are handed over: there is a window, they lie in it, and in one of its records.
 pub record HandedInside (r : Register) (a k : ℕ) : Type 0 where
@@ -165,7 +163,7 @@ pub record HandedInside (r : Register) (a k : ℕ) : Type 0 where
   pub some : 1 ≤ k
   pub part : (a - r .offset) % r .size + k ≤ r .size
   pub from : r .offset ≤ a
-  pub to : a + k ≤ r .offset + r .length
+  pub to : a + k ≤ windowEnd (r .offset) (r .length)
 
 abbrev pub Fits : Register → Seen → Type 0
 Fits r (Wrote n k) = WroteInside r n k
@@ -194,7 +192,7 @@ imageAfter Nothing l position stream = l
 
 -- the entry that the seek position is in: so many records after the one at the origin
 abbrev pub soughtEntry : Mover → ℕ
-soughtEntry m = m .origin + (m .seek - m .offset) / m .size
+soughtEntry m = m .origin + ordinal m
 
 -- the byte at position a of the stream is in the record (a - offset) / size after the one at the origin, at (a - offset) % size
 unfoldable pub destAfter : Seen → Register → ℕ → List ℕ → List ℕ → List ℕ
@@ -217,28 +215,25 @@ countOf DataStopped = 0
 countOf Paused = 0
 countOf Nothing = 0
 
-pub record ToTapeLeaves (w : Kept) (x : Seen) (stream image′ : List ℕ) (count : ℕ) : Type 0 where
-  pub image : image′ ≡ imageAfter x (w .image) (w .session .tape .position) stream
-  pub taken : count ≡ countOf x
-  pub there : count ≤ length stream
+pub record ToTapeLeaves (w : Kept) (stream : List ℕ) (e : Moving) : Type 0 where
+  pub image : e .answer .next .image ≡ imageAfter (toTapeShown (w .session .mover) e) (w .image) (w .session .tape .position) stream
+  pub taken : e .count ≡ countOf (toTapeShown (w .session .mover) e)
+  pub there : e .count ≤ length stream
 
-pub record FromTapeLeaves (w : Kept) (x : Seen) (dest dest′ : List ℕ) (count : ℕ) : Type 0 where
-  pub dest-end : dest′ ≡ destAfter x (registerOf (w .session)) (w .session .mover .origin) (w .image) dest
-  pub given : count ≡ countOf x
-  pub room : count ≤ length dest
+pub record FromTapeLeaves (w : Kept) (dest : List ℕ) (e : Moving) : Type 0 where
+  pub dest-end : e .dest ≡ destAfter (fromTapeShown (w .session .mover) e) (registerOf (w .session)) (w .session .mover .origin) (w .image) dest
+  pub handed : e .count ≡ countOf (fromTapeShown (w .session .mover) e)
+  pub room : e .count ≤ length dest
   -- what is handed over is of a record that has the record size
-  pub exact : (count ≡ 0 → ⊥) → entryLen (w .image) (soughtEntry (w .session .mover)) ≡ w .session .mover .size
+  pub exact : (e .count ≡ 0 → ⊥) → entryLen (w .image) (soughtEntry (w .session .mover)) ≡ w .session .mover .size
+  pub image : e .answer .next .image ≡ w .image
 
 abbrev pub Leaves : Kept → Event → Type 0
-Leaves w (ToTape stream last time room) =
-    let e = movedToTape (w .session) (w .image) stream last time room in
-    ToTapeLeaves w (seen (ToTape stream last time room) w) stream (e .answer .next .image) (e .count)
-Leaves w (FromTape dest time room) =
-    let e = movedFromTape (w .session) (w .image) dest time room in
-    FromTapeLeaves w (seen (FromTape dest time room) w) dest (e .dest) (e .count)
+Leaves w (ToTape l stream last) = ToTapeLeaves w stream (movedToTape w l stream last)
+Leaves w (FromTape l dest) = FromTapeLeaves w dest (movedFromTape w l dest)
+Leaves w (Ended l ok) = methodEnded w l ok .next .image ≡ w .image
 Leaves w (Asked c) = Unit {0}
-Leaves w (Ended ok time room) = Unit {0}
-Leaves w (Loaded image) = Unit {0}
+Leaves w (Inserted image) = Unit {0}
 
 -- ---- the theorem: at every call of the list the register is the session's, its window is legitimate, and what is seen fits it and is all
 -- that the call did
@@ -249,8 +244,8 @@ pub record At (r : Register) (w : Kept) (e : Event) : Type 0 where
   pub leaves : Leaves w e
 
 pub data Inside : Register → Kept → List Event → Type 0 where
-  done : {r : Register} {w : Kept} → registerOf (w .session) ≡ r → Inside r w []
-  more : {r : Register} {w : Kept} {e : Event} {es : List Event} → At r w e → Inside (after r (seen e w)) (next e w) es → Inside r w (e ∷ es)
+  finished : {r : Register} {w : Kept} → registerOf (w .session) ≡ r → Inside r w []
+  more : {r : Register} {w : Kept} {e : Event} {es : List Event} → At r w e → Inside (after r (seen e w)) (step e w) es → Inside r w (e ∷ es)
 
 abbrev pub WindowHolds : Type 0
 WindowHolds = (w : Kept) → keeps (w .session) ≡ true → (es : List Event) → Inside (registerOf (w .session)) w es

@@ -3,6 +3,7 @@
 ghost use mathlib.Core.Path.{_≡_};
 ghost use Prim.Native.Nat.{_+_, _≤_};
 ghost use Rattle.xdr.specs.Choose.{choose};
+ghost use Rattle.session.specs.Names.{dataSuccessful, dataInternalError, top};
 ghost use Rattle.moves.specs.Moves.{still, pauses, halts, takes, hands, idle, methodEnd};
 ghost use Rattle.moves.specs.Examples.{ExamplesHold};
 ghost use Rattle.moves.specs.Sequence.{WindowHolds};
@@ -115,7 +116,7 @@ pub fn take_record(n: usize, d: Data, m: Mover, t: Tape) -> Move
 
 // Of record i, n bytes were handed over.
 pub fn hand_over(n: usize, i: usize, d: Data, m: Mover, t: Tape) -> Move
-    requires { ⌜ (i ≤ 4096) × (n ≤ m .left) × (m .seek + m .left ≤ 18446744073709551615) ⌝ }
+    requires { ⌜ (i ≤ 4096) × (n ≤ m .left) × (m .seek + m .left ≤ top) ⌝ }
     ensures { λ r. ⌜ r ≡ hands n i d m t ⌝ }
 {
     Move {
@@ -135,12 +136,12 @@ pub fn hand_over(n: usize, i: usize, d: Data, m: Mover, t: Tape) -> Move
 
 // Why the data end halts at the method's end: SUCCESSFUL or INTERNAL_ERROR.
 fn end_reason(ok: bool) -> u32
-    ensures { λ r. ⌜ r ≡ choose ok 1 3 ⌝ }
+    ensures { λ r. ⌜ r ≡ choose ok dataSuccessful dataInternalError ⌝ }
 {
     if ok {
-        return 1;
+        return Data::SUCCESSFUL;
     }
-    3
+    Data::INTERNAL_ERROR
 }
 
 // The method's end, in success or not.
@@ -149,7 +150,7 @@ pub fn method_end(ok: bool, d: Data, m: Mover, t: Tape) -> Move
 {
     if d.state == Data::ACTIVE {
         let why = end_reason(ok);
-        return halt_both(why, 1, d, m, t);
+        return halt_both(why, Mover::CONNECT_CLOSED, d, m, t);
     }
     no_move(d, m, t)
 }

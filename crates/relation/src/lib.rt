@@ -2,7 +2,11 @@
 ghost use mathlib.Core.Path.{_≡_};
 ghost use Prim.Native.Nat.{_+_, _≤_};
 ghost use lib.Dec.{ltb};
+ghost use Rattle.session.specs.declared.Guard.the-variants as Guard;
+ghost use Rattle.session.specs.Answer.{guarded};
+ghost use Rattle.session.specs.Parts.{windowEnd};
 ghost use Rattle.session.specs.Relation.{dataWrong, numbersWrong, windowWrong, startWrong, holdWrong, strays, resumeWrong, placeWrong, originWrong, moverWrong, sameFlag, keeps};
+use session::Guard;
 use session::types::Data;
 use session::types::Mover;
 use session::types::Session;
@@ -11,19 +15,19 @@ use session::types::Tape;
 fn is_data_wrong(d: Data) -> bool
     ensures { λ r. ⌜ r ≡ dataWrong d ⌝ }
 {
-    4 < d.state
+    Data::CONNECTED < d.state
 }
 
 fn are_numbers_wrong(m: Mover) -> bool
     ensures { λ r. ⌜ r ≡ numbersWrong m ⌝ }
 {
-    if 4 < m.state {
+    if Mover::HALTED < m.state {
         return true;
     }
-    if 32768 < m.size {
+    if Mover::LARGEST_SIZE < m.size {
         return true;
     }
-    mover_service::is_past_top(m.seek, m.left)
+    Mover::is_past_top(m.seek, m.left)
 }
 
 fn is_window_wrong(size: u32, offset: u64, length: u64) -> bool
@@ -42,13 +46,13 @@ fn is_window_wrong(size: u32, offset: u64, length: u64) -> bool
     if length % unit != 0 {
         return true;
     }
-    mover_service::is_past_top(offset, length)
+    Mover::is_past_top(offset, length)
 }
 
 fn is_start_wrong(m: Mover) -> bool
     ensures { λ r. ⌜ r ≡ startWrong m ⌝ }
 {
-    if 1 < m.state {
+    if Mover::LISTEN < m.state {
         return false;
     }
     m.moved != 0
@@ -57,14 +61,14 @@ fn is_start_wrong(m: Mover) -> bool
 fn is_hold_wrong(m: Mover, t: Tape) -> bool
     ensures { λ r. ⌜ r ≡ holdWrong m t ⌝ }
 {
-    if tape_service::holds_tape(m.state) {
+    if Mover::holds_tape(m.state) {
         if m.length == 0 {
             return true;
         }
         if !t.opened {
             return true;
         }
-        return mover_service::is_unwritable(m.mode, t.writable);
+        return Mover::is_unwritable(m.mode, t.writable);
     }
     false
 }
@@ -72,7 +76,7 @@ fn is_hold_wrong(m: Mover, t: Tape) -> bool
 // Whether the bytes moved lie past the window's end; the sum itself could be too large.
 fn is_beyond(offset: u64, length: u64, moved: u64) -> bool
     requires { ⌜ offset ≤ moved ⌝ }
-    ensures { λ r. ⌜ r ≡ ltb (offset + length) moved ⌝ }
+    ensures { λ r. ⌜ r ≡ ltb (windowEnd offset length) moved ⌝ }
 {
     if length < moved - offset {
         return true;
@@ -99,7 +103,7 @@ fn has_strayed(size: u32, offset: u64, length: u64, moved: u64) -> bool
 fn is_place_wrong(m: Mover) -> bool
     ensures { λ r. ⌜ r ≡ placeWrong m ⌝ }
 {
-    if m.mode != 0 {
+    if m.mode != Mover::TO_TAPE {
         return false;
     }
     if m.state == Mover::LISTEN {
@@ -175,7 +179,23 @@ pub fn is_kept(s: Session) -> bool
     if is_mover_wrong(m, t) {
         return false;
     }
-    let source = joint_service::is_data_joined(d.state);
-    let mover = joint_service::is_mover_joined(m.state);
+    let source = d.is_joined();
+    let mover = m.is_joined();
     same_flag(source, mover)
+}
+
+// What comes before any call: too little room, a broken session, a closed one.
+pub fn guard(s: Session, room: usize) -> Guard
+    ensures { λ r. ⌜ r ≡ guarded s room Guard.Stop Guard.Go ⌝ }
+{
+    if room < codes::LARGEST_MESSAGE {
+        return Guard::Stop(codes::SHORT_OUTPUT);
+    }
+    if !is_kept(s) {
+        return Guard::Stop(codes::BROKEN_SESSION);
+    }
+    if s.closed {
+        return Guard::Stop(0);
+    }
+    Guard::Go
 }

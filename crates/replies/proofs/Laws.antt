@@ -3,29 +3,31 @@ use Prim.Native.Nat.{ℕ, _+_, _-_, _*_, _≤_}
 use Prim.{tt}
 use mathlib.Core.Bool.{Bool, true, false}
 use mathlib.Core.Path.{_≡_, refl, sym, _∙_}
-use mathlib.Core.List.{List, [], _∷_}
+use mathlib.Core.List.{List, [], _∷_, _++_}
 use native.Mathlib.Omega.{arith}
 use native.Mathlib.Nat.{add-zero}
-use lib.ListN.{length, take, drop, length-append, length-take}
+use lib.ListN.{length, take, drop, replicate, length-append, length-take, length-replicate}
 use lib.Seq.{length-take-le}
-use lib.Dec.{eqb}
 use types.Run.{OneOf, miss}
 use denote.Enum.Declared.{tagOf}
 use Rattle.replies.proofs.Reply.{the-type}
-use Rattle.xdr.specs.Xdr.{be32s, overlay}
-use Rattle.xdr.proofs.Laws.{length-be32s, overlay-none, overlay-front}
-use Rattle.xdr.proofs.Tests.{by-test}
+use Rattle.xdr.specs.Choose.{choose}
+use Rattle.xdr.specs.Xdr.{be32, be32s, overlay}
+use Rattle.xdr.proofs.Laws.{length-be32s, be32s-append, overlay-none, overlay-front}
 use Rattle.xdr_opaque.specs.Put.{Put, opaque}
 use Rattle.xdr_opaque.proofs.Laws.{then, length-opaque-filled}
 use Rattle.frame.specs.Frame.{recordBytes}
+use Rattle.frame.specs.Messages.{look, rowOf}
 use Rattle.frame.proofs.Laws.{length-record}
 use Rattle.replies.specs.declared.Reply.{Reply}
-use Rattle.replies.specs.declared.Reply.the-variants.{Header, Plain, Listening, ConnectionTypes, ServerInfo, ScsiState, Cdb, Sense, Check, TapeState, Mtio, Wrote, Read, DataState, MoverState}
+use Rattle.replies.specs.declared.Reply.the-variants.{Header, Refused, Plain, Listening, ConnectionTypes, ServerInfo, ScsiState}
+use Rattle.replies.specs.declared.Reply.the-variants.{Cdb, Sense, Check, TapeState, Mtio, Wrote, Read, DataState, MoverState}
 use Rattle.replies.specs.declared.Notice.{Notice}
 use Rattle.replies.specs.declared.Notice.the-variants.{DataHalted, Connected, MoverHalted, MoverPaused}
-use Rattle.replies.specs.Replies.{Body, opaques, bodyBytes, wordsOnly, sense, serverTexts, shapeOf, headerError, replyBytes, noticeWords, noticeBytes}
+use Rattle.replies.specs.Replies.{Body, opaques, bodyBytes, wordsOnly, sense, serverTexts, shapeOf, isRead, headerError, replyBytes, noticeWords, noticeBytes}
 use Rattle.replies.specs.Fit.{Sendable, AnswersFit}
-use Rattle.replies.specs.Sent.{Sent, headerWords}
+use Rattle.replies.specs.Refusals.{RefusalsAsLong}
+use Rattle.replies.specs.Writers.{PutUpTo, headerWords}
 
 -- ---- a body by its writes
 none : {at : ℕ} {l : List ℕ} → Put at [] l at l
@@ -52,7 +54,25 @@ whole b p q r = then p (then q r)
 pub no-body : {at : ℕ} {l : List ℕ} → Put at (bodyBytes (wordsOnly [])) l at l
 no-body = whole (wordsOnly []) no-words no-texts no-words
 
+-- a refusal's number and the zero words around it
+pub length-zeros : (n : ℕ) → length (be32s (replicate n 0)) ≡ 4 * n
+length-zeros n = rw (length-be32s, length-replicate)
+
+refused-words : (b e a : ℕ)
+    → be32s (replicate b 0 ++ (e ∷ replicate a 0)) ≡ be32s (replicate b 0) ++ (be32s (e ∷ []) ++ be32s (replicate a 0))
+refused-words b e a = rw (be32s-append (replicate b 0) (e ∷ replicate a 0), be32s-append (e ∷ []) (replicate a 0))
+
+pub refused : {at next last end : ℕ} {l m m′ m″ : List ℕ} (b e a : ℕ) → Put at (be32s (replicate b 0)) l next m
+    → Put next (be32s (e ∷ [])) m last m′ → Put last (be32s (replicate a 0)) m′ end m″
+    → Put at (bodyBytes (shapeOf (Refused b e a) [])) l end m″
+unfolding shapeOf
+refused b e a p q r = whole _ (rw (refused-words b e a) (then p (then q r))) no-texts no-words
+
 -- ---- what a reply that can be sent copies
+pub refused-within : (r : Reply) (image : List ℕ) (b e a : ℕ) → Sendable r image → r ≡ Refused b e a → b + a ≤ 17
+unfolding Sendable
+refused-within r image b e a s f = rw f at s
+
 pub sense-within : (r : Reply) (image : List ℕ) (n : ℕ) (pending : Bool) → Sendable r image → r ≡ Sense n pending → n ≤ 18
 unfolding Sendable
 sense-within r image n pending s e = rw e at s
@@ -77,25 +97,46 @@ part start len l = let e : start + len - start ≡ len = omega arith in rw e
 
 -- ---- the error in the header: none in a reply of any kind but the first
 abbrev others : List ℕ
-others = 1 ∷ 2 ∷ 3 ∷ 4 ∷ 5 ∷ 6 ∷ 7 ∷ 8 ∷ 9 ∷ 10 ∷ 11 ∷ 12 ∷ 13 ∷ 14 ∷ []
+others = 1 ∷ 2 ∷ 3 ∷ 4 ∷ 5 ∷ 6 ∷ 7 ∷ 8 ∷ 9 ∷ 10 ∷ 11 ∷ 12 ∷ 13 ∷ 14 ∷ 15 ∷ []
 
 pub no-header : (r : Reply) → OneOf others (tagOf the-type r) → 0 ≡ headerError r
 unfolding headerError
 no-header (Header e) h = absurd (miss others 0 tt h)
-no-header (Plain e) h = refl
-no-header (Listening e) h = refl
-no-header (ConnectionTypes e) h = refl
+no-header (Refused b e a) h = refl
+no-header Plain h = refl
+no-header Listening h = refl
+no-header ConnectionTypes h = refl
 no-header (ServerInfo known) h = refl
-no-header (ScsiState e) h = refl
-no-header (Cdb e) h = refl
+no-header ScsiState h = refl
+no-header Cdb h = refl
 no-header (Sense n pending) h = refl
 no-header Check h = refl
-no-header (TapeState e file block) h = refl
+no-header (TapeState file block) h = refl
 no-header (Mtio e residue) h = refl
 no-header (Wrote e count) h = refl
 no-header (Read e start len) h = refl
-no-header (DataState e v) h = refl
-no-header (MoverState e v) h = refl
+no-header (DataState v) h = refl
+no-header (MoverState v) h = refl
+
+-- ---- only a read shows the image
+pub shows-nothing : (r : Reply) (l m : List ℕ) → isRead r ≡ false → shapeOf r l ≡ shapeOf r m
+unfolding isRead shapeOf
+shows-nothing (Header e) l m h = refl
+shows-nothing (Refused b e a) l m h = refl
+shows-nothing Plain l m h = refl
+shows-nothing Listening l m h = refl
+shows-nothing ConnectionTypes l m h = refl
+shows-nothing (ServerInfo known) l m h = refl
+shows-nothing ScsiState l m h = refl
+shows-nothing Cdb l m h = refl
+shows-nothing (Sense n pending) l m h = refl
+shows-nothing Check l m h = refl
+shows-nothing (TapeState file block) l m h = refl
+shows-nothing (Mtio e residue) l m h = refl
+shows-nothing (Wrote e count) l m h = refl
+shows-nothing (Read e start len) l m h = let z : _≡_ {A = ℕ} 0 1 = cc in absurd (omega arith)
+shows-nothing (DataState v) l m h = refl
+shows-nothing (MoverState v) l m h = refl
 
 -- ---- how long a body is
 pub length-body : (b : Body) → length (bodyBytes b) ≡ 4 * length (b .words) + (length (opaques (b .texts)) + 4 * length (b .tail))
@@ -124,20 +165,21 @@ server-small false = simp (length-body, length-append, length-opaque-filled) (om
 pub body-small : (r : Reply) (image : List ℕ) → Sendable r image → length (bodyBytes (shapeOf r image)) ≤ 32776
 unfolding shapeOf Sendable
 body-small (Header e) image s = few _ (omega arith)
-body-small (Plain e) image s = few _ (omega arith)
-body-small (Listening e) image s = few _ (omega arith)
-body-small (ConnectionTypes e) image s = few _ (by-test (λ (ws : List ℕ). length ws ≤ 18) (eqb e 0) _ _ (λ _. omega arith) (λ _. omega arith))
+body-small (Refused b e a) image s = few _ (simp (length-append, length-replicate) (omega (arith, s)))
+body-small Plain image s = few _ (omega arith)
+body-small Listening image s = few _ (omega arith)
+body-small ConnectionTypes image s = few _ (omega arith)
 body-small (ServerInfo known) image s = server-small known
-body-small (ScsiState e) image s = few _ (omega arith)
-body-small (Cdb e) image s = two-texts _ [] [] (omega arith) (omega arith) (omega arith)
+body-small ScsiState image s = few _ (omega arith)
+body-small Cdb image s = two-texts _ [] [] (omega arith) (omega arith) (omega arith)
 body-small (Sense n pending) image s = two-texts _ _ [] (omega arith) (simp length-take (omega (arith, s))) (omega arith)
 body-small Check image s = two-texts _ [] _ (omega arith) (omega arith) (omega (arith, length-sense true))
-body-small (TapeState e file block) image s = few _ (omega arith)
+body-small (TapeState file block) image s = few _ (omega arith)
 body-small (Mtio e residue) image s = few _ (omega arith)
 body-small (Wrote e count) image s = few _ (omega arith)
 body-small (Read e start len) image s = one-text _ _ (omega arith) (simp length-take (omega (arith, s .1)))
-body-small (DataState e v) image s = few _ (omega arith)
-body-small (MoverState e v) image s = few _ (omega arith)
+body-small (DataState v) image s = few _ (omega arith)
+body-small (MoverState v) image s = few _ (omega arith)
 
 -- ---- a record: the mark and the header, written in front of a body
 pub seal : (at next n s t k m e err : ℕ) (b l x y : List ℕ) → Put (at + 28) b l next x → at + 28 ≤ length l → n ≡ length b
@@ -151,7 +193,7 @@ seal at next n s t k m e err b l x y p h f w =
 
 pub reply-sent : (next n s t m e err : ℕ) (r : Reply) (image l x y : List ℕ) → Put 28 (bodyBytes (shapeOf r image)) l next x → Sendable r image → 28 ≤ length l
     → n ≡ next - 28 → err ≡ headerError r → y ≡ overlay 0 (be32s (headerWords n s t 1 m e err)) x
-    → Sent 32804 0 (replyBytes s t m e r image) l next y
+    → PutUpTo 32804 0 (replyBytes s t m e r image) l next y
 unfolding replyBytes
 reply-sent next n s t m e err r image l x y p c h f g w =
     record {
@@ -165,7 +207,7 @@ unfolding replyBytes shapeOf
 header-bare s t m e err image = refl
 
 pub notice-sent : (at next s t m : ℕ) (ws l x y : List ℕ) → Put (at + 28) (be32s ws) l next x → at + 40 ≤ length l → length ws ≤ 3
-    → y ≡ overlay at (be32s (headerWords (4 * length ws) s t 0 m 0 0)) x → Sent (at + 40) at (recordBytes s t 0 m 0 0 (be32s ws)) l next y
+    → y ≡ overlay at (be32s (headerWords (4 * length ws) s t 0 m 0 0)) x → PutUpTo (at + 40) at (recordBytes s t 0 m 0 0 (be32s ws)) l next y
 notice-sent at next s t m ws l x y p h k w =
     record {
       put = seal at next (4 * length ws) s t 0 m 0 0 (be32s ws) l x y p (omega arith) (omega (arith, length-be32s ws)) w;
@@ -191,3 +233,8 @@ reply-small s t m e r image h = rw length-record (omega (arith, body-small r ima
 pub fit : AnswersFit
 fit s t m e s′ t′ s″ t″ r image a b h =
     simp length-append (omega (arith, reply-small s t m e r image h, notice-small s′ t′ a, notice-small s″ t″ b))
+
+-- ---- refusals and accepted replies, message by message: both lists are computed
+pub as-long : RefusalsAsLong
+unfolding shapeOf bodyBytes opaques serverTexts be32s be32 opaque rowOf look choose
+as-long = record { every = refl; as-long = refl }

@@ -7,6 +7,7 @@ use native.Mathlib.Omega.{arith}
 use native.Mathlib.Nat.{not-suc-le-zero, add-zero}
 use lib.ListN.{length, length-append}
 use lib.Seq.{drop-append-seam, drop-at}
+use Rattle.codes.specs.Codes.{largestMessage}
 use Rattle.xdr.specs.Xdr.{be32, be32s, word}
 use Rattle.xdr.proofs.Laws.{length-be32, length-be32s, word-be32, word-drop}
 use Rattle.xdr_opaque.specs.Put.{opaque}
@@ -17,7 +18,7 @@ use Rattle.frame.proofs.Laws.{well, length-record}
 use Rattle.replies.specs.declared.Notice.{Notice}
 use Rattle.replies.specs.declared.Notice.the-variants.{DataHalted, Connected, MoverHalted, MoverPaused}
 use Rattle.replies.specs.Replies.{Body, opaques, bodyBytes, shapeOf, headerError, replyBytes, noticeNumber, noticeWords, noticeBytes}
-use Rattle.replies.specs.Sent.{headerWords}
+use Rattle.replies.specs.Writers.{headerWords}
 use Rattle.replies.specs.RoundTrip.{Words32, Texts32, WordsAt, TextAt, TextsAt, BodyAt, RecordAt, RepliesBack}
 use Rattle.replies.proofs.Laws.{body-small, length-body, notice-short}
 
@@ -58,7 +59,7 @@ body-at b h j k =
     }
 
 -- ---- a record
-record-at : (s t k m e err : ℕ) (body : List ℕ) → Words32 (s ∷ t ∷ k ∷ m ∷ e ∷ err ∷ []) → length body ≤ 36840
+record-at : (s t k m e err : ℕ) (body : List ℕ) → Words32 (s ∷ t ∷ k ∷ m ∷ e ∷ err ∷ []) → 24 + length body ≤ largestMessage
     → RecordAt (recordBytes s t k m e err body) s t k m e err body
 unfolding recordBytes Words32
 record-at s t k m e err body h n =

@@ -1,4 +1,5 @@
 pub mod Replies
 pub mod Fit
-pub mod Sent
+pub mod Writers
 pub mod RoundTrip
+pub mod Refusals

@@ -4,6 +4,7 @@ use mathlib.Core.Bool.{true}
 use mathlib.Core.Path.{_≡_}
 use mathlib.Core.List.{List, [], _∷_}
 use lib.ListN.{length, take, drop, getD}
+use Rattle.codes.specs.Codes.{largestMessage}
 use Rattle.xdr.specs.Xdr.{word, be32s}
 use Rattle.xdr_opaque.specs.Put.{opaque}
 use Rattle.xdr_opaque.specs.Opaque.{opaqueAt}
@@ -57,7 +58,7 @@ pub record RecordAt (l : List ℕ) (sequence time kind message echo error : ℕ)
 pub record RepliesBack : Type 0 where
   pub bodies : (b : Body) → Words32 (b .words) → Texts32 (b .texts) → Words32 (b .tail) → BodyAt (bodyBytes b) b
   pub records : (sequence time kind message echo error : ℕ) (body : List ℕ)
-      → Words32 (sequence ∷ time ∷ kind ∷ message ∷ echo ∷ error ∷ []) → length body ≤ 36840
+      → Words32 (sequence ∷ time ∷ kind ∷ message ∷ echo ∷ error ∷ []) → 24 + length body ≤ largestMessage
       → RecordAt (recordBytes sequence time kind message echo error body) sequence time kind message echo error body
   pub replies : (sequence time message echo : ℕ) (r : Reply) (image : List ℕ) → Sendable r image
       → Words32 (sequence ∷ time ∷ 1 ∷ message ∷ echo ∷ headerError r ∷ []) → Words32 (shapeOf r image .words) → Words32 (shapeOf r image .tail)

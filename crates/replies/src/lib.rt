@@ -3,15 +3,15 @@ ghost use mathlib.Core.Path.{_≡_};
 ghost use mathlib.Core.List.{[], _∷_};
 ghost use Prim.Native.Nat.{_+_, _*_, _≤_};
 ghost use lib.ListN.{length};
-ghost use lib.Dec.{eqb};
-ghost use Rattle.xdr.specs.Choose.{choose};
+ghost use Rattle.codes.specs.Codes.{largestMessage, senseBytes};
 ghost use Rattle.xdr.specs.Xdr.{be32s, overlay};
 ghost use Rattle.xdr_opaque.specs.Put.{Put};
 ghost use Rattle.frame.specs.Frame.{recordBytes};
 ghost use Rattle.replies.specs.Replies.{wordsOnly, sense, shapeOf, bodyBytes, headerError, replyBytes, noticeBytes};
 ghost use Rattle.replies.specs.Fit.{Sendable, AnswersFit};
-ghost use Rattle.replies.specs.Sent.{Sent, headerWords};
+ghost use Rattle.replies.specs.Writers.{PutUpTo, headerWords};
 ghost use Rattle.replies.specs.RoundTrip.{RepliesBack};
+ghost use Rattle.replies.specs.Refusals.{RefusalsAsLong};
 
 // What get state tells of the data end.
 #[repr(C)]
@@ -38,25 +38,29 @@ pub struct MoverView {
     pub length: u64,
 }
 
-// A reply by its layout, with its error and what it tells. Header is an error in the header with no body; Plain an error alone. Cdb is
-// an execute CDB that hands over nothing, Sense one that hands over the first bytes of the sense (pending or not) as data in, Check
-// one that ends with status 2 and the extended sense. Read is the error and where the bytes lie in the image.
+// A reply by its layout, with what it tells. Header is a refusal in the header with no body; Refused one in the body: so
+// many zero words, the number, so many zero words. The others accept: Mtio, Wrote and Read begin with the tape's outcome
+// (0, 12 or 13), the rest have the error 0; Plain is that error alone. Cdb is an execute CDB that hands over nothing, Sense
+// one that hands over the first bytes of the sense (pending or not) as data in, Check one that ends with status 2 and the
+// extended sense. TapeState is the file and the block, Mtio the residue, Wrote the count, and Read where the bytes lie in
+// the image.
 pub enum Reply {
     Header(u32),
-    Plain(u32),
-    Listening(u32),
-    ConnectionTypes(u32),
+    Refused(u32, u32, u32),
+    Plain,
+    Listening,
+    ConnectionTypes,
     ServerInfo(bool),
-    ScsiState(u32),
-    Cdb(u32),
+    ScsiState,
+    Cdb,
     Sense(u32, bool),
     Check,
-    TapeState(u32, u32, u32),
+    TapeState(u32, u32),
     Mtio(u32, u32),
     Wrote(u32, u32),
     Read(u32, usize, usize),
-    DataState(u32, DataView),
-    MoverState(u32, MoverView),
+    DataState(DataView),
+    MoverState(MoverView),
 }
 
 // What is sent unasked; a pause carries the kept seek position.
@@ -75,16 +79,14 @@ fn put_body(out: &mut [u8], at: usize, ws: &[u32]) -> usize
     xdr_opaque::put_words(out, at, ws)
 }
 
-// Writes the connection types: LOCAL, or none where they are refused.
-fn put_connection_types(out: &mut [u8], at: usize, error: u32) -> usize
-    requires { ⌜ at + 12 ≤ length (now out) ⌝ }
-    ensures { λ r. ⌜ Put at (bodyBytes (shapeOf (Reply.ConnectionTypes error) [])) (now (out .entry)) r (now (out .exit)) ⌝ }
+// Writes a refusal's number with zero words around it.
+fn put_refused(out: &mut [u8], at: usize, before: u32, error: u32, after: u32) -> usize
+    requires { ⌜ (at + 72 ≤ length (now out)) × (before + after ≤ 17) ⌝ }
+    ensures { λ r. ⌜ Put at (bodyBytes (shapeOf (Reply.Refused before error after) [])) (now (out .entry)) r (now (out .exit)) ⌝ }
 {
-    if error == 0 {
-        put_body(out, at, &[0, 1, 0])
-    } else {
-        put_body(out, at, &[error, 0])
-    }
+    let first = xdr_opaque::put_zero_words(out, at, before as usize);
+    let second = xdr_opaque::put_words(out, first, &[error]);
+    xdr_opaque::put_zero_words(out, second, after as usize)
 }
 
 // Writes server info with these texts; the auth list is type 1.
@@ -118,18 +120,11 @@ fn put_server_info(out: &mut [u8], at: usize, known: bool) -> usize
 }
 
 // Writes the reply to execute CDB: no data out is told.
-fn put_cdb(
-    out: &mut [u8],
-    at: usize,
-    error: u32,
-    status: u32,
-    data_in: &[u8],
-    sense: &[u8],
-) -> usize
-    requires { ⌜ (at + 64 ≤ length (now out)) × (length (now data_in) ≤ 18) × (length (now sense) ≤ 18) ⌝ }
-    ensures { λ r. ⌜ Put at (bodyBytes (record { words = error ∷ status ∷ 0 ∷ []; texts = now (data_in .entry) ∷ now (sense .entry) ∷ []; tail = [] })) (now (out .entry)) r (now (out .exit)) ⌝ }
+fn put_cdb(out: &mut [u8], at: usize, status: u32, data_in: &[u8], sense: &[u8]) -> usize
+    requires { ⌜ (at + 64 ≤ length (now out)) × (length (now data_in) ≤ senseBytes) × (length (now sense) ≤ senseBytes) ⌝ }
+    ensures { λ r. ⌜ Put at (bodyBytes (record { words = 0 ∷ status ∷ 0 ∷ []; texts = now (data_in .entry) ∷ now (sense .entry) ∷ []; tail = [] })) (now (out .entry)) r (now (out .exit)) ⌝ }
 {
-    let first = xdr_opaque::put_words(out, at, &[error, status, 0]);
+    let first = xdr_opaque::put_words(out, at, &[0, status, 0]);
     let second = xdr_opaque::put_opaque(out, first, data_in);
     xdr_opaque::put_opaque(out, second, sense)
 }
@@ -147,12 +142,12 @@ fn sense_bytes(pending: bool) -> [u8; 18]
 
 // Writes the first n bytes of the sense as data in.
 fn put_sense(out: &mut [u8], at: usize, n: u32, pending: bool) -> usize
-    requires { ⌜ (at + 64 ≤ length (now out)) × (n ≤ 18) ⌝ }
+    requires { ⌜ (at + 64 ≤ length (now out)) × (n ≤ senseBytes) ⌝ }
     ensures { λ r. ⌜ Put at (bodyBytes (shapeOf (Reply.Sense n pending) [])) (now (out .entry)) r (now (out .exit)) ⌝ }
 {
     let bytes = sense_bytes(pending);
     let end = n as usize;
-    put_cdb(out, at, 0, 0, &bytes[..end], b"")
+    put_cdb(out, at, 0, &bytes[..end], b"")
 }
 
 // Writes status 2 with the extended sense.
@@ -161,39 +156,31 @@ fn put_check(out: &mut [u8], at: usize) -> usize
     ensures { λ r. ⌜ Put at (bodyBytes (shapeOf Reply.Check [])) (now (out .entry)) r (now (out .exit)) ⌝ }
 {
     let bytes = sense_bytes(true);
-    put_cdb(out, at, 0, 2, b"", &bytes)
+    put_cdb(out, at, 2, b"", &bytes)
 }
 
-// Writes an error and the bytes of a read.
-fn put_read(out: &mut [u8], at: usize, error: u32, bytes: &[u8]) -> usize
+// Writes the outcome and the bytes of a read.
+fn put_read(out: &mut [u8], at: usize, outcome: u32, bytes: &[u8]) -> usize
     requires { ⌜ (at + length (now bytes) + 12 ≤ length (now out)) × (length (now bytes) ≤ 65536) ⌝ }
-    ensures { λ r. ⌜ Put at (bodyBytes (record { words = error ∷ []; texts = now (bytes .entry) ∷ []; tail = [] })) (now (out .entry)) r (now (out .exit)) ⌝ }
+    ensures { λ r. ⌜ Put at (bodyBytes (record { words = outcome ∷ []; texts = now (bytes .entry) ∷ []; tail = [] })) (now (out .entry)) r (now (out .exit)) ⌝ }
 {
-    let first = xdr_opaque::put_words(out, at, &[error]);
+    let first = xdr_opaque::put_words(out, at, &[outcome]);
     xdr_opaque::put_opaque(out, first, bytes)
 }
 
-// The word that marks DATA's two estimates unsupported; zero where the request is refused.
-fn unsupported(error: u32) -> u32
-    ensures { λ r. ⌜ r ≡ choose (eqb error 0) 3 0 ⌝ }
-{
-    if error == 0 { 3 } else { 0 }
-}
-
-// Writes the data end; what is not kept is zero.
-fn put_data_state(out: &mut [u8], at: usize, error: u32, v: DataView) -> usize
+// Writes the data end: 3 marks the two estimates unsupported; what is not kept is zero.
+fn put_data_state(out: &mut [u8], at: usize, v: DataView) -> usize
     requires { ⌜ at + 60 ≤ length (now out) ⌝ }
-    ensures { λ r. ⌜ Put at (bodyBytes (shapeOf (Reply.DataState error v) [])) (now (out .entry)) r (now (out .exit)) ⌝ }
+    ensures { λ r. ⌜ Put at (bodyBytes (shapeOf (Reply.DataState v) [])) (now (out .entry)) r (now (out .exit)) ⌝ }
 {
-    let mask = unsupported(error);
     let high = (v.processed / 4294967296) as u32;
     let low = (v.processed % 4294967296) as u32;
     put_body(
         out,
         at,
         &[
-            mask,
-            error,
+            3,
+            0,
             v.operation,
             v.state,
             v.reason,
@@ -212,15 +199,15 @@ fn put_data_state(out: &mut [u8], at: usize, error: u32, v: DataView) -> usize
 }
 
 // Writes the mover; a hyper is its two words.
-fn put_mover_state(out: &mut [u8], at: usize, error: u32, v: MoverView) -> usize
+fn put_mover_state(out: &mut [u8], at: usize, v: MoverView) -> usize
     requires { ⌜ at + 72 ≤ length (now out) ⌝ }
-    ensures { λ r. ⌜ Put at (bodyBytes (shapeOf (Reply.MoverState error v) [])) (now (out .entry)) r (now (out .exit)) ⌝ }
+    ensures { λ r. ⌜ Put at (bodyBytes (shapeOf (Reply.MoverState v) [])) (now (out .entry)) r (now (out .exit)) ⌝ }
 {
     put_body(
         out,
         at,
         &[
-            error,
+            0,
             v.mode,
             v.state,
             v.pause,
@@ -249,24 +236,25 @@ pub fn write_body(out: &mut [u8], at: usize, reply: Reply, image: &[u8]) -> usiz
 {
     match reply {
         Reply::Header(_) => at,
-        Reply::Plain(error) => put_body(out, at, &[error]),
-        Reply::Listening(error) => put_body(out, at, &[error, 0]),
-        Reply::ConnectionTypes(error) => put_connection_types(out, at, error),
+        Reply::Refused(before, error, after) => put_refused(out, at, before, error, after),
+        Reply::Plain => put_body(out, at, &[0]),
+        Reply::Listening => put_body(out, at, &[0, codes::LOCAL_ADDRESS]),
+        Reply::ConnectionTypes => put_body(out, at, &[0, 1, codes::LOCAL_ADDRESS]),
         Reply::ServerInfo(known) => put_server_info(out, at, known),
-        Reply::ScsiState(error) => put_body(out, at, &[error, 0, 0, 0]),
-        Reply::Cdb(error) => put_cdb(out, at, error, 0, b"", b""),
+        Reply::ScsiState => put_body(out, at, &[0, 0, 0, 0]),
+        Reply::Cdb => put_cdb(out, at, 0, b"", b""),
         Reply::Sense(n, pending) => put_sense(out, at, n, pending),
         Reply::Check => put_check(out, at),
-        Reply::TapeState(error, file, block) => put_body(
+        Reply::TapeState(file, block) => put_body(
             out,
             at,
-            &[0, error, 0, file, 0, 0, block, 0, 0, 0, 0],
+            &[0, 0, 0, file, 0, 0, block, 0, 0, 0, 0],
         ),
-        Reply::Mtio(error, residue) => put_body(out, at, &[error, residue]),
-        Reply::Wrote(error, count) => put_body(out, at, &[error, count]),
-        Reply::Read(error, start, len) => put_read(out, at, error, &image[start..start + len]),
-        Reply::DataState(error, view) => put_data_state(out, at, error, view),
-        Reply::MoverState(error, view) => put_mover_state(out, at, error, view),
+        Reply::Mtio(outcome, residue) => put_body(out, at, &[outcome, residue]),
+        Reply::Wrote(outcome, count) => put_body(out, at, &[outcome, count]),
+        Reply::Read(outcome, start, len) => put_read(out, at, outcome, &image[start..start + len]),
+        Reply::DataState(view) => put_data_state(out, at, view),
+        Reply::MoverState(view) => put_mover_state(out, at, view),
     }
 }
 
@@ -292,7 +280,7 @@ fn write_header(
     echo: u32,
     error: u32,
 )
-    requires { ⌜ (at + 28 ≤ length (now out)) × (len ≤ 36840) ⌝ }
+    requires { ⌜ (at + 28 ≤ length (now out)) × (24 + len ≤ largestMessage) ⌝ }
     ensures { λ _. ⌜ now (out .exit) ≡ overlay at (be32s (headerWords len sequence time kind message echo error)) (now (out .entry)) ⌝ }
 {
     let mark = 0x8000_0000 + (24 + len) as u32;
@@ -309,8 +297,8 @@ pub fn write_reply(
     reply: Reply,
     image: &[u8],
 ) -> usize
-    requires { ⌜ (36864 ≤ length (now out)) × Sendable reply (now image) ⌝ }
-    ensures { λ r. ⌜ Sent 32804 0 (replyBytes sequence time message echo reply (now (image .entry))) (now (out .entry)) r (now (out .exit)) ⌝ }
+    requires { ⌜ (largestMessage ≤ length (now out)) × Sendable reply (now image) ⌝ }
+    ensures { λ r. ⌜ PutUpTo 32804 0 (replyBytes sequence time message echo reply (now (image .entry))) (now (out .entry)) r (now (out .exit)) ⌝ }
 {
     let end = write_body(out, 28, reply, image);
     let error = header_error(reply);
@@ -328,7 +316,7 @@ fn put_notice(
     ws: &[u32],
 ) -> usize
     requires { ⌜ (at + 40 ≤ length (now out)) × (length (now ws) ≤ 3) ⌝ }
-    ensures { λ r. ⌜ Sent (at + 40) at (recordBytes sequence time 0 message 0 0 (be32s (now (ws .entry)))) (now (out .entry)) r (now (out .exit)) ⌝ }
+    ensures { λ r. ⌜ PutUpTo (at + 40) at (recordBytes sequence time 0 message 0 0 (be32s (now (ws .entry)))) (now (out .entry)) r (now (out .exit)) ⌝ }
 {
     let end = xdr_opaque::put_words(out, at + 28, ws);
     write_header(out, at, 4 * ws.len(), sequence, time, 0, message, 0, 0);
@@ -338,11 +326,18 @@ fn put_notice(
 // Writes a notice at an offset; returns the offset after it.
 pub fn write_notice(out: &mut [u8], at: usize, sequence: u32, time: u32, notice: Notice) -> usize
     requires { ⌜ at + 40 ≤ length (now out) ⌝ }
-    ensures { λ r. ⌜ Sent (at + 40) at (noticeBytes sequence time notice) (now (out .entry)) r (now (out .exit)) ⌝ }
+    ensures { λ r. ⌜ PutUpTo (at + 40) at (noticeBytes sequence time notice) (now (out .entry)) r (now (out .exit)) ⌝ }
 {
     match notice {
         Notice::DataHalted(reason) => put_notice(out, at, sequence, time, 0x501, &[reason]),
-        Notice::Connected => put_notice(out, at, sequence, time, 0x502, &[0, 4, 0]),
+        Notice::Connected => put_notice(
+            out,
+            at,
+            sequence,
+            time,
+            0x502,
+            &[0, codes::VERSION_FOUR, 0],
+        ),
         Notice::MoverHalted(reason) => put_notice(out, at, sequence, time, 0x503, &[reason]),
         Notice::MoverPaused(reason, seek) => put_notice(
             out,
@@ -367,4 +362,9 @@ pub fn answers_fit()
 // The same, of what is sent being read back.
 pub fn replies_round_trip()
     ensures { λ r. ⌜ RepliesBack ⌝ }
+{}
+
+// The same, of a refusal being as long as its message's accepted reply with nothing told.
+pub fn refusals_as_long()
+    ensures { λ r. ⌜ RefusalsAsLong ⌝ }
 {}

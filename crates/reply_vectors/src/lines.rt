@@ -32,7 +32,7 @@ fn put_bytes(s: &[u8], n: usize)
 }
 
 // The first n bytes of an output, and four after them, which are to stay as they were.
-pub fn put_sent(name: &[u8], out: &[u8; 36864], n: usize)
+pub fn put_sent(name: &[u8], out: &[u8; codes::LARGEST_MESSAGE], n: usize)
     requires { ⌜ n ≤ 36000 ⌝ }
 {
     put(name);

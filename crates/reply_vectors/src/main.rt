@@ -8,6 +8,7 @@ use replies::Notice;
 use replies::Reply;
 use sending::answer;
 use sending::notify;
+use sending::refuse;
 use sending::send;
 
 fn plain() {
@@ -29,18 +30,10 @@ fn plain() {
         Reply::Header(18),
         b"",
     );
-    send(b"plain", 3, 1003, 0x900, 503, Reply::Plain(0), b"");
-    send(b"plain_refused", 4, 1004, 0xA05, 504, Reply::Plain(26), b"");
-    send(b"listening", 5, 1005, 0x409, 505, Reply::Listening(0), b"");
-    send(
-        b"listening_refused",
-        6,
-        1006,
-        0xA01,
-        506,
-        Reply::Listening(19),
-        b"",
-    );
+    send(b"plain", 3, 1003, 0x900, 503, Reply::Plain, b"");
+    refuse(b"plain_refused", 4, 1004, 0xA05, 504, 0, 26, 0);
+    send(b"listening", 5, 1005, 0x409, 505, Reply::Listening, b"");
+    refuse(b"listening_refused", 6, 1006, 0xA01, 506, 0, 19, 1);
 }
 
 fn config() {
@@ -50,18 +43,10 @@ fn config() {
         1007,
         0x102,
         507,
-        Reply::ConnectionTypes(0),
+        Reply::ConnectionTypes,
         b"",
     );
-    send(
-        b"connection_types_refused",
-        8,
-        1008,
-        0x102,
-        508,
-        Reply::ConnectionTypes(4),
-        b"",
-    );
+    refuse(b"connection_types_refused", 8, 1008, 0x102, 508, 0, 4, 1);
     send(
         b"server_info_before_auth",
         9,
@@ -83,26 +68,10 @@ fn config() {
 }
 
 fn scsi() {
-    send(
-        b"scsi_state",
-        11,
-        1011,
-        0x202,
-        511,
-        Reply::ScsiState(0),
-        b"",
-    );
-    send(
-        b"scsi_state_refused",
-        12,
-        1012,
-        0x202,
-        512,
-        Reply::ScsiState(6),
-        b"",
-    );
-    send(b"cdb", 13, 1013, 0x206, 513, Reply::Cdb(0), b"");
-    send(b"cdb_refused", 14, 1014, 0x206, 514, Reply::Cdb(9), b"");
+    send(b"scsi_state", 11, 1011, 0x202, 511, Reply::ScsiState, b"");
+    refuse(b"scsi_state_refused", 12, 1012, 0x202, 512, 0, 6, 3);
+    send(b"cdb", 13, 1013, 0x206, 513, Reply::Cdb, b"");
+    refuse(b"cdb_refused", 14, 1014, 0x206, 514, 0, 9, 4);
     send(b"check", 15, 1015, 0x206, 515, Reply::Check, b"");
 }
 
@@ -137,18 +106,10 @@ fn tape() {
         1021,
         0x302,
         521,
-        Reply::TapeState(0, 2, 3),
+        Reply::TapeState(2, 3),
         b"",
     );
-    send(
-        b"tape_state_refused",
-        22,
-        1022,
-        0x302,
-        522,
-        Reply::TapeState(7, 0, 0),
-        b"",
-    );
+    refuse(b"tape_state_refused", 22, 1022, 0x302, 522, 1, 7, 9);
     send(b"mtio", 23, 1023, 0x303, 523, Reply::Mtio(0, 0), b"");
     send(b"mtio_mark", 24, 1024, 0x303, 524, Reply::Mtio(12, 2), b"");
     send(b"wrote", 25, 1025, 0x304, 525, Reply::Wrote(0, 32768), b"");
@@ -215,7 +176,7 @@ fn data_states() {
         1031,
         0x400,
         531,
-        Reply::DataState(0, active),
+        Reply::DataState(active),
         b"",
     );
     let halted = DataView {
@@ -230,24 +191,10 @@ fn data_states() {
         1032,
         0x400,
         532,
-        Reply::DataState(0, halted),
+        Reply::DataState(halted),
         b"",
     );
-    let none = DataView {
-        operation: 0,
-        state: 0,
-        reason: 0,
-        processed: 0,
-    };
-    send(
-        b"data_state_refused",
-        33,
-        1033,
-        0x400,
-        533,
-        Reply::DataState(4, none),
-        b"",
-    );
+    refuse(b"data_state_refused", 33, 1033, 0x400, 533, 1, 4, 13);
 }
 
 fn mover_states() {
@@ -270,31 +217,10 @@ fn mover_states() {
         1034,
         0xA00,
         534,
-        Reply::MoverState(0, paused),
+        Reply::MoverState(paused),
         b"",
     );
-    let none = MoverView {
-        mode: 0,
-        state: 0,
-        pause: 0,
-        halt: 0,
-        size: 0,
-        number: 0,
-        moved: 0,
-        seek: 0,
-        left: 0,
-        offset: 0,
-        length: 0,
-    };
-    send(
-        b"mover_state_refused",
-        35,
-        1035,
-        0xA00,
-        535,
-        Reply::MoverState(4, none),
-        b"",
-    );
+    refuse(b"mover_state_refused", 35, 1035, 0xA00, 535, 0, 4, 17);
 }
 
 fn notices() {
@@ -309,6 +235,14 @@ fn notices() {
     );
 }
 
+// Refusals of the layouts that are not above, as each message has them.
+fn refusals() {
+    refuse(b"server_info_refused", 43, 1043, 0x108, 543, 0, 4, 4);
+    refuse(b"tape_mtio_refused", 44, 1044, 0x303, 544, 0, 19, 1);
+    refuse(b"tape_write_refused", 45, 1045, 0x304, 545, 0, 19, 1);
+    refuse(b"tape_read_refused", 46, 1046, 0x305, 546, 0, 19, 1);
+}
+
 fn main() {
     plain();
     config();
@@ -320,4 +254,5 @@ fn main() {
     mover_states();
     notices();
     answer();
+    refusals();
 }

@@ -1,12 +1,12 @@
 // Records written into an output of the least length and printed. The output is not zero, so that a zero there is one that was written.
 ghost use Prim.Native.Nat.{_≤_, _+_};
-ghost use Rattle.reply_vectors.specs.Ready.{Ready};
+ghost use Rattle.replies.specs.Fit.{Sending};
 use super::lines::put_sent;
 use replies::Notice;
 use replies::Reply;
 
 fn put_reply(
-    out: &mut [u8; 36864],
+    out: &mut [u8; codes::LARGEST_MESSAGE],
     sequence: u32,
     time: u32,
     message: u32,
@@ -14,13 +14,19 @@ fn put_reply(
     reply: Reply,
     image: &[u8],
 ) -> usize
-    requires { ⌜ Ready reply (now image) ⌝ }
+    requires { ⌜ Sending reply (now image) ⌝ }
     ensures { λ r. ⌜ r ≤ 32804 ⌝ }
 {
     replies::write_reply(out, sequence, time, message, echo, reply, image)
 }
 
-fn put_notice(out: &mut [u8; 36864], at: usize, sequence: u32, time: u32, notice: Notice) -> usize
+fn put_notice(
+    out: &mut [u8; codes::LARGEST_MESSAGE],
+    at: usize,
+    sequence: u32,
+    time: u32,
+    notice: Notice,
+) -> usize
     requires { ⌜ at ≤ 36000 ⌝ }
     ensures { λ r. ⌜ r ≤ at + 40 ⌝ }
 {
@@ -36,23 +42,40 @@ pub fn send(
     reply: Reply,
     image: &[u8],
 )
-    requires { ⌜ Ready reply (now image) ⌝ }
+    requires { ⌜ Sending reply (now image) ⌝ }
 {
-    let mut out = [0xAAu8; 36864];
+    let mut out = [0xAAu8; codes::LARGEST_MESSAGE];
     let end = put_reply(&mut out, sequence, time, message, echo, reply, image);
     put_sent(name, &out, end);
 }
 
+// A refusal: its number, with the zero words before and after it.
+pub fn refuse(
+    name: &[u8],
+    sequence: u32,
+    time: u32,
+    message: u32,
+    echo: u32,
+    before: u32,
+    error: u32,
+    after: u32,
+)
+    requires { ⌜ before + after ≤ 17 ⌝ }
+{
+    let reply = Reply::Refused(before, error, after);
+    send(name, sequence, time, message, echo, reply, b"");
+}
+
 pub fn notify(name: &[u8], sequence: u32, time: u32, notice: Notice) {
-    let mut out = [0xAAu8; 36864];
+    let mut out = [0xAAu8; codes::LARGEST_MESSAGE];
     let end = put_notice(&mut out, 0, sequence, time, notice);
     put_sent(name, &out, end);
 }
 
 // A reply and the two notices behind it, as an abort sends them.
 pub fn answer() {
-    let mut out = [0xAAu8; 36864];
-    let first = put_reply(&mut out, 40, 1040, 0x403, 540, Reply::Plain(0), b"");
+    let mut out = [0xAAu8; codes::LARGEST_MESSAGE];
+    let first = put_reply(&mut out, 40, 1040, 0x403, 540, Reply::Plain, b"");
     let second = put_notice(&mut out, first, 41, 1040, Notice::DataHalted(2));
     let end = put_notice(&mut out, second, 42, 1040, Notice::MoverHalted(1));
     put_sent(b"answer", &out, end);

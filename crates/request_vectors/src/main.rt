@@ -9,8 +9,9 @@ use requests::Request;
 
 // The request of a message number and a body.
 fn show_request(number: u32, body: &[u8]) {
-    let m = frame::message_of(number);
-    let r = requests::decode(m, body);
+    let row = frame::row_of(number);
+    let kind = row.kind;
+    let r = requests::decode(kind, body);
     match r {
         Request::Connect(k) => shown::connect(k, body),
         Request::Config(k) => shown::config(k),

@@ -1,112 +1,61 @@
 // The requests of the SCSI interface: a changer that knows two opcodes and refuses the others.
 ghost use mathlib.Core.Path.{_≡_};
-ghost use Prim.Native.Nat.{_+_, _≤_};
-ghost use lib.ListN.{length};
 ghost use Rattle.xdr.specs.Xdr.{sameBytes};
-ghost use Rattle.cartridge.specs.Operations.{least};
-ghost use Rattle.session.specs.Judge.{first};
-ghost use Rattle.session.specs.Telling.{Told};
-ghost use Rattle.session.specs.DataService.{textOf, TextIn};
-ghost use Rattle.session.specs.ScsiService.{changer0, scsiOpenTests, scsiOpen, scsiClear, scsiState, cdbTests, senseLength, runCdb, scsiCdb, scsiStep, ScsiTexts};
+ghost use Rattle.requests.specs.Within.{bytesAt, Within, textsWithin};
+ghost use Rattle.requests.specs.declared.Request.the-variants as Request;
+ghost use Rattle.session.specs.ScsiService.{changer0, withSense, scsiOpen, scsiClear, scsiState, senseLength, scsiCdb, scsiStep};
+ghost use Rattle.scsi_service.specs.Done.{outcomeOf};
 use replies::Reply;
 use requests::ScsiRequest;
 use requests::Text;
 use session::types::Changer;
 
-// A reply, and the changer after it.
-pub struct ScsiDone {
-    pub reply: Reply,
-    pub next: Changer,
+// The most bytes of a CDB.
+const LONGEST_CDB: usize = 16;
+
+// A refusal, or a reply and the changer after it.
+pub enum ScsiDone {
+    Refuse(u32),
+    Accept(Reply, Changer),
 }
 
-fn open_error(known: bool, named: bool, opened: bool) -> u32
-    ensures { λ r. ⌜ r ≡ first (scsiOpenTests known named opened) ⌝ }
+fn open_changer(c: Changer, named: bool) -> ScsiDone
+    ensures { λ r. ⌜ outcomeOf r ≡ scsiOpen c named ⌝ }
 {
-    if !known {
-        return 4;
-    }
     if !named {
-        return 16;
+        return ScsiDone::Refuse(codes::NO_DEVICE);
     }
-    if opened {
-        return 3;
-    }
-    0
-}
-
-fn cdb_error(known: bool, opened: bool, len: usize) -> u32
-    ensures { λ r. ⌜ r ≡ first (cdbTests known opened len) ⌝ }
-{
-    if !known {
-        return 4;
-    }
-    if !opened {
-        return 6;
-    }
-    if len == 0 {
-        return 9;
-    }
-    if 16 < len {
-        return 9;
-    }
-    0
-}
-
-fn open_changer(known: bool, c: Changer, named: bool) -> ScsiDone
-    ensures { λ r. ⌜ Told (scsiOpen known c named) (r .reply) (r .next) ⌝ }
-{
-    let e = open_error(known, named, c.opened);
-    if e != 0 {
-        return ScsiDone {
-            reply: Reply::Plain(e),
-            next: c,
-        };
+    if c.opened {
+        return ScsiDone::Refuse(codes::DEVICE_OPENED);
     }
     let next = Changer {
         opened: true,
         pending: false,
     };
-    ScsiDone {
-        reply: Reply::Plain(0),
-        next,
-    }
+    ScsiDone::Accept(Reply::Plain, next)
 }
 
 // Clears the pending sense: close, and reset, which leaves the changer open.
-fn clear(known: bool, c: Changer, opened: bool) -> ScsiDone
-    ensures { λ r. ⌜ Told (scsiClear known c opened) (r .reply) (r .next) ⌝ }
+fn clear(c: Changer, opened: bool) -> ScsiDone
+    ensures { λ r. ⌜ outcomeOf r ≡ scsiClear c opened ⌝ }
 {
-    let e = tape_service::device_error(known, c.opened);
-    if e != 0 {
-        return ScsiDone {
-            reply: Reply::Plain(e),
-            next: c,
-        };
+    if !c.opened {
+        return ScsiDone::Refuse(codes::NOT_OPEN);
     }
     let next = Changer {
         opened,
         pending: false,
     };
-    ScsiDone {
-        reply: Reply::Plain(0),
-        next,
-    }
+    ScsiDone::Accept(Reply::Plain, next)
 }
 
-fn get_state(known: bool, c: Changer) -> ScsiDone
-    ensures { λ r. ⌜ Told (scsiState known c) (r .reply) (r .next) ⌝ }
+fn get_state(c: Changer) -> ScsiDone
+    ensures { λ r. ⌜ outcomeOf r ≡ scsiState c ⌝ }
 {
-    let e = tape_service::device_error(known, c.opened);
-    ScsiDone {
-        reply: Reply::ScsiState(e),
-        next: c,
+    if !c.opened {
+        return ScsiDone::Refuse(codes::NOT_OPEN);
     }
-}
-
-fn lesser(a: u32, b: u32) -> u32
-    ensures { λ r. ⌜ r ≡ least a b ⌝ }
-{
-    if a < b { a } else { b }
+    ScsiDone::Accept(Reply::ScsiState, c)
 }
 
 // How many bytes of the sense are handed over.
@@ -114,12 +63,12 @@ fn sense_length(cdb: &[u8], room: u32) -> u32
     ensures { λ r. ⌜ r ≡ senseLength (now (cdb .entry)) room ⌝ }
 {
     let fifth = xdr::byte_at(cdb, 4);
-    let cut = lesser(fifth, room);
-    lesser(cut, 18)
+    let cut = xdr::lesser(fifth, room);
+    xdr::lesser(cut, codes::SENSE_BYTES)
 }
 
 fn with_sense(c: Changer, pending: bool) -> Changer
-    ensures { λ r. ⌜ r ≡ record { opened = c .opened; pending = pending } ⌝ }
+    ensures { λ r. ⌜ r ≡ withSense c pending ⌝ }
 {
     Changer {
         opened: c.opened,
@@ -127,49 +76,35 @@ fn with_sense(c: Changer, pending: bool) -> Changer
     }
 }
 
-// Runs a CDB of 1 to 16 bytes.
-fn run_cdb(c: Changer, cdb: &[u8], room: u32) -> ScsiDone
-    ensures { λ r. ⌜ Told (runCdb c (now (cdb .entry)) room) (r .reply) (r .next) ⌝ }
+fn execute_cdb(c: Changer, cdb: &[u8], room: u32) -> ScsiDone
+    ensures { λ r. ⌜ outcomeOf r ≡ scsiCdb c (now (cdb .entry)) room ⌝ }
 {
+    if !c.opened {
+        return ScsiDone::Refuse(codes::NOT_OPEN);
+    }
+    if cdb.len() == 0 {
+        return ScsiDone::Refuse(codes::ILLEGAL_ARGUMENTS);
+    }
+    if LONGEST_CDB < cdb.len() {
+        return ScsiDone::Refuse(codes::ILLEGAL_ARGUMENTS);
+    }
     let op = xdr::byte_at(cdb, 0);
     if op == 0 {
-        return ScsiDone {
-            reply: Reply::Cdb(0),
-            next: c,
-        };
+        return ScsiDone::Accept(Reply::Cdb, c);
     }
     if op == 3 {
         let n = sense_length(cdb, room);
         let next = with_sense(c, false);
-        return ScsiDone {
-            reply: Reply::Sense(n, c.pending),
-            next,
-        };
+        return ScsiDone::Accept(Reply::Sense(n, c.pending), next);
     }
     let next = with_sense(c, true);
-    ScsiDone {
-        reply: Reply::Check,
-        next,
-    }
-}
-
-fn execute_cdb(known: bool, c: Changer, cdb: &[u8], room: u32) -> ScsiDone
-    ensures { λ r. ⌜ Told (scsiCdb known c (now (cdb .entry)) room) (r .reply) (r .next) ⌝ }
-{
-    let e = cdb_error(known, c.opened, cdb.len());
-    if e != 0 {
-        return ScsiDone {
-            reply: Reply::Cdb(e),
-            next: c,
-        };
-    }
-    run_cdb(c, cdb, room)
+    ScsiDone::Accept(Reply::Check, next)
 }
 
 // Whether the device of an open request is `changer0`.
 fn is_changer(body: &[u8], name: Text) -> bool
-    requires { ⌜ TextIn (now body) name ⌝ }
-    ensures { λ r. ⌜ r ≡ sameBytes (textOf (now (body .entry)) name) changer0 ⌝ }
+    requires { ⌜ Within (now body) name ⌝ }
+    ensures { λ r. ⌜ r ≡ sameBytes (bytesAt (now (body .entry)) name) changer0 ⌝ }
 {
     let start = name.start;
     let end = start + name.len;
@@ -177,22 +112,22 @@ fn is_changer(body: &[u8], name: Text) -> bool
 }
 
 // A request of the SCSI interface.
-pub fn serve(known: bool, c: Changer, q: ScsiRequest, body: &[u8]) -> ScsiDone
-    requires { ⌜ ScsiTexts (now body) q ⌝ }
-    ensures { λ r. ⌜ Told (scsiStep known c q (now (body .entry))) (r .reply) (r .next) ⌝ }
+pub fn serve(c: Changer, q: ScsiRequest, body: &[u8]) -> ScsiDone
+    requires { ⌜ textsWithin (now body) (Request.Scsi q) ⌝ }
+    ensures { λ r. ⌜ outcomeOf r ≡ scsiStep c q (now (body .entry)) ⌝ }
 {
     match q {
         ScsiRequest::Open(name) => {
             let named = is_changer(body, name);
-            open_changer(known, c, named)
+            open_changer(c, named)
         }
-        ScsiRequest::Close => clear(known, c, false),
-        ScsiRequest::State => get_state(known, c),
-        ScsiRequest::Reset => clear(known, c, true),
+        ScsiRequest::Close => clear(c, false),
+        ScsiRequest::State => get_state(c),
+        ScsiRequest::Reset => clear(c, true),
         ScsiRequest::Cdb(cdb, room) => {
             let start = cdb.start;
             let end = start + cdb.len;
-            execute_cdb(known, c, &body[start..end], room)
+            execute_cdb(c, &body[start..end], room)
         }
     }
 }

@@ -1,167 +1,106 @@
--- Requests at their services: texts lie in the body, what is answered can be sent, and a call of a service does what its definition says. Assumes nothing.
+-- Requests at their services: what is answered can be sent, and a call of a service does what its outcome says. Assumes nothing.
 use Prim.Native.Nat.{ℕ}
-use mathlib.Core.Bool.{Bool, true, false, not}
-use native.Mathlib.Omega.{arith}
-use mathlib.Core.List.{List, [], _∷_}
+use mathlib.Core.Bool.{Bool, true, false}
+use mathlib.Core.List.{List, []}
 use mathlib.Core.Path.{_≡_, refl, sym, ap, _∙_}
 use lib.ListN.{drop}
+use Rattle.xdr.specs.Choose.{choose}
+use Rattle.frame.specs.Frame.{wellFramed}
+use Rattle.frame.specs.Messages.{rowOf}
 use Rattle.frame.specs.declared.Message.{Message}
+use Rattle.frame.specs.declared.Row.{Row}
+use Rattle.xdr.specs.Xdr.{word}
 use Rattle.requests.specs.Within.{textsWithin, Decoded}
 use Rattle.requests.specs.declared.Request.{Request}
-use Rattle.requests.specs.declared.Request.the-variants as Request
-use Rattle.requests.specs.declared.DataRequest.{DataRequest}
-use Rattle.requests.specs.declared.DataRequest.the-variants as DataRequest
-use Rattle.requests.specs.declared.ScsiRequest.{ScsiRequest}
-use Rattle.requests.specs.declared.ScsiRequest.the-variants as ScsiRequest
-use Rattle.requests.specs.declared.TapeRequest.{TapeRequest}
-use Rattle.requests.specs.declared.TapeRequest.the-variants as TapeRequest
-use Rattle.requests.specs.declared.MoverRequest.{MoverRequest}
-use Rattle.requests.specs.declared.JointRequest.{JointRequest}
-use Rattle.requests.specs.declared.Text.{Text}
-use Rattle.requests.specs.declared.ConnectRequest.the-variants as ConnectRequest
-use Rattle.requests.specs.declared.ConfigRequest.{ConfigRequest}
-use Rattle.xdr.specs.Choose.{choose}
 use Rattle.replies.specs.declared.Reply.{Reply}
 use Rattle.replies.specs.declared.Reply.the-variants as Reply
+use Rattle.replies.specs.declared.Notice.the-variants as Notice
 use Rattle.replies.specs.Fit.{Sendable}
-use Rattle.session.specs.declared.types.Data.{Data}
+use Rattle.requests.specs.declared.TapeRequest.{TapeRequest}
+use Rattle.requests.specs.declared.MoverRequest.{MoverRequest}
 use Rattle.session.specs.declared.types.Mover.{Mover}
-use Rattle.session.specs.declared.types.Tape.{Tape}
-use Rattle.session.specs.declared.types.Changer.{Changer}
-use Rattle.session.specs.Judge.{Served, Outcome, refuse, accept, allowed, settled}
-use Rattle.session.specs.Telling.{Told}
-use Rattle.session.specs.DataService.{TextIn, DataTexts, dataStep, dataRefusal}
+use Rattle.session.specs.declared.Guard.the-variants.{Stop, Go}
+use Rattle.session.specs.TapeService.{Loaded, TapePart, deviceStep, withLoaded, withMover, tapeStep, moverPartStep}
 use Rattle.session.specs.MoverService.{moverStep}
-use Rattle.session.specs.TapeService.{Loaded, loaded, TapeTexts, deviceStep, TapePart, tapeStep, moverPartStep}
-use Rattle.session.specs.ScsiService.{ScsiTexts, scsiStep}
-use Rattle.session.specs.Joint.{jointStep}
-use Rattle.session.specs.Connection.{connectOpen, clientAuth, configReply}
-use Rattle.session.specs.Answer.{Kept, Lent, Answered, messageIn, requestIn, judged}
-use Rattle.session.proofs.Sending.{data-refusal-sendable, data-step-sendable, tape-step-sendable, mover-step-sendable, scsi-step-sendable, joint-step-sendable, config-sendable}
+use Rattle.session.specs.Judge.{Outcome, refuse, accept, onto, Accepts}
+use Rattle.session.specs.Answer.{Kept, Lent, Answered, Done, silent, guarded, answered, requested, replying, halting, noticed, refusing, refusedIn, isUnread, settled, requestIn, messageIn, judged}
+use Rattle.session.specs.Answer.{isLocked, isClose, closing, outcome}
+use Rattle.session.proofs.Guarding.{when-stopped, when-goes}
+use Rattle.session.proofs.Calls.{judged-locked, judged-free}
 use Rattle.session.specs.declared.types.Answer.{Answer}
 use Rattle.answering.specs.Call.{CallTold}
 
--- a call, by what its step gave over the part of the record that is lent: `by` answers with a step's reply and part
-pub arm : {A : Type 0} (by : Served A → Answered) (step : List ℕ → Served A) (r body : List ℕ) (reply : Reply) (n : A) (v : Answer) (image l l′ : List ℕ) → body ≡ drop 28 r
-    → Told (step body) reply n → CallTold (by (record { reply = reply; part = n })) v image l l′ → CallTold (by (step (drop 28 r))) v image l l′
-arm by step r body reply n v image l l′ h t c =
-    let t′ : Told (step (drop 28 r)) reply n = rw h at t in
-    let e : step (drop 28 r) ≡ record { reply = reply; part = n } = λ i. record { reply = sym (t′ .reply) i; part = sym (t′ .part) i } in
-    rw e c
+-- what is said of accepted answers, of the one that was given
+pub accepted-says : {A : Type 0} (P : Reply → A → Type 0) (o : Outcome A) (reply : Reply) (p : A) → accept reply p ≡ o → Accepts P o → P reply p
+unfolding Accepts
+accepted-says P o reply p e h = rw (← e) at h
 
--- a call by the outcome of its step: not authorized, refused, accepted
-module _ {A : Type 0} (by : Served A → Answered) (now : A) (f : ℕ → Reply) {v : Answer} {image l l′ : List ℕ} where
-  pub call-unknown : (known : Bool) (o : Outcome A) → not known ≡ true → CallTold (by (record { reply = f 4; part = now })) v image l l′
-      → CallTold (by (settled now f (allowed known o))) v image l l′
-  unfolding allowed settled choose
-  call-unknown true o h c = absurd (let z : _≡_ {A = ℕ} 0 1 = cc in omega arith)
-  call-unknown false o h c = c
+-- ---- a call by the outcome of its step: refused; accepted with no end halted; accepted
+module _ {A : Type 0} (k : Kept) (time : ℕ) (r : List ℕ) (q : Request) (put : A → Done) (o : Outcome A) {v : Answer} {image l l′ : List ℕ} where
+  pub call-refused : (e : ℕ) → isUnread q ≡ false → refuse e ≡ o → CallTold (replying r time (refusedIn r e) [] k) v image l l′
+      → CallTold (settled k time r q (onto put o)) v image l l′
+  unfolding settled onto refusing choose
+  call-refused e u h c = rw (← h, u) c
 
-  pub call-settled : (known : Bool) (step : List ℕ → Outcome A) (r body : List ℕ) (o : Outcome A) → not known ≡ false → body ≡ drop 28 r → o ≡ step body
-      → CallTold (by (settled now f o)) v image l l′ → CallTold (by (settled now f (allowed known (step (drop 28 r))))) v image l l′
-  unfolding allowed choose
-  call-settled true step r body o h hb e c = let e′ : o ≡ step (drop 28 r) = rw hb at e in rw (← e′) c
-  call-settled false step r body o h hb e c = absurd (let z : _≡_ {A = ℕ} 0 1 = cc in omega arith)
+  pub call-ended : (reply : Reply) (p : A) → accept reply p ≡ o
+      → CallTold (halting time (put p .dwhy) (put p .mwhy) (replying r time reply (put p .shown) (put p .kept))) v image l l′
+      → CallTold (settled k time r q (onto put o)) v image l l′
+  unfolding settled onto
+  call-ended reply p h c = rw (← h) c
 
--- ---- texts lie in the body
-pub data-texts : (body : List ℕ) (q : DataRequest) → textsWithin body (Request.Data q) → DataTexts body q
-unfolding textsWithin DataTexts
-data-texts body DataRequest.State h = tt
-data-texts body (DataRequest.Backup name) h = h
-data-texts body (DataRequest.Recover name) h = h
-data-texts body DataRequest.Stop h = tt
-data-texts body (DataRequest.Listen address) h = tt
+  pub call-accepted : (reply : Reply) (p : A) → put p .dwhy ≡ 0 → put p .mwhy ≡ 0 → accept reply p ≡ o
+      → CallTold (replying r time reply (put p .shown) (put p .kept)) v image l l′ → CallTold (settled k time r q (onto put o)) v image l l′
+  unfolding settled onto noticed choose
+  call-accepted reply p d m h c = rw (← h, d, m) c
 
-pub scsi-texts : (body : List ℕ) (q : ScsiRequest) → textsWithin body (Request.Scsi q) → ScsiTexts body q
-unfolding textsWithin ScsiTexts
-scsi-texts body (ScsiRequest.Open name) h = h
-scsi-texts body ScsiRequest.Close h = tt
-scsi-texts body ScsiRequest.State h = tt
-scsi-texts body ScsiRequest.Reset h = tt
-scsi-texts body (ScsiRequest.Cdb cdb room) h = h
+-- ---- the service TAPE and MOVER: what an interface of it came to, as the service's own outcome
+module _ (p : TapePart) where
+  pub tape-refuses : (q : TapeRequest) (body : List ℕ) (e : ℕ) → deviceStep (p .mover .state) (p .tape) (p .image) q body ≡ refuse e → refuse e ≡ tapeStep p q body
+  unfolding tapeStep onto
+  tape-refuses q body e h = rw h
 
-pub tape-texts : (body : List ℕ) (q : TapeRequest) → textsWithin body (Request.Tape q) → TapeTexts body q
-unfolding textsWithin TapeTexts
-tape-texts body (TapeRequest.Open name mode) h = h
-tape-texts body TapeRequest.Close h = tt
-tape-texts body TapeRequest.State h = tt
-tape-texts body (TapeRequest.Mtio op times) h = tt
-tape-texts body (TapeRequest.Write bytes) h = h
-tape-texts body (TapeRequest.Read times) h = tt
+  pub tape-accepts : (q : TapeRequest) (body : List ℕ) (reply : Reply) (s : Loaded) → deviceStep (p .mover .state) (p .tape) (p .image) q body ≡ accept reply s
+      → accept reply (withLoaded p s) ≡ tapeStep p q body
+  unfolding tapeStep onto
+  tape-accepts q body reply s h = rw h
 
-pub connect-texts : (body : List ℕ) (id password : Text) → textsWithin body (Request.Connect (ConnectRequest.Auth id password)) → TextIn body id × TextIn body password
-unfolding textsWithin
-connect-texts body id password h = h
+  pub mover-refuses : (q : MoverRequest) (e : ℕ) → refuse e ≡ moverStep (p .mover) (p .tape) q → refuse e ≡ moverPartStep p q
+  unfolding moverPartStep onto
+  mover-refuses q e h = rw (← h)
 
--- ---- parts
--- what the device gave, in the service's part
-pub tape-lifts : (known : Bool) (m : Mover) (t : Tape) (l body : List ℕ) (q : TapeRequest) (reply : Reply) (next : Tape) (l′ : List ℕ)
-    → Told (deviceStep known (m .state) t l q body) reply (loaded next l′)
-    → Told (tapeStep known (record { mover = m; tape = t; image = l }) q body) reply (record { mover = m; tape = next; image = l′ })
-unfolding tapeStep
-tape-lifts known m t l body q reply next l′ told =
-    record { reply = told .reply; part = ap (λ (x : Loaded). record { mover = m; tape = x .tape; image = x .image }) (told .part) }
+  pub mover-accepts : (q : MoverRequest) (reply : Reply) (m : Mover) → accept reply m ≡ moverStep (p .mover) (p .tape) q → accept reply (withMover p m) ≡ moverPartStep p q
+  unfolding moverPartStep onto
+  mover-accepts q reply m h = rw (← h)
 
-pub mover-lifts : (known : Bool) (m : Mover) (t : Tape) (q : MoverRequest) (reply : Reply) (next : Mover)
-    → Told (moverStep known m t q) reply next
-    → (l : List ℕ) → Told (moverPartStep known (record { mover = m; tape = t; image = l }) q) reply (record { mover = next; tape = t; image = l })
-unfolding moverPartStep
-mover-lifts known m t q reply next told l =
-    record { reply = told .reply; part = ap (λ (x : Mover). record { mover = x; tape = t; image = l }) (told .part) }
+-- ---- the request of a record, by what was decoded from the part of it that is lent
+pub request-is : (r : List ℕ) {body : List ℕ} {m : ℕ} {row : Row} {kind : Message} {q : Request} → body ≡ drop 28 r → m ≡ word r 16 → row ≡ rowOf m → kind ≡ row .kind
+    → Decoded kind body q → q ≡ requestIn r
+request-is r hb hm hr hk d = d .is ∙ rw (hb, hk, hr, hm)
 
--- ---- what is answered can be sent
-pub plain-sends : (e : ℕ) (reply : Reply) (seen : List ℕ) → reply ≡ Reply.Plain e → Sendable reply seen
-unfolding Sendable
-plain-sends e reply seen h = rw h tt
+pub texts-in : (r : List ℕ) {body : List ℕ} {m : Message} {q : Request} → body ≡ drop 28 r → Decoded m body q → textsWithin (drop 28 r) q
+texts-in r hb d = rw hb at (d .within)
 
 pub header-sends : (e : ℕ) (seen : List ℕ) → Sendable (Reply.Header e) seen
 unfolding Sendable
 header-sends e seen = tt
 
-pub opens-sends : (fresh : Bool) (version : ℕ) (reply : Reply) (seen : List ℕ) → reply ≡ connectOpen fresh version → Sendable reply seen
-unfolding connectOpen
-opens-sends fresh version reply seen h = plain-sends _ reply seen h
+-- a request that is locked is refused with 4; any other is at its service
+module _ (k : Kept) (l : Lent) (r : List ℕ) (q : Request) {v : Answer} {image out out′ : List ℕ} where
+  pub call-locked : q ≡ requestIn r → isLocked (k .session .login) q ≡ true → CallTold (replying r (l .time) (refusedIn r 4) [] k) v image out out′
+      → CallTold (judged k l r (requestIn r)) v image out out′
+  call-locked e h c = rw (← e, judged-locked k l r q h) c
 
-pub auth-sends : (known right : Bool) (reply : Reply) (part : Bool) (seen : List ℕ) → Told (clientAuth known right) reply part → Sendable reply seen
-unfolding clientAuth
-auth-sends known right reply part seen t = plain-sends _ reply seen (t .reply)
+  pub call-free : q ≡ requestIn r → isLocked (k .session .login) q ≡ false
+      → CallTold (choose (isClose q) (closing k) (settled k (l .time) r q (outcome k l r q))) v image out out′ → CallTold (judged k l r (requestIn r)) v image out out′
+  call-free e h c = rw (← e, judged-free k l r q h) c
 
-pub config-sends : (known : Bool) (q : ConfigRequest) (reply : Reply) (seen : List ℕ) → reply ≡ configReply known q → Sendable reply seen
-config-sends known q reply seen h = rw h (config-sendable known q seen)
+-- a call by what its guard found
+module _ (k : Kept) (l : Lent) (r : List ℕ) {v : Answer} {image out out′ : List ℕ} where
+  pub call-stopped : (code : ℕ) → Stop code ≡ guarded (k .session) (l .room) Stop Go → CallTold (silent code k) v image out out′ → CallTold (answered k l r) v image out out′
+  unfolding answered
+  call-stopped code h c = when-stopped (λ (a : Answered). CallTold a v image out out′) (k .session) (l .room) code _ _ h c
 
-pub data-refusal-sends : (q : DataRequest) (e : ℕ) (r : Reply) (seen : List ℕ) → r ≡ dataRefusal q e → Sendable r seen
-data-refusal-sends q e r seen h = rw h (data-refusal-sendable q e seen)
-
-pub data-sends : (d : Data) (q : DataRequest) (body : List ℕ) (r : Reply) (next : Data) (seen : List ℕ) → accept r next ≡ dataStep d q body → Sendable r seen
-unfolding settled
-data-sends d q body r next seen e =
-    let t : Sendable (settled d (dataRefusal q) (dataStep d q body) .reply) seen = data-step-sendable d q body seen in
-    rw (← e) at t
-
-pub scsi-sends : (known : Bool) (c : Changer) (q : ScsiRequest) (body : List ℕ) (r : Reply) (seen : List ℕ) → r ≡ scsiStep known c q body .reply → Sendable r seen
-scsi-sends known c q body r seen e = rw e (scsi-step-sendable known c q body seen)
-
-pub joint-sends : (known : Bool) (d : Data) (m : Mover) (t : Tape) (q : JointRequest) (r : Reply) (seen : List ℕ) → r ≡ jointStep known d m t q .reply → Sendable r seen
-joint-sends known d m t q r seen e = rw e (joint-step-sendable known d m t q seen)
-
-pub mover-sends : (known : Bool) (m : Mover) (t : Tape) (q : MoverRequest) (r : Reply) (seen : List ℕ) → r ≡ moverStep known m t q .reply → Sendable r seen
-mover-sends known m t q r seen e = rw e (mover-step-sendable known m t q seen)
-
-pub tape-sends : (known : Bool) (p : TapePart) (q : TapeRequest) (body : List ℕ) (r : Reply) (n : TapePart) → Told (tapeStep known p q body) r n → Sendable r (n .image)
-tape-sends known p q body r n t = rw (t .reply, t .part) (tape-step-sendable known p q body)
-
-pub device-sends : (known : Bool) (m : Mover) (t : Tape) (l body : List ℕ) (q : TapeRequest) (reply : Reply) (next : Tape) (l′ : List ℕ)
-    → Told (deviceStep known (m .state) t l q body) reply (loaded next l′) → Sendable reply l′
-device-sends known m t l body q reply next l′ told =
-    tape-sends known (record { mover = m; tape = t; image = l }) q body reply (record { mover = m; tape = next; image = l′ }) (tape-lifts known m t l body q reply next l′ told)
-
--- ---- the request of a record, by what was decoded from the part of it that is lent
-pub request-is : (r : List ℕ) {body : List ℕ} {m : Message} {q x : Request} → body ≡ drop 28 r → m ≡ messageIn r → Decoded m body q → q ≡ x → requestIn r ≡ x
-request-is r hb hm d e = sym (rw (hb, hm) at (d .is)) ∙ e
-
-pub texts-in : (r : List ℕ) {body : List ℕ} {m : Message} {q x : Request} → body ≡ drop 28 r → Decoded m body q → q ≡ x → textsWithin (drop 28 r) x
-texts-in r hb d e = rw (hb, e) at (d .within)
-
-pub judged-as : (k : Kept) (l : Lent) (r : List ℕ) {v : Answer} {image′ out out′ : List ℕ} {x : Request} → requestIn r ≡ x
-    → CallTold (judged k l r x) v image′ out out′ → CallTold (judged k l r (requestIn r)) v image′ out out′
-judged-as k l r e c = rw e c
+  pub call-goes : Go ≡ guarded (k .session) (l .room) Stop Go → CallTold (choose (wellFramed r) (requested k l r) (closing k)) v image out out′
+      → CallTold (answered k l r) v image out out′
+  unfolding answered
+  call-goes h c = when-goes (λ (a : Answered). CallTold a v image out out′) (k .session) (l .room) _ _ h c

@@ -6,9 +6,8 @@ use mathlib.Core.Path.{_≡_, refl, ap, _∙_}
 use native.Mathlib.Omega.{arith}
 use lib.ListN.{length}
 use lib.Dec.{eqb, ltb}
-use borrow.Author.Tests.{le-ltb, ne-eqb}
+use borrow.Author.Tests.{ne-eqb, eq-eqb}
 use Rattle.xdr.specs.Choose.{choose}
-use Rattle.xdr.specs.Xdr.{sameBytes}
 use Rattle.xdr.proofs.Tests.{by-test}
 use Rattle.image.specs.Image.{isSound, faulty}
 use Rattle.image.specs.Sound.{Sound, Placed}
@@ -18,34 +17,71 @@ use Rattle.cartridge.specs.Operations.{writeStep, mtioStep}
 use Rattle.cartridge.proofs.Promises as cartridge
 use Rattle.frame.specs.Frame.{wellFramed, kindOf, bodyOf}
 use Rattle.frame.specs.declared.Message.the-variants as Message
-use Rattle.frame.specs.declared.ConnectKind.{ConnectKind}
-use Rattle.requests.specs.Bodies.{decoded, connectBody}
-use Rattle.requests.specs.declared.ConnectRequest.{ConnectRequest}
+use Rattle.requests.specs.Bodies.{decoded}
+use Rattle.requests.specs.Within.{bytesAt}
 use Rattle.requests.specs.declared.ConnectRequest.the-variants as ConnectRequest
 use Rattle.requests.specs.declared.Text.{Text}
 use Rattle.requests.specs.declared.TapeRequest.{TapeRequest}
 use Rattle.requests.specs.declared.TapeRequest.the-variants as TapeRequest
 use Rattle.requests.specs.declared.Request.{Request}
 use Rattle.requests.specs.declared.Request.the-variants as Request
+use Rattle.replies.specs.declared.Reply.{Reply}
 use Rattle.replies.specs.declared.Reply.the-variants as Reply
 use Rattle.replies.specs.declared.Notice.{Notice}
-use Rattle.session.specs.declared.types.Data.{Data}
-use Rattle.session.specs.declared.types.Mover.{Mover}
 use Rattle.session.specs.declared.types.Tape.{Tape}
 use Rattle.session.specs.declared.types.Session.{Session}
-use Rattle.session.specs.Judge.{first, Served}
-use Rattle.session.specs.Parts.{restMover, closedTape, dataJoined, moverJoined}
-use Rattle.session.specs.DataService.{textOf}
-use Rattle.session.specs.TapeService.{Loaded, tapeTests, tapeOpenTests, tapeOpen, tapeClose, tapeState, protects, tapeMtio, tapeWrite, tapeRead, deviceStep, TapePart, tapeStep, moverPartStep, tape0}
-use Rattle.session.specs.Connection.{matches, clientAuth}
+use Rattle.session.specs.Names.{leastRoom}
+use Rattle.session.specs.Judge.{Outcome, refuse, accept, judge, onto, Accepts}
+use Rattle.session.specs.Parts.{restMover, closedTape, dataJoined, moverJoined, afterMessage, shut}
+use Rattle.session.specs.TapeService.{Loaded, tapeOpen, tapeClose, tapeState, tapeMtio, tapeWrite, tapeRead, deviceStep, withLoaded, withMover, tapeStep, moverPartStep}
+use Rattle.session.specs.Connection.{matches, clientAuth, connectStep}
 use Rattle.session.specs.Relation.{dataWrong, moverWrong, sameFlag, keeps}
-use Rattle.session.specs.Answer.{Kept, Lent, Answered, answered, requested, judged, connected, noticed, silent, closing, tapePart, messageIn, requestIn, replying}
+use Rattle.session.specs.Promises.{Keeps, JointKeeps, dataSide, partWrong, partSide}
+use Rattle.session.specs.Answer.{Kept, Lent, held, Answered, guarded, answered, requested, judged, isClose, settled, verdict, needsLogin, isLocked, outcome, refusing, isUnread}
+use Rattle.session.specs.Answer.{refusedIn, noticed, silent, closing, replying, Done, tapePart, withData, withTape, withChanger, withLogin, withEnds, messageIn, requestIn}
 use Rattle.session.specs.Order.{Call, run}
 use Rattle.session.specs.Calls.{openedSession, Unmoved, Heard, CallsKeep}
+use Rattle.session.proofs.JudgeLaws.{judged-by, accepts, accepts-any, accepts-map, refusal-says, carried}
 use Rattle.session.proofs.Kept.{kept-mover}
 use Rattle.session.proofs.Keeping.{rest-kept, data-keeps, tape-keeps, mover-part-keeps, joint-keeps}
+use Rattle.session.proofs.Guarding.{by-guard, goes-on}
+use Rattle.session.proofs.Numbers.{number-right, refusal-right}
 
--- ---- a session that keeps the relation goes on to, and one that does not stays so
+-- ---- a call comes to nothing, to closing, or to a request that is judged
+module _ (P : Answered → Type 0) (k : Kept) (l : Lent) (r : List ℕ) where
+  pub by-call : ((code : ℕ) → P (silent code k)) → P (closing k) → P (judged k l r (requestIn r)) → P (answered k l r)
+  unfolding answered requested
+  by-call still close serve =
+      by-guard P (k .session) (l .room) _ _ still
+      (λ _. by-test P (wellFramed r) _ _ (λ _. by-test P (not (eqb (kindOf r) 0)) _ _ (λ _. still 0) (λ _. serve)) (λ _. close))
+
+-- ---- what holds of what is passed on, and stays with a message sent and with closing, holds after a call if every accepted request keeps it
+module _ (Q : Kept → Type 0) (sends : (k : Kept) (first : Bool) → Q k → Q (held (afterMessage (k .session) first) (k .image)))
+    (shuts : (k : Kept) → Q k → Q (held (shut (k .session)) (k .image))) where
+  abbrev Next : Answered → Type 0
+  Next a = Q (a .next)
+
+  abbrev Accepted : Reply → Done → Type 0
+  Accepted _ d = Q (d .kept)
+
+  pub noticed-holds : (time why : ℕ) (n : Notice) (a : Answered) → Next a → Next (noticed time why n a)
+  unfolding noticed
+  noticed-holds time why n a h = by-test Next (eqb why 0) _ _ (λ _. h) (λ _. sends (a .next) (a .next .session .first) h)
+
+  module _ (k : Kept) (l : Lent) (r : List ℕ) (h : Q k) where
+    settled-holds : (q : Request) (o : Outcome Done) → Accepts Accepted o → Next (settled k (l .time) r q o)
+    unfolding settled Accepts
+    settled-holds q (refuse e) a = sends k false h
+    settled-holds q (accept reply d) a = noticed-holds (l .time) (d .mwhy) _ _ (noticed-holds (l .time) (d .dwhy) _ _ (sends (d .kept) false a))
+
+    pub judged-holds : (q : Request) → Accepts Accepted (outcome k l r q) → Next (judged k l r q)
+    unfolding judged verdict
+    judged-holds q a = by-test Next (isClose q) _ _ (λ _. shuts k h) (λ _. settled-holds q _ (judged-by Accepted _ _ (λ _. a)))
+
+    pub call-holds : Accepts Accepted (outcome k l r (requestIn r)) → Next (answered k l r)
+    call-holds a = by-call Next k l r (λ _. h) (shuts k h) (judged-holds (requestIn r) a)
+
+-- ---- the relation, as facts
 pub record Fair (s : Session) : Type 0 where
   pub source : dataWrong (s .source) ≡ false
   pub mover : moverWrong (s .mover) (s .tape) ≡ false
@@ -67,65 +103,66 @@ pub facts-kept : (s : Session) → Fair s → keeps s ≡ true
 unfolding keeps choose
 facts-kept s k = rw (k .source, k .mover) (k .joined)
 
--- ---- a call comes to nothing, to closing, or to a request that is judged
-module _ (P : Answered → Type 0) (k : Kept) (l : Lent) (r : List ℕ) where
-  by-call : ((code : ℕ) → P (silent code k)) → P (closing k) → P (judged k l r (requestIn r)) → P (answered k l r)
-  unfolding answered requested
-  by-call still shut serve =
-      by-test P (ltb (l .room) 36864) _ _ (λ _. still 1001)
-      (λ _. by-test P (not (keeps (k .session))) _ _ (λ _. still 1002)
-      (λ _. by-test P (k .session .closed) _ _ (λ _. still 0)
-      (λ _. by-test P (not (wellFramed r)) _ _ (λ _. shut)
-      (λ _. by-test P (not (eqb (kindOf r) 0)) _ _ (λ _. still 0) (λ _. serve)))))
-
--- ---- the relation
-Keeping : Answered → Type 0
-Keeping a = keeps (a .next .session) ≡ true
-
 -- a session with the same ends and tape
 same-ends : (s n : Session) → n .source ≡ s .source → n .mover ≡ s .mover → n .tape ≡ s .tape → keeps s ≡ true → keeps n ≡ true
 unfolding keeps
 same-ends s n d m t h = rw (d, m, t) h
 
-noticed-keeps : (time why : ℕ) (n : Notice) (a : Answered) → Keeping a → Keeping (noticed time why n a)
-unfolding noticed Keeping
-noticed-keeps time why n a h = by-test Keeping (eqb why 0) _ _ (λ _. h) (λ _. same-ends (a .next .session) _ refl refl refl h)
+Valid : Kept → Type 0
+Valid k = keeps (k .session) ≡ true
 
-module _ (k : Kept) (l : Lent) (r : List ℕ) (h : keeps (k .session) ≡ true) where
-  connected-keeps : (q : ConnectRequest) → Keeping (connected k l r q)
-  unfolding connected Keeping
-  connected-keeps (ConnectRequest.Open version) = same-ends (k .session) _ refl refl refl h
-  connected-keeps (ConnectRequest.Auth id password) = same-ends (k .session) _ refl refl refl h
-  connected-keeps ConnectRequest.OtherAuth = same-ends (k .session) _ refl refl refl h
-  connected-keeps ConnectRequest.Close = same-ends (k .session) _ refl refl refl h
+valid-sends : (k : Kept) (first : Bool) → Valid k → Valid (held (afterMessage (k .session) first) (k .image))
+unfolding Valid
+valid-sends k first h = same-ends (k .session) _ refl refl refl h
 
-  judged-keeps : (q : Request) → Keeping (judged k l r q)
-  unfolding judged Keeping
-  judged-keeps Request.Unknown = same-ends (k .session) _ refl refl refl h
-  judged-keeps Request.Bad = same-ends (k .session) _ refl refl refl h
-  judged-keeps (Request.Connect q) = connected-keeps q
-  judged-keeps (Request.Config q) = same-ends (k .session) _ refl refl refl h
-  judged-keeps (Request.Scsi q) = same-ends (k .session) _ refl refl refl h
-  judged-keeps (Request.Tape q) =
+valid-shuts : (k : Kept) → Valid k → Valid (held (shut (k .session)) (k .image))
+unfolding Valid
+valid-shuts k h = same-ends (k .session) _ refl refl refl h
+
+module _ (k : Kept) (l : Lent) (r : List ℕ) (h : Valid k) where
+  Stays : Reply → Done → Type 0
+  Stays _ d = Valid (d .kept)
+
+  -- of the services whose part the relation does not look at
+  aside : {A : Type 0} (put : A → Done) → ((p : A) → Valid (put p .kept)) → (o : Outcome A) → Accepts Stays (onto put o)
+  unfolding Stays
+  aside put f o = carried Stays put o (accepts-any (λ reply p. Stays reply (put p)) (λ _ p. f p) o)
+
+  outcome-keeps : (q : Request) → Accepts Stays (outcome k l r q)
+  unfolding outcome Stays Valid
+  outcome-keeps Request.Unknown = refusal-says Stays _
+  outcome-keeps Request.Bad = refusal-says Stays _
+  outcome-keeps (Request.Connect q) = aside (withLogin k) (λ _. same-ends (k .session) _ refl refl refl h) _
+  outcome-keeps (Request.Config q) = aside (withLogin k) (λ _. same-ends (k .session) _ refl refl refl h) _
+  outcome-keeps (Request.Scsi q) = aside (withChanger k) (λ _. same-ends (k .session) _ refl refl refl h) _
+  outcome-keeps (Request.Tape q) =
       let f = kept-facts (k .session) h in
-      let n = tape-keeps (k .session .authorized) (tapePart k) q (bodyOf r) in
-      facts-kept _ (record { source = f .source; mover = n .good (f .mover); joined = rw (n .sides) (f .joined) })
-  judged-keeps (Request.Data q) =
+      carried Stays (withTape k) _
+      (accepts-map (λ _ next. Keeps partWrong partSide (tapePart k) next) (λ reply p. Stays reply (withTape k p))
+      (λ _ p n. facts-kept _ (record { source = f .source; mover = n .good (f .mover); joined = rw (n .sides) (f .joined) })) _
+      (tape-keeps (tapePart k) q _))
+  outcome-keeps (Request.Data q) =
       let f = kept-facts (k .session) h in
-      let n = data-keeps (k .session .authorized) (k .session .source) q (bodyOf r) in
-      facts-kept _ (record { source = n .good (f .source); mover = f .mover; joined = rw (n .sides) (f .joined) })
-  judged-keeps (Request.Mover q) =
+      carried Stays (withData k) _
+      (accepts-map (λ _ next. Keeps dataWrong dataSide (k .session .source) next) (λ reply p. Stays reply (withData k p))
+      (λ _ p n. facts-kept _ (record { source = n .good (f .source); mover = f .mover; joined = rw (n .sides) (f .joined) })) _
+      (data-keeps (k .session .source) q _))
+  outcome-keeps (Request.Mover q) =
       let f = kept-facts (k .session) h in
-      let n = mover-part-keeps (k .session .authorized) (tapePart k) q in
-      facts-kept _ (record { source = f .source; mover = n .good (f .mover); joined = rw (n .sides) (f .joined) })
-  judged-keeps (Request.Joint q) =
+      carried Stays (withTape k) _
+      (accepts-map (λ _ next. Keeps partWrong partSide (tapePart k) next) (λ reply p. Stays reply (withTape k p))
+      (λ _ p n. facts-kept _ (record { source = f .source; mover = n .good (f .mover); joined = rw (n .sides) (f .joined) })) _
+      (mover-part-keeps (tapePart k) q))
+  outcome-keeps (Request.Joint q) =
       let f = kept-facts (k .session) h in
-      let n = joint-keeps (k .session .authorized) (k .session .source) (k .session .mover) (k .session .tape) (f .source) (f .mover) (f .joined) q in
-      noticed-keeps (l .time) _ _ _ (noticed-keeps (l .time) _ _ _ (facts-kept _ (record { source = n .source; mover = n .mover; joined = n .joined })))
+      carried Stays (withEnds k) _
+      (accepts-map (λ _ next. JointKeeps (k .session .tape) next) (λ reply p. Stays reply (withEnds k p))
+      (λ _ p n. facts-kept _ (record { source = n .source; mover = n .mover; joined = n .joined })) _
+      (joint-keeps (k .session .source) (k .session .mover) (k .session .tape) (f .source) (f .mover) (f .joined) q))
 
 pub kept : (k : Kept) (l : Lent) (r : List ℕ) → keeps (k .session) ≡ true → keeps (answered k l r .next .session) ≡ true
-unfolding Keeping
-kept k l r h = by-call Keeping k l r (λ _. h) (same-ends (k .session) _ refl refl refl h) (judged-keeps k l r h (requestIn r))
+unfolding Valid Stays
+kept k l r h = call-holds Valid valid-sends valid-shuts k l r h (outcome-keeps k l r h (requestIn r))
 
 opened : keeps openedSession ≡ true
 unfolding dataWrong dataJoined moverJoined sameFlag choose
@@ -157,66 +194,56 @@ module _ (l : List ℕ) (h : isSound l ≡ true) where
   unfolding Same
   mtio-sound op p times = sound-by l p _ h (faulty l p) refl (mtio-faulty l op p times) (λ at. cartridge.promises .sound l p at .mtio op times .ok)
 
-  Loads : Loaded → Type 0
-  Loads s = isSound (s .image) ≡ true
+  Loads : Reply → Loaded → Type 0
+  Loads _ s = isSound (s .image) ≡ true
 
-  Serves : Served Loaded → Type 0
-  Serves s = isSound (s .part .image) ≡ true
-
-  device-sound : (known : Bool) (mover : ℕ) (t : Tape) (q : TapeRequest) (body : List ℕ) → Serves (deviceStep known mover t l q body)
-  unfolding deviceStep tapeOpen tapeClose tapeState tapeMtio tapeWrite tapeRead Loads Serves
-  device-sound known mover t (TapeRequest.Open name mode) body =
-      by-test Loads (eqb (first (tapeOpenTests known mode (sameBytes (textOf body name) tape0) (t .opened) (isSound l))) 0) _ _ (λ _. h) (λ _. h)
-  device-sound known mover t TapeRequest.Close body = by-test Loads (eqb (first (tapeTests known (t .opened) mover false)) 0) _ _ (λ _. h) (λ _. h)
-  device-sound known mover t TapeRequest.State body = h
-  device-sound known mover t (TapeRequest.Mtio op times) body =
-      by-test Serves (eqb (first (tapeTests known (t .opened) mover (protects op (t .writable)))) 0) _ _ (λ _. mtio-sound op (t .position) times) (λ _. h)
-  device-sound known mover t (TapeRequest.Write bytes) body =
-      by-test Serves (eqb (first (tapeTests known (t .opened) mover (not (t .writable)))) 0) _ _ (λ _. write-sound (t .position) (textOf body bytes)) (λ _. h)
-  device-sound known mover t (TapeRequest.Read times) body =
-      by-test Serves (eqb (first (tapeTests known (t .opened) mover false)) 0) _ _ (λ _. h) (λ _. h)
-
-Sounding : Answered → Type 0
-Sounding a = isSound (a .next .image) ≡ true
-
-noticed-sound : (time why : ℕ) (n : Notice) (a : Answered) → Sounding a → Sounding (noticed time why n a)
-unfolding noticed Sounding
-noticed-sound time why n a h = by-test Sounding (eqb why 0) _ _ (λ _. h) (λ _. h)
+  device-sound : (mover : ℕ) (t : Tape) (q : TapeRequest) (body : List ℕ) → Accepts Loads (deviceStep mover t l q body)
+  unfolding deviceStep tapeOpen tapeClose tapeState tapeMtio tapeWrite tapeRead Loads
+  device-sound mover t (TapeRequest.Open name mode) body = accepts Loads _ _ _ (λ _. h)
+  device-sound mover t TapeRequest.Close body = accepts Loads _ _ _ (λ _. h)
+  device-sound mover t TapeRequest.State body = accepts Loads _ _ _ (λ _. h)
+  device-sound mover t (TapeRequest.Mtio op times) body = accepts Loads _ _ _ (λ _. mtio-sound op (t .position) times)
+  device-sound mover t (TapeRequest.Write bytes) body = accepts Loads _ _ _ (λ _. write-sound (t .position) (bytesAt body bytes))
+  device-sound mover t (TapeRequest.Read times) body = accepts Loads _ _ _ (λ _. h)
 
 module _ (k : Kept) (l : Lent) (r : List ℕ) (h : isSound (k .image) ≡ true) where
-  connected-sound : (q : ConnectRequest) → Sounding (connected k l r q)
-  unfolding connected Sounding
-  connected-sound (ConnectRequest.Open version) = h
-  connected-sound (ConnectRequest.Auth id password) = h
-  connected-sound ConnectRequest.OtherAuth = h
-  connected-sound ConnectRequest.Close = h
+  Sounds : Reply → Done → Type 0
+  Sounds _ d = isSound (d .kept .image) ≡ true
 
-  judged-sound : (q : Request) → Sounding (judged k l r q)
-  unfolding judged Sounding tapeStep moverPartStep Serves
-  judged-sound Request.Unknown = h
-  judged-sound Request.Bad = h
-  judged-sound (Request.Connect q) = connected-sound q
-  judged-sound (Request.Config q) = h
-  judged-sound (Request.Scsi q) = h
-  judged-sound (Request.Tape q) = device-sound (k .image) h (k .session .authorized) (k .session .mover .state) (k .session .tape) q (bodyOf r)
-  judged-sound (Request.Data q) = h
-  judged-sound (Request.Mover q) = h
-  judged-sound (Request.Joint q) = noticed-sound (l .time) _ _ _ (noticed-sound (l .time) _ _ _ h)
+  unread : {A : Type 0} (put : A → Done) → ((p : A) → isSound (put p .kept .image) ≡ true) → (o : Outcome A) → Accepts Sounds (onto put o)
+  unfolding Sounds
+  unread put f o = carried Sounds put o (accepts-any (λ reply p. Sounds reply (put p)) (λ _ p. f p) o)
+
+  outcome-sound : (q : Request) → Accepts Sounds (outcome k l r q)
+  unfolding outcome Sounds tapeStep moverPartStep Loads
+  outcome-sound Request.Unknown = refusal-says Sounds _
+  outcome-sound Request.Bad = refusal-says Sounds _
+  outcome-sound (Request.Connect q) = unread (withLogin k) (λ _. h) _
+  outcome-sound (Request.Config q) = unread (withLogin k) (λ _. h) _
+  outcome-sound (Request.Scsi q) = unread (withChanger k) (λ _. h) _
+  outcome-sound (Request.Tape q) =
+      carried Sounds (withTape k) _ (carried (λ reply p. Sounds reply (withTape k p)) (withLoaded (tapePart k)) _
+      (device-sound (k .image) h (k .session .mover .state) (k .session .tape) q _))
+  outcome-sound (Request.Data q) = unread (withData k) (λ _. h) _
+  outcome-sound (Request.Mover q) =
+      carried Sounds (withTape k) _ (carried (λ reply p. Sounds reply (withTape k p)) (withMover (tapePart k)) _
+      (accepts-any (λ reply p. Sounds reply (withTape k (withMover (tapePart k) p))) (λ _ _. h) _))
+  outcome-sound (Request.Joint q) = unread (withEnds k) (λ _. h) _
 
 sound : (k : Kept) (l : Lent) (r : List ℕ) → isSound (k .image) ≡ true → isSound (answered k l r .next .image) ≡ true
-unfolding Sounding
-sound k l r h = by-call Sounding k l r (λ _. h) h (judged-sound k l r h (requestIn r))
+unfolding Sounds
+sound k l r h = call-holds (λ (x : Kept). isSound (x .image) ≡ true) (λ x _ e. e) (λ x e. e) k l r h (outcome-sound k l r h (requestIn r))
 
 -- ---- calls one after the other
 runs : (k : Kept) (cs : List Call) → keeps (k .session) ≡ true → keeps (run k cs .last .session) ≡ true
 unfolding run
 runs k [] h = h
-runs k (c ∷ cs) h = runs _ cs (kept k (c .lent) (c .request) h)
+runs k (c ∷ cs) h = runs _ cs (kept k (c .lent) (c .ask .request) h)
 
 runs-sound : (k : Kept) (cs : List Call) → isSound (k .image) ≡ true → isSound (run k cs .last .image) ≡ true
 unfolding run
 runs-sound k [] h = h
-runs-sound k (c ∷ cs) h = runs-sound _ cs (sound k (c .lent) (c .request) h)
+runs-sound k (c ∷ cs) h = runs-sound _ cs (sound k (c .lent) (c .ask .request) h)
 
 -- ---- the codes of calls, and what a call leaves that does nothing
 Taken : Answered → Type 0
@@ -226,44 +253,34 @@ noticed-taken : (time why : ℕ) (n : Notice) (a : Answered) → Taken a → Tak
 unfolding noticed Taken
 noticed-taken time why n a h = by-test Taken (eqb why 0) _ _ (λ _. h) (λ _. h)
 
-connected-taken : (k : Kept) (l : Lent) (r : List ℕ) (q : ConnectRequest) → Taken (connected k l r q)
-unfolding connected Taken
-connected-taken k l r (ConnectRequest.Open version) = refl
-connected-taken k l r (ConnectRequest.Auth id password) = refl
-connected-taken k l r ConnectRequest.OtherAuth = refl
-connected-taken k l r ConnectRequest.Close = refl
+settled-taken : (k : Kept) (time : ℕ) (r : List ℕ) (q : Request) (o : Outcome Done) → Taken (settled k time r q o)
+unfolding settled Taken
+settled-taken k time r q (refuse e) = refl
+settled-taken k time r q (accept reply d) = noticed-taken time _ _ _ (noticed-taken time _ _ _ refl)
 
 judged-taken : (k : Kept) (l : Lent) (r : List ℕ) (q : Request) → Taken (judged k l r q)
 unfolding judged Taken
-judged-taken k l r Request.Unknown = refl
-judged-taken k l r Request.Bad = refl
-judged-taken k l r (Request.Connect q) = connected-taken k l r q
-judged-taken k l r (Request.Config q) = refl
-judged-taken k l r (Request.Scsi q) = refl
-judged-taken k l r (Request.Tape q) = refl
-judged-taken k l r (Request.Data q) = refl
-judged-taken k l r (Request.Mover q) = refl
-judged-taken k l r (Request.Joint q) = noticed-taken (l .time) _ _ _ (noticed-taken (l .time) _ _ _ refl)
+judged-taken k l r q = by-test Taken (isClose q) _ _ (λ _. refl) (λ _. settled-taken k (l .time) r q (verdict k l r q))
 
 module _ (k : Kept) (l : Lent) (r : List ℕ) where
   still : (code : ℕ) → Unmoved k (silent code k)
   still code = record { reply = refl; notices = refl; next = refl }
 
-  coded : (short good : Bool) → ltb (l .room) 36864 ≡ short → keeps (k .session) ≡ good → answered k l r .code ≡ choose short 1001 (choose good 0 1002)
-  unfolding answered requested Taken choose
-  coded true good e g = rw (answered, e)
-  coded false false e g = rw (answered, e, g)
+  coded : (short good : Bool) → ltb (l .room) leastRoom ≡ short → keeps (k .session) ≡ good → answered k l r .code ≡ choose short 1001 (choose good 0 1002)
+  unfolding answered guarded requested Taken choose
+  coded true good e g = rw (answered, guarded, e)
+  coded false false e g = rw (answered, guarded, e, g)
   coded false true e g =
-      rw (answered, e, g)
+      rw (answered, guarded, e, g)
       (by-test Taken (k .session .closed) _ _ (λ _. refl)
-      (λ _. by-test Taken (not (wellFramed r)) _ _ (λ _. refl)
-      (λ _. by-test Taken (not (eqb (kindOf r) 0)) _ _ (λ _. refl) (λ _. judged-taken k l r (requestIn r)))))
+      (λ _. by-test Taken (wellFramed r) _ _
+      (λ _. by-test Taken (not (eqb (kindOf r) 0)) _ _ (λ _. refl) (λ _. judged-taken k l r (requestIn r))) (λ _. refl)))
 
   never : keeps (k .session) ≡ true → answered k l r .code ≡ 1002 → ⊥
   unfolding choose
   never g h =
-      let c = rw g at (coded (ltb (l .room) 36864) (keeps (k .session)) refl refl) in
-      by-test (λ (n : ℕ). answered k l r .code ≡ n → ⊥) (ltb (l .room) 36864) 1001 0 (λ _ e. omega arith) (λ _ e. omega arith) c
+      let c = rw g at (coded (ltb (l .room) leastRoom) (keeps (k .session)) refl refl) in
+      by-test (λ (n : ℕ). answered k l r .code ≡ n → ⊥) (ltb (l .room) leastRoom) 1001 0 (λ _ e. omega arith) (λ _ e. omega arith) c
 
   Refused : Answered → Type 0
   Refused x = (x .code ≡ 0 → ⊥) → Unmoved k x
@@ -272,44 +289,103 @@ module _ (k : Kept) (l : Lent) (r : List ℕ) where
   unfolding Refused Taken
   refused = by-call Refused k l r (λ code _. still code) (λ n. absurd (n refl)) (λ n. absurd (n (judged-taken k l r (requestIn r))))
 
-  -- what follows the two refusals, where that does nothing either
-  else-still : (x : Answered) → Unmoved k x → Unmoved k (choose (ltb (l .room) 36864) (silent 1001 k) (choose (not (keeps (k .session))) (silent 1002 k) x))
-  else-still x h =
-      by-test (Unmoved k) (ltb (l .room) 36864) _ _ (λ _. still 1001) (λ _. by-test (Unmoved k) (not (keeps (k .session))) _ _ (λ _. still 1002) (λ _. h))
-
   over : k .session .closed ≡ true → Unmoved k (answered k l r)
   unfolding answered
-  over o =
-      else-still _ (by-test (Unmoved k) (k .session .closed) _ _ (λ _. still 0) (λ f. absurd (let z : _≡_ {A = ℕ} 0 1 = cc in omega arith)))
+  over o = by-guard (Unmoved k) (k .session) (l .room) _ _ still (λ g. absurd (let h = g .opened in let z : _≡_ {A = ℕ} 0 1 = cc in omega arith))
 
-  broken : 36864 ≤ l .room → keeps (k .session) ≡ true → k .session .closed ≡ false → wellFramed r ≡ false → answered k l r ≡ closing k
+  broken : leastRoom ≤ l .room → keeps (k .session) ≡ true → k .session .closed ≡ false → wellFramed r ≡ false → answered k l r ≡ closing k
   unfolding answered choose
-  broken w g o f = rw (answered, le-ltb (l .room) 36864 w, g, o, f)
+  broken w g o f = goes-on (k .session) (l .room) _ _ (record { roomy = w; valid = g; opened = o }) ∙ rw f
 
   ignored : wellFramed r ≡ true → (kindOf r ≡ 0 → ⊥) → Unmoved k (answered k l r)
   unfolding answered requested choose
-  ignored f n = else-still _ (by-test (Unmoved k) (k .session .closed) _ _ (λ _. still 0) (λ _. rw (f, ne-eqb (kindOf r) 0 n) (still 0)))
+  ignored f n = by-guard (Unmoved k) (k .session) (l .room) _ _ still (λ _. rw (f, ne-eqb (kindOf r) 0 n) (still 0))
 
--- ---- what is answered to a message that is not handled, to a body that does not decode, and to a wrong login
+-- ---- what is answered where a request is refused
 module _ (k : Kept) (l : Lent) (r : List ℕ) where
-  heard : Heard k l r → answered k l r ≡ judged k l r (requestIn r)
+  pub heard : Heard k l r → answered k l r ≡ judged k l r (requestIn r)
   unfolding answered requested choose
-  heard h = rw (answered, le-ltb (l .room) 36864 (h .roomy), h .valid, h .opened, h .framed, h .request)
+  heard h =
+      goes-on (k .session) (l .room) _ _ (record { roomy = h .roomy; valid = h .valid; opened = h .opened }) ∙ rw (h .framed, eq-eqb (kindOf r) 0 (h .request))
+
+  -- a close is accepted: it needs no login
+  open-to-all : (b : Bool) → choose b false false ≡ false
+  unfolding choose
+  open-to-all true = refl
+  open-to-all false = refl
+
+  close-accepted : (q : Request) (e : ℕ) → verdict k l r q ≡ refuse e → isClose q ≡ false
+  unfolding isClose verdict isLocked needsLogin outcome connectStep onto judge choose
+  close-accepted Request.Unknown e v = refl
+  close-accepted Request.Bad e v = refl
+  close-accepted (Request.Connect (ConnectRequest.Open version)) e v = refl
+  close-accepted (Request.Connect (ConnectRequest.Auth id password)) e v = refl
+  close-accepted (Request.Connect ConnectRequest.OtherAuth) e v = refl
+  close-accepted (Request.Connect ConnectRequest.Close) e v =
+      absurd (let w = rw (open-to-all (k .session .login .authorized)) at v in let z : _≡_ {A = ℕ} 0 1 = cc in omega arith)
+  close-accepted (Request.Config q) e v = refl
+  close-accepted (Request.Scsi q) e v = refl
+  close-accepted (Request.Tape q) e v = refl
+  close-accepted (Request.Data q) e v = refl
+  close-accepted (Request.Mover q) e v = refl
+  close-accepted (Request.Joint q) e v = refl
+
+  requests : (e : ℕ) → Heard k l r → verdict k l r (requestIn r) ≡ refuse e → answered k l r ≡ replying r (l .time) (refusing (requestIn r) r e) [] k
+  unfolding judged settled choose
+  requests e h v = heard h ∙ rw (judged, close-accepted (requestIn r) e v, v)
+
+  -- the same of a request that is known
+  known : (q : Request) (e : ℕ) → requestIn r ≡ q → Heard k l r → verdict k l r q ≡ refuse e → answered k l r ≡ replying r (l .time) (refusing q r e) [] k
+  known q e f h v = rw f at (requests e h (ap (verdict k l r) f ∙ v))
+
+  -- what needs no login is judged by its service
+  verdict-free : (q : Request) → needsLogin q ≡ false → verdict k l r q ≡ outcome k l r q
+  unfolding verdict isLocked judge choose
+  verdict-free q f = rw (verdict, isLocked, f, open-to-all (k .session .login .authorized))
 
   unhandled : Heard k l r → messageIn r ≡ Message.Unknown → answered k l r ≡ replying r (l .time) (Reply.Header 1) [] k
-  unfolding judged decoded
-  unhandled h e = heard h ∙ rw e
+  unfolding decoded needsLogin outcome refusing isUnread choose
+  unhandled h e = known Request.Unknown 1 (rw e) h (verdict-free Request.Unknown refl)
 
-  undecoded : Heard k l r → decoded (messageIn r) (bodyOf r) ≡ Request.Bad → answered k l r ≡ replying r (l .time) (Reply.Header 18) [] k
-  unfolding judged
-  undecoded h b = heard h ∙ rw b
+  undecoded : Heard k l r → requestIn r ≡ Request.Bad → answered k l r ≡ replying r (l .time) (Reply.Header 18) [] k
+  unfolding needsLogin outcome refusing isUnread choose
+  undecoded h b = known Request.Bad 18 b h (verdict-free Request.Bad refl)
 
-  unproven : (c : ConnectKind) (id password : Text) → Heard k l r → messageIn r ≡ Message.Connect c
-      → connectBody c (bodyOf r) ≡ Request.Connect (ConnectRequest.Auth id password)
-      → matches (textOf (bodyOf r) id) (textOf (bodyOf r) password) (l .account .id) (l .account .password) ≡ false
-      → answered k l r ≡ replying r (l .time) (Reply.Plain 4) [] k
-  unfolding judged connected decoded clientAuth choose
-  unproven c id password h e b w = heard h ∙ rw (e, b, w)
+  unproven : (id password : Text) → Heard k l r → requestIn r ≡ Request.Connect (ConnectRequest.Auth id password)
+      → matches (bytesAt (bodyOf r) id) (bytesAt (bodyOf r) password) (l .account) ≡ false
+      → answered k l r ≡ replying r (l .time) (refusedIn r 4) [] k
+  unfolding needsLogin outcome connectStep clientAuth judge onto refusing isUnread choose
+  unproven id password h b w = known (Request.Connect (ConnectRequest.Auth id password)) 4 b h (verdict-free (Request.Connect (ConnectRequest.Auth id password)) refl ∙ rw w)
+
+-- ---- how a request is judged, by what its code found
+-- what needs a login is neither a close nor unread
+login-plain : (q : Request) → needsLogin q ≡ true → (isClose q ≡ false) × (isUnread q ≡ false)
+unfolding needsLogin isClose isUnread
+login-plain Request.Unknown n = absurd (let z : _≡_ {A = ℕ} 0 1 = cc in omega arith)
+login-plain Request.Bad n = absurd (let z : _≡_ {A = ℕ} 0 1 = cc in omega arith)
+login-plain (Request.Connect q) n = absurd (let z : _≡_ {A = ℕ} 0 1 = cc in omega arith)
+login-plain (Request.Config q) n = (refl, refl)
+login-plain (Request.Scsi q) n = (refl, refl)
+login-plain (Request.Tape q) n = (refl, refl)
+login-plain (Request.Data q) n = (refl, refl)
+login-plain (Request.Mover q) n = (refl, refl)
+login-plain (Request.Joint q) n = (refl, refl)
+
+locks : (b n : Bool) → choose b false n ≡ true → n ≡ true
+unfolding choose
+locks true n h = absurd (let z : _≡_ {A = ℕ} 0 1 = cc in omega arith)
+locks false n h = h
+
+module _ (k : Kept) (l : Lent) (r : List ℕ) (q : Request) where
+  pub judged-locked : isLocked (k .session .login) q ≡ true → judged k l r q ≡ replying r (l .time) (refusedIn r 4) [] k
+  unfolding judged verdict isLocked judge settled refusing choose
+  judged-locked h =
+      let p = login-plain q (locks (k .session .login .authorized) (needsLogin q) h) in
+      rw (judged, p .0, verdict, isLocked, h, refusing, p .1)
+
+  pub judged-free : isLocked (k .session .login) q ≡ false → judged k l r q ≡ choose (isClose q) (closing k) (settled k (l .time) r q (outcome k l r q))
+  unfolding judged verdict judge choose
+  judged-free h = rw (judged, verdict, h)
 
 pub calls-keep : CallsKeep
 unfolding Refused
@@ -322,11 +398,14 @@ calls-keep =
       runs = runs;
       runs-sound = runs-sound;
       refusals = record {
-        codes = λ k l r. coded k l r (ltb (l .room) 36864) (keeps (k .session)) refl refl;
+        codes = λ k l r. coded k l r (ltb (l .room) leastRoom) (keeps (k .session)) refl refl;
         refused = refused;
         over = over;
         broken = broken;
         ignored = ignored;
+        requests = requests;
+        accepted = number-right;
+        refusing = refusal-right;
         unhandled = unhandled;
         undecoded = undecoded;
         unproven = unproven;

@@ -1,16 +1,13 @@
--- Every request keeps the relation: one law for each service, and one for the joint requests. Assumes nothing.
+-- Every accepted request keeps the relation: one law for each service, and one for the joint requests. Assumes nothing.
 use Prim.Native.Nat.{ℕ, _+_, _%_, _≤_}
 use mathlib.Core.Bool.{Bool, true, false, not}
-use mathlib.Core.List.{List, []}
+use mathlib.Core.List.{List}
 use mathlib.Core.Path.{_≡_, refl, sym, ap, _∙_}
 use native.Mathlib.Omega.{arith}
-use lib.ListN.{length}
 use lib.Dec.{eqb}
-use borrow.Author.Tests.{eq-eqb, ne-eqb, le-ltb, ltb-false, eqb-true}
+use borrow.Author.Tests.{eq-eqb, ne-eqb, le-ltb, ltb-false}
 use Rattle.xdr.specs.Choose.{choose}
-use Rattle.xdr.specs.Xdr.{sameBytes}
 use Rattle.xdr.proofs.Tests.{by-test, when, is, isnt, yes}
-use Rattle.image.specs.Image.{isSound}
 use Rattle.requests.specs.declared.DataRequest.{DataRequest}
 use Rattle.requests.specs.declared.DataRequest.the-variants as DataRequest
 use Rattle.requests.specs.declared.MoverRequest.{MoverRequest}
@@ -23,47 +20,41 @@ use Rattle.replies.specs.declared.Reply.{Reply}
 use Rattle.session.specs.declared.types.Data.{Data}
 use Rattle.session.specs.declared.types.Mover.{Mover}
 use Rattle.session.specs.declared.types.Tape.{Tape}
-use Rattle.session.specs.Judge.{Test, first, Served, Outcome, accept, judge, allowed, settled}
-use Rattle.session.specs.Parts.{top, restData, restMover, closedTape, dataTo, dataStarts, dataHalts, moverListens, moverRuns, moverWindow, moverSize, moverSeeks, moverHalts, dataJoined, moverJoined, holdsTape, unwritable}
-use Rattle.session.specs.DataService.{knownTests, dataListen, dataStart, dataStop, dataStep, dataServed, textOf, dump}
-use Rattle.session.specs.MoverService.{moverState, offsetWrong, joinOf, moverListen, continueTests, moverContinue, moverStopTests, moverStop, busy, elsewhere, windowTests, setWindow, moverReadTests, moverRead, sizeTests, setSize, moverStep}
-use Rattle.session.specs.TapeService.{Loaded, loaded, tapeOpenTests, tapeOpen, tapeTests, tapeClose, tapeState, protects, tapeMtio, tapeWrite, tapeRead, deviceStep, TapePart, tapeStep, moverPartStep, tape0}
-use Rattle.session.specs.Joint.{Ends, ends, dataConnectTests, dataConnect, moverConnect, abortTests, dataAborted, dataAbort, moverAborted, moverAbort, closeTests, moverClose, jointStep}
-use Rattle.session.specs.Relation.{dataWrong, moverWrong, sameFlag, Legal, Within, MoverKept}
+use Rattle.session.specs.Names.{top}
+use Rattle.session.specs.Judge.{Test, accept, judge, Accepts}
+use Rattle.session.specs.Parts.{restData, restMover, dataTo, dataStarts, dataHalts, moverListens, moverRuns, moverWindow, moverSize, moverSeeks, moverHalts, dataJoined, moverJoined}
+use Rattle.session.specs.Parts.{holdsTape, unwritable}
+use Rattle.session.specs.DataService.{dataState, dataListen, dataStart, dataStop, dataStep}
+use Rattle.session.specs.MoverService.{moverState, offsetWrong, moverListen, moverContinue, moverStop, busy, elsewhere, setWindow, moverRead, setSize, moverStep}
+use Rattle.session.specs.TapeService.{Loaded, tapeOpen, tapeClose, tapeState, tapeMtio, tapeWrite, tapeRead, deviceStep, TapePart, withLoaded, withMover, tapeStep, moverPartStep}
+use Rattle.session.specs.declared.Ends.{Ends}
+use Rattle.session.specs.Joint.{joined, halted, dataConnect, moverConnect, dataAborted, dataAbort, moverAborted, moverAbort, moverClose, jointStep}
+use Rattle.session.specs.Relation.{dataWrong, moverWrong, sameFlag, Legal, InWindow, MoverKept}
 use Rattle.session.specs.Promises.{Keeps, JointKeeps, dataSide, partWrong, partSide}
-use Rattle.session.proofs.JudgeLaws.{flagAt, numbered, clear, outcome-part}
+use Rattle.session.proofs.JudgeLaws.{Clear, accepts, carried}
 use Rattle.session.proofs.Kept.{mover-kept, kept-mover, past-top, writes}
 
 module _ {A : Type 0} (wrong side : A → Bool) (p : A) where
   pub stays : Keeps wrong side p p
   stays = record { good = λ h. h; sides = refl }
 
-  -- a request that is judged by tests: what is kept where none applies
-  pub judged : (ts : List Test) (next : A) → numbered ts ≡ true → (((k : ℕ) → flagAt ts k ≡ false) → Keeps wrong side p next)
-      → Keeps wrong side p (choose (eqb (first ts) 0) next p)
-  judged ts next n f = by-test (Keeps wrong side p) (eqb (first ts) 0) next p (λ e. f (clear ts n (eqb-true (first ts) 0 e))) (λ _. stays)
-
 -- ---- the data end
-abbrev pub DataKeeps : Data → Data → Type 0
-DataKeeps d next = Keeps dataWrong dataSide d next
+abbrev DataKeeps : Data → Reply → Data → Type 0
+DataKeeps d _ next = Keeps dataWrong dataSide d next
 
 -- a change of state, from one that a test has found
-data-moves : (d next : Data) (k n : ℕ) → d .state ≡ k → next .state ≡ n → n ≤ 4 → dataJoined n ≡ dataJoined k → DataKeeps d next
+data-moves : (d next : Data) (k n : ℕ) → d .state ≡ k → next .state ≡ n → n ≤ 4 → dataJoined n ≡ dataJoined k → Keeps dataWrong dataSide d next
 unfolding dataWrong
 data-moves d next k n e f h j =
     record { good = λ _. le-ltb 4 (next .state) (omega arith); sides = ap dataJoined f ∙ j ∙ ap dataJoined (sym e) }
 
-data-judged : (d : Data) (f : ℕ → Reply) (known : Bool) (ts : List Test) (r : Reply) (next : Data) → (((k : ℕ) → flagAt ts k ≡ false) → DataKeeps d next)
-    → DataKeeps d (settled d f (allowed known (judge ts (accept r next))) .part)
-data-judged d f known ts r next h = outcome-part (DataKeeps d) d f known (stays dataWrong dataSide d) ts r next h
-
-pub data-keeps : (known : Bool) (d : Data) (q : DataRequest) (body : List ℕ) → DataKeeps d (dataServed known d q body .part)
-unfolding dataStep dataListen dataStart dataStop dataJoined choose
-data-keeps known d DataRequest.State body = data-judged d _ known _ _ d (λ _. stays dataWrong dataSide d)
-data-keeps known d (DataRequest.Backup name) body = data-judged d _ known _ _ (dataStarts 1 d) (λ g. data-moves d (dataStarts 1 d) 4 1 (is (g 0)) refl (omega arith) refl)
-data-keeps known d (DataRequest.Recover name) body = data-judged d _ known _ _ (dataStarts 2 d) (λ g. data-moves d (dataStarts 2 d) 4 1 (is (g 0)) refl (omega arith) refl)
-data-keeps known d DataRequest.Stop body = data-judged d _ known _ _ restData (λ g. data-moves d restData 2 0 (is (g 0)) refl (omega arith) refl)
-data-keeps known d (DataRequest.Listen address) body = data-judged d _ known _ _ (dataTo 3 d) (λ g. data-moves d (dataTo 3 d) 0 3 (is (g 0)) refl (omega arith) refl)
+pub data-keeps : (d : Data) (q : DataRequest) (body : List ℕ) → Accepts (DataKeeps d) (dataStep d q body)
+unfolding dataStep dataState dataListen dataStart dataStop dataJoined choose
+data-keeps d DataRequest.State body = accepts (DataKeeps d) _ _ d (λ _. stays dataWrong dataSide d)
+data-keeps d (DataRequest.Backup name) body = accepts (DataKeeps d) _ _ (dataStarts 1 d) (λ g. data-moves d (dataStarts 1 d) 4 1 (is (g 0)) refl (omega arith) refl)
+data-keeps d (DataRequest.Recover name) body = accepts (DataKeeps d) _ _ (dataStarts 2 d) (λ g. data-moves d (dataStarts 2 d) 4 1 (is (g 0)) refl (omega arith) refl)
+data-keeps d DataRequest.Stop body = accepts (DataKeeps d) _ _ restData (λ g. data-moves d restData 2 0 (is (g 0)) refl (omega arith) refl)
+data-keeps d (DataRequest.Listen address) body = accepts (DataKeeps d) _ _ (dataTo 3 d) (λ g. data-moves d (dataTo 3 d) 0 3 (is (g 0)) refl (omega arith) refl)
 
 -- ---- the mover and the tape
 abbrev pub PartKeeps : TapePart → TapePart → Type 0
@@ -127,7 +118,7 @@ listen-kept m t mode s o w n z k =
     }
 
 -- at the window's start
-at-start : (size offset length moved : ℕ) → offset ≡ moved → Legal size offset length → Within size offset length moved
+at-start : (size offset length moved : ℕ) → offset ≡ moved → Legal size offset length → InWindow size offset length moved
 at-start size offset length moved e l =
     let r : moved % size ≡ 0 = rw e at (l .offsets) in
     record { some = l .some; from = omega arith; to = omega arith; records = r }
@@ -254,115 +245,86 @@ module _ (state : ℕ) (h : busy state ≡ false) where
       clash (holdsTape state) z e
 
 -- ---- the mover's requests
-module _ (known : Bool) (m : Mover) (t : Tape) (l : List ℕ) where
+module _ (m : Mover) (t : Tape) (l : List ℕ) where
   there : Mover → TapePart
   there n = record { mover = n; tape = t; image = l }
 
+  MoverKeeps : Reply → Mover → Type 0
+  MoverKeeps _ n = PartKeeps (there m) (there n)
+
   -- a request of the mover that is judged by tests
-  mover-judged : (ts : List Test) (next : Mover) → numbered ts ≡ true
-      → (((k : ℕ) → flagAt ts k ≡ false) → MoverKept m t → MoverKept next t)
-      → (((k : ℕ) → flagAt ts k ≡ false) → moverJoined (next .state) ≡ moverJoined (m .state))
-      → PartKeeps (there m) (there (choose (eqb (first ts) 0) next m))
-  unfolding there
-  mover-judged ts next n f s =
-      by-test (λ (x : Mover). PartKeeps (there m) (there x)) (eqb (first ts) 0) next m
-      (λ e. let g = clear ts n (eqb-true (first ts) 0 e) in by-facts (there m) (there next) (f g) (s g))
-      (λ _. stays partWrong partSide (there m))
+  mover-judged : (ts : List Test) (r : Reply) (next : Mover)
+      → (Clear ts → MoverKept m t → MoverKept next t)
+      → (Clear ts → moverJoined (next .state) ≡ moverJoined (m .state))
+      → Accepts MoverKeeps (judge ts (accept r next))
+  unfolding there MoverKeeps
+  mover-judged ts r next f s = accepts MoverKeeps ts r next (λ g. by-facts (there m) (there next) (f g) (s g))
 
   joined-at : (a b : ℕ) → m .state ≡ b → moverJoined a ≡ moverJoined b → moverJoined a ≡ moverJoined (m .state)
   joined-at a b e j = j ∙ ap moverJoined (sym e)
 
-  mover-keeps : (q : MoverRequest) → PartKeeps (there m) (there (moverStep known m t q .part))
+  mover-keeps : (q : MoverRequest) → Accepts MoverKeeps (moverStep m t q)
   unfolding moverStep moverState moverListen moverContinue moverStop setWindow moverRead setSize moverJoined choose
-  mover-keeps MoverRequest.State = mover-judged (knownTests known) m refl (λ _ k. k) (λ _. refl)
+  mover-keeps MoverRequest.State = mover-judged _ _ m (λ _ k. k) (λ _. refl)
   mover-keeps (MoverRequest.Listen mode address) =
-      mover-judged (joinOf known m t mode address false) (moverListens mode m) refl
-      (λ g. listen-kept m t mode (is (g 2)) (yes (g 1)) (g 3) (isnt (g 5)) (g 6))
-      (λ g. joined-at 1 0 (is (g 2)) refl)
+      mover-judged _ _ (moverListens mode m)
+      (λ g. listen-kept m t mode (is (g 1)) (yes (g 0)) (g 2) (isnt (g 4)) (g 5))
+      (λ g. joined-at 1 0 (is (g 1)) refl)
   mover-keeps MoverRequest.Continue =
-      mover-judged (continueTests known (t .opened) (t .writable) (m .state) (m .mode) (m .length)) (moverRuns (m .mode) (t .position) m) refl
-      (λ g k. runs-kept m t (m .mode) (yes (g 1)) (writes (m .mode) (t .writable) (g 3)) (isnt (g 4)) (λ e. k .resumes e (is (g 2)) (isnt (g 4))) k)
-      (λ g. joined-at 2 3 (is (g 2)) refl)
+      mover-judged _ _ (moverRuns (m .mode) (t .position) m)
+      (λ g k. runs-kept m t (m .mode) (yes (g 0)) (writes (m .mode) (t .writable) (g 2)) (isnt (g 3)) (λ e. k .resumes e (is (g 1)) (isnt (g 3))) k)
+      (λ g. joined-at 2 3 (is (g 1)) refl)
   mover-keeps MoverRequest.Stop =
-      mover-judged (moverStopTests known (m .state)) (restMover (m .size)) refl (λ _ k. rest-kept (m .size) t (k .sizes)) (λ g. joined-at 0 4 (is (g 1)) refl)
+      mover-judged _ _ (restMover (m .size)) (λ _ k. rest-kept (m .size) t (k .sizes)) (λ g. joined-at 0 4 (is (g 0)) refl)
   mover-keeps (MoverRequest.Window offset length) =
-      mover-judged (windowTests known (m .state) (m .mode) (m .size) (m .moved) offset length) (moverWindow offset length m) refl
-      (λ g. let n : m .size ≡ 0 → ⊥ = isnt (g 2) in
+      mover-judged _ _ (moverWindow offset length m)
+      (λ g. let n : m .size ≡ 0 → ⊥ = isnt (g 1) in
       let s : 1 ≤ m .size = omega arith in
-      window-kept m t offset length (g 1) (busy-free (m .state) (g 1))
-      (record { some = s; offsets = is (g 4); lengths = is (g 5); fits = past-top offset length (g 6) }) (g 7))
+      window-kept m t offset length (g 0) (busy-free (m .state) (g 0))
+      (record { some = s; offsets = is (g 3); lengths = is (g 4); fits = past-top offset length (g 5) }) (g 6))
       (λ _. refl)
   mover-keeps (MoverRequest.Read offset length) =
-      mover-judged (moverReadTests known (m .state) (m .mode) (m .left) offset length) (moverSeeks offset length m) refl
-      (λ g. seek-kept m t offset length (past-top offset length (g 4))) (λ _. refl)
+      mover-judged _ _ (moverSeeks offset length m) (λ g. seek-kept m t offset length (past-top offset length (g 3))) (λ _. refl)
   mover-keeps (MoverRequest.Size size) =
-      mover-judged (sizeTests known (m .state) size) (moverSize size m) refl
-      (λ g. size-kept m t size (is (g 1)) (idle-free (m .state) (is (g 1))) (ltb-false 32768 size (g 3))) (λ _. refl)
+      mover-judged _ _ (moverSize size m)
+      (λ g. size-kept m t size (is (g 0)) (idle-free (m .state) (is (g 0))) (ltb-false 32768 size (g 2))) (λ _. refl)
 
 -- ---- the tape's requests
-module _ (known : Bool) (m : Mover) (t : Tape) (l : List ℕ) where
-  before : TapePart
-  before = record { mover = m; tape = t; image = l }
-
-  after : Loaded → TapePart
-  after s = record { mover = m; tape = s .tape; image = s .image }
+module _ (p : TapePart) where
+  Reloads : Reply → Loaded → Type 0
+  Reloads _ s = PartKeeps p (withLoaded p s)
 
   -- a request of the tape after which the mover is as it was
-  loaded-keeps : (s : Loaded) → (holdsTape (m .state) ≡ true → ⊥) → PartKeeps before (after s)
-  unfolding before after
-  loaded-keeps s free = by-facts before (after s) (tape-free m t (s .tape) free) refl
-
-  same-keeps : PartKeeps before (after (loaded t l))
-  unfolding before after
-  same-keeps = stays partWrong partSide before
+  loaded-keeps : (s : Loaded) → (holdsTape (p .mover .state) ≡ true → ⊥) → PartKeeps p (withLoaded p s)
+  loaded-keeps s free = by-facts p (withLoaded p s) (tape-free (p .mover) (p .tape) (s .tape) free) refl
 
   -- while the mover holds the tape it is open
-  open-free : t .opened ≡ false → MoverKept m t → holdsTape (m .state) ≡ true → ⊥
-  open-free h k e = clash (t .opened) h (k .hold e .opened)
+  open-free : p .tape .opened ≡ false → MoverKept (p .mover) (p .tape) → holdsTape (p .mover .state) ≡ true → ⊥
+  open-free h k e = clash (p .tape .opened) h (k .hold e .opened)
 
-  opens-keeps : (s : Loaded) → t .opened ≡ false → PartKeeps before (after s)
-  unfolding before after
-  opens-keeps s h = by-facts before (after s) (λ k. tape-free m t (s .tape) (open-free h k) k) refl
+  opens-keeps : (s : Loaded) → p .tape .opened ≡ false → PartKeeps p (withLoaded p s)
+  opens-keeps s h = by-facts p (withLoaded p s) (λ k. tape-free (p .mover) (p .tape) (s .tape) (open-free h k) k) refl
 
-  -- what a request that is judged by tests gives, where none applies, and where one does
-  device-judged : (ts : List Test) (x y : Served Loaded) → numbered ts ≡ true
-      → (((k : ℕ) → flagAt ts k ≡ false) → PartKeeps before (after (x .part))) → PartKeeps before (after (y .part))
-      → PartKeeps before (after (choose (eqb (first ts) 0) x y .part))
-  device-judged ts x y n f h =
-      by-test (λ (s : Served Loaded). PartKeeps before (after (s .part))) (eqb (first ts) 0) x y (λ e. f (clear ts n (eqb-true (first ts) 0 e))) (λ _. h)
+  busy-tape : holdsTape (p .mover .state) ≡ false → holdsTape (p .mover .state) ≡ true → ⊥
+  busy-tape h e = clash (holdsTape (p .mover .state)) h e
 
-  part-judged : (ts : List Test) (next : Loaded) → numbered ts ≡ true → (((k : ℕ) → flagAt ts k ≡ false) → PartKeeps before (after next))
-      → PartKeeps before (after (choose (eqb (first ts) 0) next (loaded t l)))
-  part-judged ts next n f =
-      by-test (λ (s : Loaded). PartKeeps before (after s)) (eqb (first ts) 0) next (loaded t l) (λ e. f (clear ts n (eqb-true (first ts) 0 e))) (λ _. same-keeps)
-
-  busy-tape : holdsTape (m .state) ≡ false → holdsTape (m .state) ≡ true → ⊥
-  busy-tape h e = clash (holdsTape (m .state)) h e
-
-  device-keeps : (q : TapeRequest) (body : List ℕ) → PartKeeps before (after (deviceStep known (m .state) t l q body .part))
-  unfolding deviceStep tapeOpen tapeClose tapeState tapeMtio tapeWrite tapeRead
-  device-keeps (TapeRequest.Open name mode) body =
-      part-judged (tapeOpenTests known mode (sameBytes (textOf body name) tape0) (t .opened) (isSound l))
-      (loaded (record { opened = true; writable = eqb mode 1; position = 0 }) l) refl (λ g. opens-keeps _ (g 3))
-  device-keeps TapeRequest.Close body =
-      part-judged (tapeTests known (t .opened) (m .state) false) (loaded closedTape l) refl (λ g. loaded-keeps _ (busy-tape (g 2)))
-  device-keeps TapeRequest.State body = same-keeps
-  device-keeps (TapeRequest.Mtio op times) body =
-      device-judged (tapeTests known (t .opened) (m .state) (protects op (t .writable))) _ _ refl
-      (λ g. loaded-keeps _ (busy-tape (g 2))) same-keeps
-  device-keeps (TapeRequest.Write bytes) body =
-      device-judged (tapeTests known (t .opened) (m .state) (not (t .writable))) _ _ refl (λ g. loaded-keeps _ (busy-tape (g 2))) same-keeps
-  device-keeps (TapeRequest.Read times) body =
-      device-judged (tapeTests known (t .opened) (m .state) false) _ _ refl (λ g. loaded-keeps _ (busy-tape (g 2))) same-keeps
+  device-keeps : (q : TapeRequest) (body : List ℕ) → Accepts Reloads (deviceStep (p .mover .state) (p .tape) (p .image) q body)
+  unfolding deviceStep tapeOpen tapeClose tapeState tapeMtio tapeWrite tapeRead Reloads
+  device-keeps (TapeRequest.Open name mode) body = accepts Reloads _ _ _ (λ g. opens-keeps _ (g 2))
+  device-keeps TapeRequest.Close body = accepts Reloads _ _ _ (λ g. loaded-keeps _ (busy-tape (g 1)))
+  device-keeps TapeRequest.State body = accepts Reloads _ _ _ (λ _. stays partWrong partSide p)
+  device-keeps (TapeRequest.Mtio op times) body = accepts Reloads _ _ _ (λ g. loaded-keeps _ (busy-tape (g 1)))
+  device-keeps (TapeRequest.Write bytes) body = accepts Reloads _ _ _ (λ g. loaded-keeps _ (busy-tape (g 1)))
+  device-keeps (TapeRequest.Read times) body = accepts Reloads _ _ _ (λ g. loaded-keeps _ (busy-tape (g 1)))
 
 -- ---- the two interfaces of the service
-pub tape-keeps : (known : Bool) (p : TapePart) (q : TapeRequest) (body : List ℕ) → PartKeeps p (tapeStep known p q body .part)
-unfolding tapeStep before after
-tape-keeps known p q body = device-keeps known (p .mover) (p .tape) (p .image) q body
+pub tape-keeps : (p : TapePart) (q : TapeRequest) (body : List ℕ) → Accepts (λ _ next. PartKeeps p next) (tapeStep p q body)
+unfolding tapeStep Reloads
+tape-keeps p q body = carried (λ _ next. PartKeeps p next) (withLoaded p) _ (device-keeps p q body)
 
-pub mover-part-keeps : (known : Bool) (p : TapePart) (q : MoverRequest) → PartKeeps p (moverPartStep known p q .part)
-unfolding moverPartStep there
-mover-part-keeps known p q = mover-keeps known (p .mover) (p .tape) (p .image) q
+pub mover-part-keeps : (p : TapePart) (q : MoverRequest) → Accepts (λ _ next. PartKeeps p next) (moverPartStep p q)
+unfolding moverPartStep there MoverKeeps
+mover-part-keeps p q = carried (λ _ next. PartKeeps p next) (withMover p) _ (mover-keeps (p .mover) (p .tape) (p .image) q)
 
 -- ---- the joint requests
 not-joined : (a b : Bool) → sameFlag a b ≡ true → a ≡ false → b ≡ false
@@ -380,36 +342,31 @@ flag-none : (a : Bool) → a ≡ false → sameFlag a false ≡ true
 unfolding sameFlag
 flag-none a e = rw e refl
 
-module _ (known : Bool) (d : Data) (m : Mover) (t : Tape) (hd : dataWrong d ≡ false) (hm : moverWrong m t ≡ false)
+module _ (d : Data) (m : Mover) (t : Tape) (hd : dataWrong d ≡ false) (hm : moverWrong m t ≡ false)
     (hj : sameFlag (dataJoined (d .state)) (moverJoined (m .state)) ≡ true) where
-  as-was : JointKeeps d m t (ends d m)
-  as-was = record { source = hd; mover = hm; joined = hj }
+  abbrev EndsKeep : Reply → Ends → Type 0
+  EndsKeep _ next = JointKeeps t next
 
   facts : MoverKept m t
   facts = mover-kept m t hm
 
-  ends-judged : (ts : List Test) (next : Ends) → numbered ts ≡ true → (((k : ℕ) → flagAt ts k ≡ false) → JointKeeps d m t next)
-      → JointKeeps d m t (choose (eqb (first ts) 0) next (ends d m))
-  ends-judged ts next n f =
-      by-test (JointKeeps d m t) (eqb (first ts) 0) next (ends d m) (λ e. f (clear ts n (eqb-true (first ts) 0 e))) (λ _. as-was)
-
   -- both ends joined
   connects : (mode : ℕ) → t .opened ≡ true → (mode ≡ 0 → t .writable ≡ true) → (m .length ≡ 0 → ⊥) → (mode ≡ 0 → m .offset ≡ m .moved)
-      → JointKeeps d m t (ends (dataTo 4 d) (moverRuns mode (t .position) m))
+      → JointKeeps t (joined d m mode (t .position))
   unfolding dataWrong dataJoined moverJoined sameFlag choose
   connects mode o w n z = record { source = refl; mover = kept-mover (moverRuns mode (t .position) m) t (runs-kept m t mode o w n z facts); joined = refl }
 
   -- both ends halted
-  halt : (dwhy mwhy a b : ℕ) → JointKeeps d m t (record { source = dataHalts dwhy d; mover = moverHalts mwhy m; dwhy = a; mwhy = b })
+  halt : (dwhy mwhy : ℕ) → JointKeeps t (halted dwhy mwhy d m)
   unfolding dataWrong dataJoined moverJoined sameFlag choose
-  halt dwhy mwhy a b = record { source = refl; mover = kept-mover (moverHalts mwhy m) t (halts-kept m t mwhy facts); joined = refl }
+  halt dwhy mwhy = record { source = refl; mover = kept-mover (moverHalts mwhy m) t (halts-kept m t mwhy facts); joined = refl }
 
   -- one end halted that was not joined
-  halt-data : (a b : ℕ) → dataJoined (d .state) ≡ false → JointKeeps d m t (record { source = dataHalts 2 d; mover = m; dwhy = a; mwhy = b })
+  halt-data : (a b : ℕ) → dataJoined (d .state) ≡ false → JointKeeps t (record { source = dataHalts 2 d; mover = m; dwhy = a; mwhy = b })
   unfolding dataWrong dataJoined sameFlag choose
   halt-data a b h = record { source = refl; mover = hm; joined = ap not (not-joined (dataJoined (d .state)) (moverJoined (m .state)) hj h) }
 
-  halt-mover : (a b : ℕ) → moverJoined (m .state) ≡ false → JointKeeps d m t (record { source = d; mover = moverHalts 2 m; dwhy = a; mwhy = b })
+  halt-mover : (a b : ℕ) → moverJoined (m .state) ≡ false → JointKeeps t (record { source = d; mover = moverHalts 2 m; dwhy = a; mwhy = b })
   unfolding moverJoined choose
   halt-mover a b h =
       record {
@@ -418,20 +375,18 @@ module _ (known : Bool) (d : Data) (m : Mover) (t : Tape) (hd : dataWrong d ≡ 
         joined = flag-none (dataJoined (d .state)) (not-joined-back (dataJoined (d .state)) (moverJoined (m .state)) hj h);
       }
 
-  pub joint-keeps : (q : JointRequest) → JointKeeps d m t (jointStep known d m t q .part)
+  pub joint-keeps : (q : JointRequest) → Accepts EndsKeep (jointStep d m t q)
   unfolding jointStep dataAbort dataConnect moverAbort moverClose moverConnect dataAborted moverAborted
   joint-keeps JointRequest.DataAbort =
-      ends-judged (abortTests known (d .state) 2) _ refl
-      (λ _. by-test (JointKeeps d m t) (dataJoined (d .state)) _ _ (λ _. halt 2 1 2 1) (λ h. halt-data 2 0 h))
+      accepts EndsKeep _ _ _ (λ _. by-test (JointKeeps t) (dataJoined (d .state)) _ _ (λ _. halt 2 1) (λ h. halt-data 2 0 h))
   joint-keeps (JointRequest.DataConnect address) =
-      ends-judged (dataConnectTests known (d .state) (m .state) address) _ refl
-      (λ g. let s : m .state ≡ 1 = is (g 3) in let h = facts .hold (listen-holds (m .state) s) in
+      accepts EndsKeep _ _ _
+      (λ g. let s : m .state ≡ 1 = is (g 2) in let h = facts .hold (listen-holds (m .state) s) in
       connects (m .mode) (h .opened) (h .writes) (h .window) (λ e. facts .listens e s ∙ sym (facts .start (omega arith))))
   joint-keeps JointRequest.MoverAbort =
-      ends-judged (abortTests known (m .state) 4) _ refl
-      (λ _. by-test (JointKeeps d m t) (moverJoined (m .state)) _ _ (λ _. halt 4 2 4 2) (λ h. halt-mover 0 2 h))
-  joint-keeps JointRequest.MoverClose = ends-judged (closeTests known (m .state)) _ refl (λ _. halt 4 1 4 1)
+      accepts EndsKeep _ _ _ (λ _. by-test (JointKeeps t) (moverJoined (m .state)) _ _ (λ _. halt 4 2) (λ h. halt-mover 0 2 h))
+  joint-keeps JointRequest.MoverClose = accepts EndsKeep _ _ _ (λ _. halt 4 1)
   joint-keeps (JointRequest.MoverConnect mode address) =
-      ends-judged (joinOf known m t mode address (not (eqb (d .state) 3))) _ refl
-      (λ g. let s : m .state ≡ 0 = is (g 2) in
-      connects mode (yes (g 1)) (writes mode (t .writable) (g 3)) (isnt (g 5)) (λ e. offset-zero mode (m .offset) (g 6) e ∙ sym (facts .start (omega arith))))
+      accepts EndsKeep _ _ _
+      (λ g. let s : m .state ≡ 0 = is (g 1) in
+      connects mode (yes (g 0)) (writes mode (t .writable) (g 2)) (isnt (g 4)) (λ e. offset-zero mode (m .offset) (g 5) e ∙ sym (facts .start (omega arith))))

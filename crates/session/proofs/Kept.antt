@@ -9,9 +9,9 @@ use Rattle.xdr.specs.Choose.{choose}
 use Rattle.xdr.proofs.Tests.{by-test, when, unless, none-of, none, if-not, if-so, is, isnt, yes, eq-not, yes-not}
 use Rattle.session.specs.declared.types.Mover.{Mover}
 use Rattle.session.specs.declared.types.Tape.{Tape}
-use Rattle.session.specs.Parts.{top, holdsTape, unwritable}
-use Rattle.session.specs.MoverService.{pastTop}
-use Rattle.session.specs.Relation.{numbersWrong, windowWrong, startWrong, holdWrong, strays, resumeWrong, placeWrong, originWrong, moverWrong, Legal, Held, Within, MoverKept}
+use Rattle.session.specs.Names.{top}
+use Rattle.session.specs.Parts.{holdsTape, unwritable, pastTop}
+use Rattle.session.specs.Relation.{numbersWrong, windowWrong, startWrong, holdWrong, strays, resumeWrong, placeWrong, originWrong, moverWrong, Legal, Held, InWindow, MoverKept}
 
 pub past-top : (a b : ℕ) → pastTop a b ≡ false → a + b ≤ top
 unfolding pastTop
@@ -45,7 +45,7 @@ module _ (size offset length : ℕ) where
 
 -- ---- within the window
 module _ (size offset length moved : ℕ) where
-  within : strays size offset length moved ≡ false → Within size offset length moved
+  within : strays size offset length moved ≡ false → InWindow size offset length moved
   unfolding strays
   within h =
       let z = none-of _ h in
@@ -55,7 +55,7 @@ module _ (size offset length moved : ℕ) where
       let s : 1 ≤ size = omega arith in
       record { some = s; from = ltb-false moved offset (a .0); to = ltb-false (offset + length) moved (b .0); records = is (b .1) }
 
-  no-stray : Within size offset length moved → strays size offset length moved ≡ false
+  no-stray : InWindow size offset length moved → strays size offset length moved ≡ false
   unfolding strays
   no-stray w =
       let n : size ≡ 0 → ⊥ = λ z. (let s = w .some in omega arith) in
@@ -88,14 +88,15 @@ module _ (m : Mover) (t : Tape) where
 -- ---- the mover's place on the stream, in mode 0
 module _ (m : Mover) where
   at-zero : placeWrong m ≡ false → m .mode ≡ 0
-      → choose (eqb (m .state) 1) (not (eqb (m .offset) 0)) (choose (eqb (m .state) 2) (strays (m .size) (m .offset) (m .length) (m .moved)) (choose (eqb (m .state) 3) (resumeWrong (m .length) (m .offset) (m .moved)) false)) ≡ false
+      → choose (eqb (m .state) 1) (not (eqb (m .offset) 0))
+      (choose (eqb (m .state) 2) (strays (m .size) (m .offset) (m .length) (m .moved)) (choose (eqb (m .state) 3) (resumeWrong (m .length) (m .offset) (m .moved)) false)) ≡ false
   unfolding placeWrong
   at-zero h e = unless (not (eqb (m .mode) 0)) _ h (eq-not e)
 
   place-listens : placeWrong m ≡ false → m .mode ≡ 0 → m .state ≡ 1 → m .offset ≡ 0
   place-listens h e s = is (when (eqb (m .state) 1) _ (at-zero h e) (eq-eqb (m .state) 1 s))
 
-  place-runs : placeWrong m ≡ false → m .mode ≡ 0 → m .state ≡ 2 → Within (m .size) (m .offset) (m .length) (m .moved)
+  place-runs : placeWrong m ≡ false → m .mode ≡ 0 → m .state ≡ 2 → InWindow (m .size) (m .offset) (m .length) (m .moved)
   place-runs h e s =
       let n : m .state ≡ 1 → ⊥ = λ z. omega arith in
       within (m .size) (m .offset) (m .length) (m .moved) (when (eqb (m .state) 2) _ (unless (eqb (m .state) 1) _ (at-zero h e) (ne-eqb (m .state) 1 n)) (eq-eqb (m .state) 2 s))
@@ -109,7 +110,7 @@ module _ (m : Mover) where
       is (unless (eqb (m .length) 0) _ (when (eqb (m .state) 3) _ a (eq-eqb (m .state) 3 s)) (ne-eqb (m .length) 0 k))
 
   no-place-wrong : (m .mode ≡ 0 → m .state ≡ 1 → m .offset ≡ 0)
-      → (m .mode ≡ 0 → m .state ≡ 2 → Within (m .size) (m .offset) (m .length) (m .moved))
+      → (m .mode ≡ 0 → m .state ≡ 2 → InWindow (m .size) (m .offset) (m .length) (m .moved))
       → (m .mode ≡ 0 → m .state ≡ 3 → (m .length ≡ 0 → ⊥) → m .offset ≡ m .moved) → placeWrong m ≡ false
   unfolding placeWrong resumeWrong
   no-place-wrong f g h =

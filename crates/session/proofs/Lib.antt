@@ -1,10 +1,14 @@
--- `JudgeLaws` has the laws of lists of tests, `Kept` those of the relation, `Keeping` that every request keeps it, `Serving` those that the code of a request leans on, `Refusing` what a refusal leaves, `Sending` that an answer can be sent, `Calls` what holds of every call, `Owning` that a record's request is its service's, `Order` that the services commute.
+-- `JudgeLaws` has the laws of lists of tests and of outcomes, `Serving` those of texts, `Kept` those of the relation, `Keeping` that every request
+-- keeps it, `Windows` the rules of windows, `Sending` that an answer can be sent, `Numbers` an accepted reply's number, `Guarding` what comes
+-- before any call, `Calls` what holds of every call, `Owning` that a record's request is its service's, `Order` that the services commute.
 pub mod JudgeLaws
 pub mod Serving
 pub mod Kept
 pub mod Keeping
-pub mod Refusing
-pub mod Owning
+pub mod Windows
 pub mod Sending
+pub mod Numbers
+pub mod Guarding
 pub mod Calls
+pub mod Owning
 pub mod Order

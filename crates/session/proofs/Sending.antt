@@ -1,13 +1,16 @@
--- What a service answers can be sent: the bytes that a reply copies are there. Assumes nothing.
+-- Every answer can be sent: what its reply copies is there. Assumes nothing.
 use Prim.Native.Nat.{ℕ, _≤_}
-use mathlib.Core.Bool.{Bool, false, not}
+use mathlib.Core.Bool.{Bool}
 use mathlib.Core.List.{List, []}
-use native.Mathlib.Omega.{arith}
-use lib.ListN.{length, getD}
+use lib.ListN.{getD}
 use lib.Dec.{eqb}
-use Rattle.xdr.proofs.Tests.{by-test}
-use Rattle.cartridge.specs.Operations.{least}
-use Rattle.cartridge.proofs.Reading.{Copied, least-right, read-copies}
+use Rattle.codes.specs.Codes.{senseBytes}
+use Rattle.xdr.specs.Choose.{least}
+use Rattle.xdr.proofs.Tests.{by-test, least-right}
+use Rattle.cartridge.proofs.Reading.{Copied, read-copies}
+use Rattle.requests.specs.Within.{bytesAt}
+use Rattle.requests.specs.declared.ConnectRequest.{ConnectRequest}
+use Rattle.requests.specs.declared.ConnectRequest.the-variants as ConnectRequest
 use Rattle.requests.specs.declared.ConfigRequest.{ConfigRequest}
 use Rattle.requests.specs.declared.ConfigRequest.the-variants as ConfigRequest
 use Rattle.requests.specs.declared.DataRequest.{DataRequest}
@@ -26,98 +29,86 @@ use Rattle.session.specs.declared.types.Data.{Data}
 use Rattle.session.specs.declared.types.Mover.{Mover}
 use Rattle.session.specs.declared.types.Tape.{Tape}
 use Rattle.session.specs.declared.types.Changer.{Changer}
-use Rattle.session.specs.Judge.{first, Served, judge, settled}
-use Rattle.session.specs.DataService.{textOf, dataListen, dataStart, dataStop, dataStep, dataRefusal}
+use Rattle.session.specs.declared.types.Login.{Login}
+use Rattle.session.specs.Judge.{Accepts}
+use Rattle.session.specs.DataService.{dataState, dataListen, dataStart, dataStop, dataStep}
 use Rattle.session.specs.MoverService.{moverState, moverListen, moverContinue, moverStop, setWindow, moverRead, setSize, moverStep}
-use Rattle.session.specs.TapeService.{Loaded, openTests, tapeTests, tapeOpen, tapeClose, tapeState, tapeMtio, protects, tapeWrite, tapeRead, deviceStep, TapePart, tapeStep, moverPartStep}
-use Rattle.session.specs.ScsiService.{scsiOpen, scsiClear, scsiState, cdbTests, senseLength, runCdb, scsiCdb, scsiStep}
+use Rattle.session.specs.TapeService.{Loaded, tapeOpen, tapeClose, tapeState, tapeMtio, tapeWrite, tapeRead, deviceStep}
+use Rattle.session.specs.ScsiService.{scsiOpen, scsiClear, scsiState, senseLength, runCdb, scsiCdb, scsiStep}
 use Rattle.session.specs.Joint.{dataConnect, moverConnect, dataAbort, moverAbort, moverClose, jointStep}
-use Rattle.session.specs.Connection.{configReply}
-use Rattle.session.proofs.JudgeLaws.{outcome-judged}
+use Rattle.session.specs.Connection.{Account, connectOpen, clientAuth, connectStep, configStep}
+use Rattle.session.proofs.JudgeLaws.{judged-by, accepts}
 
-sense-length : (cdb : List ℕ) (room : ℕ) → senseLength cdb room ≤ 18
+sense-length : (cdb : List ℕ) (room : ℕ) → senseLength cdb room ≤ senseBytes
 unfolding senseLength
-sense-length cdb room = least-right (least (getD cdb 4 0) room) 18
+sense-length cdb room = least-right (least (getD cdb 4 0) room) senseBytes
 
--- ---- the requests of a service
-abbrev SendableOn : {A : Type 0} → List ℕ → Served A → Type 0
-SendableOn image s = Sendable (s .reply) image
+-- of the services that show nothing of an image
+abbrev Sends : {A : Type 0} → Reply → A → Type 0
+Sends r _ = Sendable r []
 
-pub data-refusal-sendable : (q : DataRequest) (e : ℕ) (image : List ℕ) → Sendable (dataRefusal q e) image
-unfolding dataRefusal Sendable
-data-refusal-sendable DataRequest.State e image = tt
-data-refusal-sendable (DataRequest.Backup name) e image = tt
-data-refusal-sendable (DataRequest.Recover name) e image = tt
-data-refusal-sendable DataRequest.Stop e image = tt
-data-refusal-sendable (DataRequest.Listen address) e image = tt
+pub data-sends : (d : Data) (q : DataRequest) (body : List ℕ) → Accepts Sends (dataStep d q body)
+unfolding dataStep dataState dataListen dataStart dataStop Sendable
+data-sends d DataRequest.State body = accepts Sends _ _ _ (λ _. tt)
+data-sends d (DataRequest.Backup name) body = accepts Sends _ _ _ (λ _. tt)
+data-sends d (DataRequest.Recover name) body = accepts Sends _ _ _ (λ _. tt)
+data-sends d DataRequest.Stop body = accepts Sends _ _ _ (λ _. tt)
+data-sends d (DataRequest.Listen address) body = accepts Sends _ _ _ (λ _. tt)
 
-pub data-step-sendable : (d : Data) (q : DataRequest) (body image : List ℕ) → SendableOn image (settled d (dataRefusal q) (dataStep d q body))
-unfolding dataStep dataListen dataStart dataStop Sendable
-data-step-sendable d DataRequest.State body image = outcome-judged (SendableOn image) d _ (λ e. data-refusal-sendable DataRequest.State e image) _ _ _ (λ _. tt)
-data-step-sendable d (DataRequest.Backup name) body image = outcome-judged (SendableOn image) d _ (λ e. data-refusal-sendable (DataRequest.Backup name) e image) _ _ _ (λ _. tt)
-data-step-sendable d (DataRequest.Recover name) body image = outcome-judged (SendableOn image) d _ (λ e. data-refusal-sendable (DataRequest.Recover name) e image) _ _ _ (λ _. tt)
-data-step-sendable d DataRequest.Stop body image = outcome-judged (SendableOn image) d _ (λ e. data-refusal-sendable DataRequest.Stop e image) _ _ _ (λ _. tt)
-data-step-sendable d (DataRequest.Listen address) body image = outcome-judged (SendableOn image) d _ (λ e. data-refusal-sendable (DataRequest.Listen address) e image) _ _ _ (λ _. tt)
-
-pub mover-step-sendable : (known : Bool) (m : Mover) (t : Tape) (q : MoverRequest) (image : List ℕ) → Sendable (moverStep known m t q .reply) image
-unfolding moverStep moverState moverListen moverContinue moverStop setWindow moverRead setSize Sendable
-mover-step-sendable known m t MoverRequest.State image = tt
-mover-step-sendable known m t (MoverRequest.Listen mode address) image = tt
-mover-step-sendable known m t MoverRequest.Continue image = tt
-mover-step-sendable known m t MoverRequest.Stop image = tt
-mover-step-sendable known m t (MoverRequest.Window offset length) image = tt
-mover-step-sendable known m t (MoverRequest.Read offset length) image = tt
-mover-step-sendable known m t (MoverRequest.Size size) image = tt
-
-pub joint-step-sendable : (known : Bool) (d : Data) (m : Mover) (t : Tape) (q : JointRequest) (image : List ℕ) → Sendable (jointStep known d m t q .reply) image
+pub joint-sends : (d : Data) (m : Mover) (t : Tape) (q : JointRequest) → Accepts Sends (jointStep d m t q)
 unfolding jointStep dataAbort dataConnect moverAbort moverClose moverConnect Sendable
-joint-step-sendable known d m t JointRequest.DataAbort image = tt
-joint-step-sendable known d m t (JointRequest.DataConnect address) image = tt
-joint-step-sendable known d m t JointRequest.MoverAbort image = tt
-joint-step-sendable known d m t JointRequest.MoverClose image = tt
-joint-step-sendable known d m t (JointRequest.MoverConnect mode address) image = tt
+joint-sends d m t JointRequest.DataAbort = accepts Sends _ _ _ (λ _. tt)
+joint-sends d m t (JointRequest.DataConnect address) = accepts Sends _ _ _ (λ _. tt)
+joint-sends d m t JointRequest.MoverAbort = accepts Sends _ _ _ (λ _. tt)
+joint-sends d m t JointRequest.MoverClose = accepts Sends _ _ _ (λ _. tt)
+joint-sends d m t (JointRequest.MoverConnect mode address) = accepts Sends _ _ _ (λ _. tt)
 
-pub scsi-step-sendable : (known : Bool) (c : Changer) (q : ScsiRequest) (body image : List ℕ) → Sendable (scsiStep known c q body .reply) image
-unfolding scsiStep scsiOpen scsiClear scsiState scsiCdb runCdb Sendable
-scsi-step-sendable known c (ScsiRequest.Open name) body image = tt
-scsi-step-sendable known c ScsiRequest.Close body image = tt
-scsi-step-sendable known c ScsiRequest.State body image = tt
-scsi-step-sendable known c ScsiRequest.Reset body image = tt
-scsi-step-sendable known c (ScsiRequest.Cdb cdb room) body image =
-    let l = textOf body cdb in
-    by-test (SendableOn image) (eqb (first (cdbTests known (c .opened) (length l))) 0) _ _
-    (λ _. by-test (SendableOn image) (eqb (getD l 0 0) 0) _ _ (λ _. tt)
-    (λ _. by-test (SendableOn image) (eqb (getD l 0 0) 3) _ _ (λ _. sense-length l room) (λ _. tt)))
-    (λ _. tt)
+run-sends : (c : Changer) (cdb : List ℕ) (room : ℕ) → Accepts Sends (runCdb c cdb room)
+unfolding runCdb Sendable Accepts
+run-sends c cdb room =
+    by-test (Accepts Sends) (eqb (getD cdb 0 0) 0) _ _ (λ _. tt)
+    (λ _. by-test (Accepts Sends) (eqb (getD cdb 0 0) 3) _ _ (λ _. sense-length cdb room) (λ _. tt))
+
+pub scsi-sends : (c : Changer) (q : ScsiRequest) (body : List ℕ) → Accepts Sends (scsiStep c q body)
+unfolding scsiStep scsiOpen scsiClear scsiState scsiCdb Sendable
+scsi-sends c (ScsiRequest.Open name) body = accepts Sends _ _ _ (λ _. tt)
+scsi-sends c ScsiRequest.Close body = accepts Sends _ _ _ (λ _. tt)
+scsi-sends c ScsiRequest.State body = accepts Sends _ _ _ (λ _. tt)
+scsi-sends c ScsiRequest.Reset body = accepts Sends _ _ _ (λ _. tt)
+scsi-sends c (ScsiRequest.Cdb cdb room) body = judged-by Sends _ _ (λ _. run-sends c (bytesAt body cdb) room)
+
+pub connect-sends : (fresh : Bool) (g : Login) (a : Account) (q : ConnectRequest) (body : List ℕ) → Accepts Sends (connectStep fresh g a q body)
+unfolding connectStep connectOpen clientAuth Sendable Accepts
+connect-sends fresh g a (ConnectRequest.Open version) body = accepts Sends _ _ _ (λ _. tt)
+connect-sends fresh g a (ConnectRequest.Auth id password) body = accepts Sends _ _ _ (λ _. tt)
+connect-sends fresh g a ConnectRequest.OtherAuth body = tt
+connect-sends fresh g a ConnectRequest.Close body = tt
+
+pub config-sends : (g : Login) (q : ConfigRequest) → Accepts Sends (configStep g q)
+unfolding configStep Sendable Accepts
+config-sends g ConfigRequest.ConnectionType = tt
+config-sends g ConfigRequest.ServerInfo = tt
+
+-- of the mover, whatever the image
+pub mover-sends : (m : Mover) (t : Tape) (q : MoverRequest) (image : List ℕ) → Accepts (λ r _. Sendable r image) (moverStep m t q)
+unfolding moverStep moverState moverListen moverContinue moverStop setWindow moverRead setSize Sendable
+mover-sends m t MoverRequest.State image = accepts (λ r _. Sendable r image) _ _ _ (λ _. tt)
+mover-sends m t (MoverRequest.Listen mode address) image = accepts (λ r _. Sendable r image) _ _ _ (λ _. tt)
+mover-sends m t MoverRequest.Continue image = accepts (λ r _. Sendable r image) _ _ _ (λ _. tt)
+mover-sends m t MoverRequest.Stop image = accepts (λ r _. Sendable r image) _ _ _ (λ _. tt)
+mover-sends m t (MoverRequest.Window offset length) image = accepts (λ r _. Sendable r image) _ _ _ (λ _. tt)
+mover-sends m t (MoverRequest.Read offset length) image = accepts (λ r _. Sendable r image) _ _ _ (λ _. tt)
+mover-sends m t (MoverRequest.Size size) image = accepts (λ r _. Sendable r image) _ _ _ (λ _. tt)
 
 -- a reply of the tape, with the image after it
-abbrev SendableHere : Served Loaded → Type 0
-SendableHere s = Sendable (s .reply) (s .part .image)
+abbrev SendsHere : Reply → Loaded → Type 0
+SendsHere r s = Sendable r (s .image)
 
-device-sendable : (known : Bool) (mover : ℕ) (t : Tape) (l : List ℕ) (q : TapeRequest) (body : List ℕ) → SendableHere (deviceStep known mover t l q body)
+pub tape-sends : (mover : ℕ) (t : Tape) (l : List ℕ) (q : TapeRequest) (body : List ℕ) → Accepts SendsHere (deviceStep mover t l q body)
 unfolding deviceStep tapeOpen tapeClose tapeState tapeMtio tapeWrite tapeRead Sendable Copied
-device-sendable known mover t l (TapeRequest.Open name mode) body = tt
-device-sendable known mover t l TapeRequest.Close body = tt
-device-sendable known mover t l TapeRequest.State body =
-    by-test (λ (r : Reply). Sendable r l) (eqb (first (openTests known (t .opened))) 0) _ _ (λ _. tt) (λ _. tt)
-device-sendable known mover t l (TapeRequest.Mtio op times) body =
-    by-test SendableHere (eqb (first (tapeTests known (t .opened) mover (protects op (t .writable)))) 0) _ _ (λ _. tt) (λ _. tt)
-device-sendable known mover t l (TapeRequest.Write bytes) body =
-    by-test SendableHere (eqb (first (tapeTests known (t .opened) mover (not (t .writable)))) 0) _ _ (λ _. tt) (λ _. tt)
-device-sendable known mover t l (TapeRequest.Read times) body =
-    by-test SendableHere (eqb (first (tapeTests known (t .opened) mover false)) 0) _ _
-    (λ _. read-copies l (t .position) times) (λ _. (omega arith, omega arith))
-
-pub tape-step-sendable : (known : Bool) (p : TapePart) (q : TapeRequest) (body : List ℕ)
-    → Sendable (tapeStep known p q body .reply) (tapeStep known p q body .part .image)
-unfolding tapeStep
-tape-step-sendable known p q body = device-sendable known (p .mover .state) (p .tape) (p .image) q body
-
-pub mover-part-sendable : (known : Bool) (p : TapePart) (q : MoverRequest) → Sendable (moverPartStep known p q .reply) (moverPartStep known p q .part .image)
-unfolding moverPartStep
-mover-part-sendable known p q = mover-step-sendable known (p .mover) (p .tape) q (p .image)
-
-pub config-sendable : (known : Bool) (q : ConfigRequest) (image : List ℕ) → Sendable (configReply known q) image
-unfolding configReply Sendable
-config-sendable known ConfigRequest.ConnectionType image = tt
-config-sendable known ConfigRequest.ServerInfo image = tt
+tape-sends mover t l (TapeRequest.Open name mode) body = accepts SendsHere _ _ _ (λ _. tt)
+tape-sends mover t l TapeRequest.Close body = accepts SendsHere _ _ _ (λ _. tt)
+tape-sends mover t l TapeRequest.State body = accepts SendsHere _ _ _ (λ _. tt)
+tape-sends mover t l (TapeRequest.Mtio op times) body = accepts SendsHere _ _ _ (λ _. tt)
+tape-sends mover t l (TapeRequest.Write bytes) body = accepts SendsHere _ _ _ (λ _. tt)
+tape-sends mover t l (TapeRequest.Read times) body = accepts SendsHere _ _ _ (λ _. read-copies l (t .position) times)

@@ -1,15 +1,18 @@
--- What one request call does: what is sent, the next session and the next image (paper 01, "A record on the wire", "Refusals and their order").
-use Prim.Native.Nat.{ℕ, _+_, _%_}
+-- What one request call does: what is sent, and what is passed on (paper 01, "A record on the wire", "Refusals and their order").
+use Prim.Native.Nat.{ℕ}
 use mathlib.Core.Bool.{Bool, true, false, not}
-use mathlib.Core.List.{List, [], _++_}
+use mathlib.Core.List.{List, [], _∷_, _++_}
 use lib.Dec.{ltb, eqb}
+use Rattle.codes.specs.Codes.{notSupported, notAuthorized, undecodable, shortOutput, brokenSession}
 use Rattle.xdr.specs.Choose.{choose}
 use Rattle.frame.specs.Frame.{wellFramed, sequenceOf, kindOf, messageWord, bodyOf}
-use Rattle.frame.specs.Messages.{messageOf}
+use Rattle.frame.specs.Messages.{rowOf, messageOf}
 use Rattle.frame.specs.declared.Message.{Message}
 use Rattle.requests.specs.Bodies.{decoded}
 use Rattle.requests.specs.declared.ConnectRequest.{ConnectRequest}
 use Rattle.requests.specs.declared.ConnectRequest.the-variants as ConnectRequest
+use Rattle.requests.specs.declared.ConfigRequest.{ConfigRequest}
+use Rattle.requests.specs.declared.ConfigRequest.the-variants as ConfigRequest
 use Rattle.requests.specs.declared.Request.{Request}
 use Rattle.requests.specs.declared.Request.the-variants as Request
 use Rattle.replies.specs.declared.Reply.{Reply}
@@ -18,22 +21,19 @@ use Rattle.replies.specs.declared.Notice.{Notice}
 use Rattle.replies.specs.declared.Notice.the-variants as Notice
 use Rattle.replies.specs.Replies.{replyBytes, noticeBytes}
 use Rattle.session.specs.declared.types.Data.{Data}
-use Rattle.session.specs.declared.types.Mover.{Mover}
-use Rattle.session.specs.declared.types.Tape.{Tape}
 use Rattle.session.specs.declared.types.Changer.{Changer}
+use Rattle.session.specs.declared.types.Login.{Login}
 use Rattle.session.specs.declared.types.Session.{Session}
-use Rattle.session.specs.Judge.{Served}
-use Rattle.session.specs.DataService.{textOf, dataServed}
+use Rattle.session.specs.Names.{leastRoom}
+use Rattle.session.specs.Judge.{test, Outcome, refuse, accept, judge, onto}
+use Rattle.session.specs.Parts.{withParts, afterMessage, shut}
+use Rattle.session.specs.DataService.{dataStep}
 use Rattle.session.specs.TapeService.{TapePart, tapeStep, moverPartStep}
 use Rattle.session.specs.ScsiService.{scsiStep}
-use Rattle.session.specs.Joint.{Ends, jointStep}
-use Rattle.session.specs.Connection.{connectOpen, matches, clientAuth, configReply}
+use Rattle.session.specs.declared.Ends.{Ends}
+use Rattle.session.specs.Joint.{jointStep}
+use Rattle.session.specs.Connection.{Account, connectStep, configStep}
 use Rattle.session.specs.Relation.{keeps}
-
--- an account
-pub record Account : Type 0 where
-  pub id : List ℕ
-  pub password : List ℕ
 
 -- what calls pass on
 pub record Kept : Type 0 where
@@ -56,76 +56,31 @@ pub record Answered : Type 0 where
   pub notices : List ℕ
   pub next : Kept
 
--- "after 4,294,967,295 comes 0"
-abbrev pub bump : ℕ → ℕ
-bump n = (n + 1) % 4294967296
-
 -- nothing is sent and nothing changes
 abbrev pub silent : ℕ → Kept → Answered
 silent code k = record { code = code; reply = []; notices = []; next = k }
 
-abbrev pub withParts : Session → Bool → Data → Mover → Tape → Changer → Session
-withParts s authorized d m t c =
-    record { closed = s .closed; first = s .first; authorized = authorized; sequence = s .sequence; source = d; mover = m; tape = t; changer = c }
-
--- the session after one message sent, and after one reply
-abbrev pub counted : Session → Session
-counted s =
-    record { closed = s .closed; first = s .first; authorized = s .authorized; sequence = bump (s .sequence); source = s .source; mover = s .mover; tape = s .tape; changer = s .changer }
-
-abbrev pub replied : Session → Session
-replied s =
-    record { closed = s .closed; first = false; authorized = s .authorized; sequence = bump (s .sequence); source = s .source; mover = s .mover; tape = s .tape; changer = s .changer }
-
--- "Closing changes nothing else"
-abbrev pub closed : Session → Session
-closed s =
-    record { closed = true; first = s .first; authorized = s .authorized; sequence = s .sequence; source = s .source; mover = s .mover; tape = s .tape; changer = s .changer }
-
 abbrev pub closing : Kept → Answered
-closing k = silent 0 (held (closed (k .session)) (k .image))
+closing k = silent 0 (held (shut (k .session)) (k .image))
+
+-- "Before all else the call is refused, and nothing written or changed: 1001 .. 1002"; "after it [closing] nothing is answered or changed".
+-- For every call: what it comes to with a code and nothing done, and what it comes to else
+unfoldable pub guarded : {A : Type 0} → Session → ℕ → (ℕ → A) → A → A
+guarded s room idle x =
+    choose (ltb room leastRoom) (idle shortOutput)
+    (choose (not (keeps s)) (idle brokenSession)
+    (choose (s .closed) (idle 0)
+    x))
 
 -- a reply to the record r, whose bytes of a read lie in `seen`; k has the session with its next parts
 abbrev pub replying : List ℕ → ℕ → Reply → List ℕ → Kept → Answered
-replying r time reply seen k =
+replying r time reply shown k =
     record {
       code = 0;
-      reply = replyBytes (k .session .sequence) time (messageWord r) (sequenceOf r) reply seen;
+      reply = replyBytes (k .session .sequence) time (messageWord r) (sequenceOf r) reply shown;
       notices = [];
-      next = held (replied (k .session)) (k .image);
+      next = held (afterMessage (k .session) false) (k .image);
     }
-
--- ---- the part of a service, and what is kept with its next part
-abbrev pub tapePart : Kept → TapePart
-tapePart k = record { mover = k .session .mover; tape = k .session .tape; image = k .image }
-
-abbrev pub withData : Kept → Data → Kept
-withData k d = let s = k .session in held (withParts s (s .authorized) d (s .mover) (s .tape) (s .changer)) (k .image)
-
-abbrev pub withTape : Kept → TapePart → Kept
-withTape k p = let s = k .session in held (withParts s (s .authorized) (s .source) (p .mover) (p .tape) (s .changer)) (p .image)
-
-abbrev pub withChanger : Kept → Changer → Kept
-withChanger k c = let s = k .session in held (withParts s (s .authorized) (s .source) (s .mover) (s .tape) c) (k .image)
-
-abbrev pub withEnds : Kept → Ends → Kept
-withEnds k e = let s = k .session in held (withParts s (s .authorized) (e .source) (e .mover) (s .tape) (s .changer)) (k .image)
-
-abbrev pub withAuth : Kept → Bool → Kept
-withAuth k known = let s = k .session in held (withParts s known (s .source) (s .mover) (s .tape) (s .changer)) (k .image)
-
--- ---- a step, answered
-abbrev pub byData : Kept → List ℕ → ℕ → Served Data → Answered
-byData k r time st = replying r time (st .reply) [] (withData k (st .part))
-
-abbrev pub byTape : Kept → List ℕ → ℕ → Served TapePart → Answered
-byTape k r time st = replying r time (st .reply) (st .part .image) (withTape k (st .part))
-
-abbrev pub byScsi : Kept → List ℕ → ℕ → Served Changer → Answered
-byScsi k r time st = replying r time (st .reply) [] (withChanger k (st .part))
-
-abbrev pub byControl : Kept → List ℕ → ℕ → Served Bool → Answered
-byControl k r time st = replying r time (st .reply) [] (withAuth k (st .part))
 
 -- an answer, and behind it a notice, where there is a reason for one
 unfoldable pub noticed : ℕ → ℕ → Notice → Answered → Answered
@@ -135,15 +90,43 @@ noticed time why n a =
       code = a .code;
       reply = a .reply;
       notices = a .notices ++ noticeBytes (a .next .session .sequence) time n;
-      next = held (counted (a .next .session)) (a .next .image);
+      next = held (afterMessage (a .next .session) (a .next .session .first)) (a .next .image);
     })
 
--- "then its notices: data first, mover second"
-abbrev pub byJoint : Kept → List ℕ → ℕ → Served Ends → Answered
-byJoint k r time st =
-    noticed time (st .part .mwhy) (Notice.MoverHalted (st .part .mwhy))
-    (noticed time (st .part .dwhy) (Notice.DataHalted (st .part .dwhy))
-    (replying r time (st .reply) [] (withEnds k (st .part))))
+-- why each end halted, or 0: "its notices: data first, mover second"
+abbrev pub halting : ℕ → ℕ → ℕ → Answered → Answered
+halting time dwhy mwhy a = noticed time mwhy (Notice.MoverHalted mwhy) (noticed time dwhy (Notice.DataHalted dwhy) a)
+
+-- ---- what an accepted request comes to: what is passed on, what a read's reply shows bytes of, and why each end halted, or 0
+pub record Done : Type 0 where
+  pub kept : Kept
+  pub shown : List ℕ
+  pub dwhy : ℕ
+  pub mwhy : ℕ
+
+abbrev pub quietly : Kept → List ℕ → Done
+quietly k shown = record { kept = k; shown = shown; dwhy = 0; mwhy = 0 }
+
+-- the part of a service, and what is passed on with its next part
+abbrev pub tapePart : Kept → TapePart
+tapePart k = record { mover = k .session .mover; tape = k .session .tape; image = k .image }
+
+abbrev pub withData : Kept → Data → Done
+withData k d = let s = k .session in quietly (held (withParts s (s .login) d (s .mover) (s .tape) (s .changer)) (k .image)) []
+
+abbrev pub withTape : Kept → TapePart → Done
+withTape k p = let s = k .session in quietly (held (withParts s (s .login) (s .source) (p .mover) (p .tape) (s .changer)) (p .image)) (p .image)
+
+abbrev pub withChanger : Kept → Changer → Done
+withChanger k c = let s = k .session in quietly (held (withParts s (s .login) (s .source) (s .mover) (s .tape) c) (k .image)) []
+
+abbrev pub withLogin : Kept → Login → Done
+withLogin k g = let s = k .session in quietly (held (withParts s g (s .source) (s .mover) (s .tape) (s .changer)) (k .image)) []
+
+abbrev pub withEnds : Kept → Ends → Done
+withEnds k e =
+    let s = k .session in
+    record { kept = held (withParts s (s .login) (e .source) (e .mover) (s .tape) (s .changer)) (k .image); shown = []; dwhy = e .dwhy; mwhy = e .mwhy }
 
 -- ---- a request
 abbrev pub messageIn : List ℕ → Message
@@ -153,35 +136,83 @@ messageIn r = messageOf (messageWord r)
 abbrev pub requestIn : List ℕ → Request
 requestIn r = decoded (messageIn r) (bodyOf r)
 
--- a request of CONNECT; an accepted close has no reply
-unfoldable pub connected : Kept → Lent → List ℕ → ConnectRequest → Answered
-connected k l r (ConnectRequest.Open version) = replying r (l .time) (connectOpen (k .session .first) version) [] k
-connected k l r (ConnectRequest.Auth id password) =
-    byControl k r (l .time) (clientAuth (k .session .authorized) (matches (textOf (bodyOf r) id) (textOf (bodyOf r) password) (l .account .id) (l .account .password)))
-connected k l r ConnectRequest.OtherAuth = replying r (l .time) (Reply.Plain 9) [] k
-connected k l r ConnectRequest.Close = closing k
+-- what each request comes to, by its service: "1: message number not listed above as handled", "18: body doesn't decode"
+unfoldable pub outcome : Kept → Lent → List ℕ → Request → Outcome Done
+outcome k l r Request.Unknown = refuse notSupported
+outcome k l r Request.Bad = refuse undecodable
+outcome k l r (Request.Connect q) = onto (withLogin k) (connectStep (k .session .first) (k .session .login) (l .account) q (bodyOf r))
+outcome k l r (Request.Config q) = onto (withLogin k) (configStep (k .session .login) q)
+outcome k l r (Request.Scsi q) = onto (withChanger k) (scsiStep (k .session .changer) q (bodyOf r))
+outcome k l r (Request.Tape q) = onto (withTape k) (tapeStep (tapePart k) q (bodyOf r))
+outcome k l r (Request.Data q) = onto (withData k) (dataStep (k .session .source) q (bodyOf r))
+outcome k l r (Request.Mover q) = onto (withTape k) (moverPartStep (tapePart k) q)
+outcome k l r (Request.Joint q) = onto (withEnds k) (jointStep (k .session .source) (k .session .mover) (k .session .tape) q)
 
--- a request, judged: "1: not one of the messages of this paper. 18: the body does not decode", then its service
+-- "4: before auth, all but CONNECT and 0x108"
+unfoldable pub needsLogin : Request → Bool
+needsLogin Request.Unknown = false
+needsLogin Request.Bad = false
+needsLogin (Request.Connect q) = false
+needsLogin (Request.Config ConfigRequest.ConnectionType) = true
+needsLogin (Request.Config ConfigRequest.ServerInfo) = false
+needsLogin (Request.Scsi q) = true
+needsLogin (Request.Tape q) = true
+needsLogin (Request.Data q) = true
+needsLogin (Request.Mover q) = true
+needsLogin (Request.Joint q) = true
+
+unfoldable pub isLocked : Login → Request → Bool
+isLocked g q = choose (g .authorized) false (needsLogin q)
+
+unfoldable pub verdict : Kept → Lent → List ℕ → Request → Outcome Done
+verdict k l r q = judge (test (isLocked (k .session .login) q) notAuthorized ∷ []) (outcome k l r q)
+
+-- "An unknown message's 1, and 18, stand in the header with no body; all others in the body, header error 0; other reply fields are zero or
+-- empty": the row of the message says how many zero words stand before and after the number
+unfoldable pub isUnread : Request → Bool
+isUnread Request.Unknown = true
+isUnread Request.Bad = true
+isUnread (Request.Connect q) = false
+isUnread (Request.Config q) = false
+isUnread (Request.Scsi q) = false
+isUnread (Request.Tape q) = false
+isUnread (Request.Data q) = false
+isUnread (Request.Mover q) = false
+isUnread (Request.Joint q) = false
+
+abbrev pub refusedIn : List ℕ → ℕ → Reply
+refusedIn r e = Reply.Refused (rowOf (messageWord r) .before) e (rowOf (messageWord r) .after)
+
+unfoldable pub refusing : Request → List ℕ → ℕ → Reply
+refusing q r e = choose (isUnread q) (Reply.Header e) (refusedIn r e)
+
+-- "A refusal changes only the vault's counter and the first-request mark"; "Each request .. gets one reply, then its notices: data first, mover second."
+unfoldable pub settled : Kept → ℕ → List ℕ → Request → Outcome Done → Answered
+settled k time r q (refuse e) = replying r time (refusing q r e) [] k
+settled k time r q (accept reply d) = halting time (d .dwhy) (d .mwhy) (replying r time reply (d .shown) (d .kept))
+
+-- "Each request but an accepted CONNECT close gets one reply"
+unfoldable pub isClose : Request → Bool
+isClose Request.Unknown = false
+isClose Request.Bad = false
+isClose (Request.Connect (ConnectRequest.Open version)) = false
+isClose (Request.Connect (ConnectRequest.Auth id password)) = false
+isClose (Request.Connect ConnectRequest.OtherAuth) = false
+isClose (Request.Connect ConnectRequest.Close) = true
+isClose (Request.Config q) = false
+isClose (Request.Scsi q) = false
+isClose (Request.Tape q) = false
+isClose (Request.Data q) = false
+isClose (Request.Mover q) = false
+isClose (Request.Joint q) = false
+
 unfoldable pub judged : Kept → Lent → List ℕ → Request → Answered
-judged k l r Request.Unknown = replying r (l .time) (Reply.Header 1) [] k
-judged k l r Request.Bad = replying r (l .time) (Reply.Header 18) [] k
-judged k l r (Request.Connect q) = connected k l r q
-judged k l r (Request.Config q) = replying r (l .time) (configReply (k .session .authorized) q) [] k
-judged k l r (Request.Scsi q) = byScsi k r (l .time) (scsiStep (k .session .authorized) (k .session .changer) q (bodyOf r))
-judged k l r (Request.Tape q) = byTape k r (l .time) (tapeStep (k .session .authorized) (tapePart k) q (bodyOf r))
-judged k l r (Request.Data q) = byData k r (l .time) (dataServed (k .session .authorized) (k .session .source) q (bodyOf r))
-judged k l r (Request.Mover q) = byTape k r (l .time) (moverPartStep (k .session .authorized) (tapePart k) q)
-judged k l r (Request.Joint q) = byJoint k r (l .time) (jointStep (k .session .authorized) (k .session .source) (k .session .mover) (k .session .tape) q)
+judged k l r q = choose (isClose q) (closing k) (settled k (l .time) r q (verdict k l r q))
 
 -- a well-framed record. "Type other than 0: ignored, nothing changes."
 unfoldable pub requested : Kept → Lent → List ℕ → Answered
 requested k l r = choose (not (eqb (kindOf r) 0)) (silent 0 k) (judged k l r (requestIn r))
 
--- a request call: what is passed on, what is lent, and the record
+-- a request call: what is passed on, what is lent, and the record. A record that breaks the rules of framing "closes the session without a reply"
 unfoldable pub answered : Kept → Lent → List ℕ → Answered
-answered k l r =
-    choose (ltb (l .room) 36864) (silent 1001 k)
-    (choose (not (keeps (k .session))) (silent 1002 k)
-    (choose (k .session .closed) (silent 0 k)
-    (choose (not (wellFramed r)) (closing k)
-    (requested k l r))))
+answered k l r = guarded (k .session) (l .room) (λ code. silent code k) (choose (wellFramed r) (requested k l r) (closing k))

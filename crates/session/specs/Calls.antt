@@ -1,42 +1,46 @@
 -- What holds of every request call, and of every list of calls, for any session and image.
 use Prim.Native.Nat.{ℕ, _≤_}
-use mathlib.Core.Bool.{true, false}
+use mathlib.Core.Bool.{Bool, true, false, not}
 use mathlib.Core.List.{List, []}
 use mathlib.Core.Path.{_≡_}
-use lib.Dec.{ltb}
+use lib.Dec.{eqb, ltb}
+use Rattle.codes.specs.Codes.{notSupported, notAuthorized, undecodable, shortOutput, brokenSession}
 use Rattle.xdr.specs.Choose.{choose}
 use Rattle.image.specs.Image.{isSound}
 use Rattle.frame.specs.Frame.{wellFramed, kindOf, bodyOf}
-use Rattle.frame.specs.declared.ConnectKind.{ConnectKind}
 use Rattle.frame.specs.declared.Message.the-variants as Message
-use Rattle.requests.specs.Bodies.{decoded, connectBody}
+use Rattle.requests.specs.Within.{bytesAt}
 use Rattle.requests.specs.declared.ConnectRequest.the-variants as ConnectRequest
+use Rattle.requests.specs.declared.TapeRequest.{TapeRequest}
+use Rattle.requests.specs.declared.TapeRequest.the-variants as TapeRequest
+use Rattle.requests.specs.declared.Request.{Request}
 use Rattle.requests.specs.declared.Request.the-variants as Request
 use Rattle.requests.specs.declared.Text.{Text}
 use Rattle.replies.specs.declared.Reply.the-variants as Reply
 use Rattle.replies.specs.declared.Notice.the-variants as Notice
-use Rattle.replies.specs.Replies.{noticeBytes}
+use Rattle.replies.specs.Replies.{numberOf, noticeBytes}
 use Rattle.session.specs.declared.types.Session.{Session}
-use Rattle.session.specs.Parts.{restData, restMover, closedTape, closedChanger}
-use Rattle.session.specs.DataService.{textOf}
+use Rattle.session.specs.Names.{leastRoom}
+use Rattle.session.specs.Judge.{refuse, Accepts, Refuses}
+use Rattle.session.specs.Parts.{newSession}
+use Rattle.session.specs.TapeService.{isRefusal}
 use Rattle.session.specs.Connection.{matches}
 use Rattle.session.specs.Relation.{keeps}
-use Rattle.session.specs.Answer.{Kept, Lent, held, Answered, answered, silent, closing, replying, messageIn}
+use Rattle.session.specs.Answer.{Kept, Lent, held, Answered, answered, silent, closing, replying, messageIn, requestIn, verdict, refusing, refusedIn}
 use Rattle.session.specs.Order.{Call, run}
 
 -- the session after `open`, whose notice of the connection status was message number 1
 abbrev pub openedSession : Session
-openedSession =
-    record { closed = false; first = true; authorized = false; sequence = 2; source = restData; mover = restMover 0; tape = closedTape; changer = closedChanger }
+openedSession = newSession false 2
 
 -- a session that was never opened: it is closed, so that nothing is answered on it
 abbrev pub unopenedSession : Session
-unopenedSession = record { closed = true; first = true; authorized = false; sequence = 1; source = restData; mover = restMover 0; tape = closedTape; changer = closedChanger }
+unopenedSession = newSession true 1
 
 -- "Opening a session sends connection status (connected 0, version 4, empty text) as number 1." No image is handed to it.
 unfoldable pub opening : ℕ → ℕ → Answered
 opening time room =
-    choose (ltb room 36864) (silent 1001 (held unopenedSession []))
+    choose (ltb room leastRoom) (silent shortOutput (held unopenedSession []))
     (record { code = 0; reply = []; notices = noticeBytes 1 time Notice.Connected; next = held openedSession [] })
 
 -- nothing is sent, and session and image are as they were
@@ -47,40 +51,67 @@ pub record Unmoved (k : Kept) (a : Answered) : Type 0 where
 
 -- a well-framed request on an open session, with room: it is judged
 pub record Heard (k : Kept) (l : Lent) (r : List ℕ) : Type 0 where
-  pub roomy : 36864 ≤ l .room
+  pub roomy : leastRoom ≤ l .room
   pub valid : keeps (k .session) ≡ true
   pub opened : k .session .closed ≡ false
   pub framed : wellFramed r ≡ true
   pub request : kindOf r ≡ 0
 
+-- the numbers of an accepted request's reply: of MTIO, write and read 12 and 13 too
+unfoldable pub isRun : TapeRequest → ℕ → Bool
+isRun (TapeRequest.Mtio op times) e = not (isRefusal e)
+isRun (TapeRequest.Write bytes) e = not (isRefusal e)
+isRun (TapeRequest.Read times) e = not (isRefusal e)
+isRun (TapeRequest.Open name mode) e = eqb e 0
+isRun TapeRequest.Close e = eqb e 0
+isRun TapeRequest.State e = eqb e 0
+
+unfoldable pub isDone : Request → ℕ → Bool
+isDone (Request.Tape q) e = isRun q e
+isDone (Request.Connect q) e = eqb e 0
+isDone (Request.Config q) e = eqb e 0
+isDone (Request.Scsi q) e = eqb e 0
+isDone (Request.Data q) e = eqb e 0
+isDone (Request.Mover q) e = eqb e 0
+isDone (Request.Joint q) e = eqb e 0
+isDone Request.Unknown e = false
+isDone Request.Bad e = false
+
 pub record RefusalsOfCalls : Type 0 where
   -- 1001 for an output that is too short, before 1002 for a broken session; no other code but 0
   pub codes : (k : Kept) (l : Lent) (r : List ℕ)
-      → answered k l r .code ≡ choose (ltb (l .room) 36864) 1001 (choose (keeps (k .session)) 0 1002)
+      → answered k l r .code ≡ choose (ltb (l .room) leastRoom) shortOutput (choose (keeps (k .session)) 0 brokenSession)
   pub refused : (k : Kept) (l : Lent) (r : List ℕ) → (answered k l r .code ≡ 0 → ⊥)
       → Unmoved k (answered k l r)
   pub over : (k : Kept) (l : Lent) (r : List ℕ) → k .session .closed ≡ true → Unmoved k (answered k l r)
   -- a badly framed record closes and changes nothing else
-  pub broken : (k : Kept) (l : Lent) (r : List ℕ) → 36864 ≤ l .room → keeps (k .session) ≡ true → k .session .closed ≡ false → wellFramed r ≡ false
+  pub broken : (k : Kept) (l : Lent) (r : List ℕ) → leastRoom ≤ l .room → keeps (k .session) ≡ true → k .session .closed ≡ false → wellFramed r ≡ false
       → answered k l r ≡ closing k
   -- a message that is no request is ignored
   pub ignored : (k : Kept) (l : Lent) (r : List ℕ) → wellFramed r ≡ true → (kindOf r ≡ 0 → ⊥)
       → Unmoved k (answered k l r)
-  -- 1 and 18 in the header, and 4 at a wrong login: a reply, and of the session only the counter and the "first request" mark change
+  -- what any refusal of a request leaves: a reply with its number, and of the session only the counter and the "first request" mark change
+  pub requests : (k : Kept) (l : Lent) (r : List ℕ) (e : ℕ) → Heard k l r → verdict k l r (requestIn r) ≡ refuse e
+      → answered k l r ≡ replying r (l .time) (refusing (requestIn r) r e) [] k
+  -- the reply of an accepted request has the number 0, or an outcome of the tape
+  pub accepted : (k : Kept) (l : Lent) (r : List ℕ) (q : Request) → Accepts (λ reply _. isDone q (numberOf reply) ≡ true) (verdict k l r q)
+  -- and that of a refused one is a refusal: not 0, and no outcome of the tape
+  pub refusing : (k : Kept) (l : Lent) (r : List ℕ) (q : Request) → Refuses (λ e. isRefusal e ≡ true) (verdict k l r q)
+  -- 1 and 18 in the header, and 4 at a wrong login
   pub unhandled : (k : Kept) (l : Lent) (r : List ℕ) → Heard k l r → messageIn r ≡ Message.Unknown
-      → answered k l r ≡ replying r (l .time) (Reply.Header 1) [] k
-  pub undecoded : (k : Kept) (l : Lent) (r : List ℕ) → Heard k l r → decoded (messageIn r) (bodyOf r) ≡ Request.Bad
-      → answered k l r ≡ replying r (l .time) (Reply.Header 18) [] k
-  pub unproven : (k : Kept) (l : Lent) (r : List ℕ) (c : ConnectKind) (id password : Text) → Heard k l r
-      → messageIn r ≡ Message.Connect c → connectBody c (bodyOf r) ≡ Request.Connect (ConnectRequest.Auth id password)
-      → matches (textOf (bodyOf r) id) (textOf (bodyOf r) password) (l .account .id) (l .account .password) ≡ false
-      → answered k l r ≡ replying r (l .time) (Reply.Plain 4) [] k
+      → answered k l r ≡ replying r (l .time) (Reply.Header notSupported) [] k
+  pub undecoded : (k : Kept) (l : Lent) (r : List ℕ) → Heard k l r → requestIn r ≡ Request.Bad
+      → answered k l r ≡ replying r (l .time) (Reply.Header undecodable) [] k
+  pub unproven : (k : Kept) (l : Lent) (r : List ℕ) (id password : Text) → Heard k l r
+      → requestIn r ≡ Request.Connect (ConnectRequest.Auth id password)
+      → matches (bytesAt (bodyOf r) id) (bytesAt (bodyOf r) password) (l .account) ≡ false
+      → answered k l r ≡ replying r (l .time) (refusedIn r notAuthorized) [] k
 
 pub record CallsKeep : Type 0 where
   -- the relation holds of a new session, every call keeps it, and no call on a session that has it is refused with 1002
   pub opened : keeps openedSession ≡ true
   pub kept : (k : Kept) (l : Lent) (r : List ℕ) → keeps (k .session) ≡ true → keeps (answered k l r .next .session) ≡ true
-  pub never : (k : Kept) (l : Lent) (r : List ℕ) → keeps (k .session) ≡ true → answered k l r .code ≡ 1002 → ⊥
+  pub never : (k : Kept) (l : Lent) (r : List ℕ) → keeps (k .session) ≡ true → answered k l r .code ≡ brokenSession → ⊥
   -- a sound image stays sound
   pub sound : (k : Kept) (l : Lent) (r : List ℕ) → isSound (k .image) ≡ true → isSound (answered k l r .next .image) ≡ true
   -- the same of calls one after the other

@@ -8,7 +8,6 @@ pub mod ScsiService
 pub mod Joint
 pub mod Connection
 pub mod Relation
-pub mod Telling
 pub mod Promises
 pub mod Answer
 pub mod Order

@@ -1,5 +1,6 @@
 -- Numbers of paper 01 by name. An abbrev unfolds wherever it stands, so that no proof sees a name.
 use Prim.Native.Nat.{ℕ}
+use Rattle.codes.specs.Codes.{largestMessage, longestRecord}
 
 -- "Data: IDLE 0, ACTIVE 1, HALTED 2, LISTEN 3, CONNECTED 4."
 abbrev pub dataIdle : ℕ
@@ -78,27 +79,33 @@ seekOutside = 3
 abbrev pub endOfWindow : ℕ
 endOfWindow = 5
 
--- the refusals' numbers, as 004 names them
-abbrev pub notAuthorized : ℕ
-notAuthorized = 4
+-- what the data end runs
+abbrev pub noOperation : ℕ
+noOperation = 0
 
-abbrev pub permissionDenied : ℕ
-permissionDenied = 5
+abbrev pub backupOperation : ℕ
+backupOperation = 1
 
-abbrev pub notOpen : ℕ
-notOpen = 6
+abbrev pub recoverOperation : ℕ
+recoverOperation = 2
 
-abbrev pub illegalArguments : ℕ
-illegalArguments = 9
+-- "Tape open: mode 0 reads, 1 also writes"
+abbrev pub readWrite : ℕ
+readWrite = 1
 
-abbrev pub illegalState : ℕ
-illegalState = 19
+-- ---- limits
+-- "1001 if the output is under 36,864 bytes"
+abbrev pub leastRoom : ℕ
+leastRoom = largestMessage
 
-abbrev pub otherNotListening : ℕ
-otherNotListening = 23
+-- "Set record size: .. 1 to 32,768": the longest record of a cartridge
+abbrev pub largestSize : ℕ
+largestSize = longestRecord
 
-abbrev pub readInProgress : ℕ
-readInProgress = 25
+-- "CDB length 0 or above 16: 9."
+abbrev pub longestCdb : ℕ
+longestCdb = 16
 
-abbrev pub precondition : ℕ
-precondition = 26
+-- 2^64 - 1
+abbrev pub top : ℕ
+top = 18446744073709551615

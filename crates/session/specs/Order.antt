@@ -6,11 +6,14 @@ use mathlib.Core.Bool.{Bool, true, false}
 use mathlib.Core.List.{List, [], _∷_, _++_}
 use lib.ListN.{take, drop}
 use lib.Dec.{eqb}
+use Rattle.codes.specs.Codes.{brokenSession}
 use Rattle.xdr.specs.Choose.{choose}
+use Rattle.xdr_opaque.specs.Put.{Each}
 use Rattle.frame.specs.Frame.{wellFramed, kindOf, messageWord}
 use Rattle.frame.specs.Messages.{messageOf}
 use Rattle.frame.specs.declared.Message.{Message}
 use Rattle.frame.specs.declared.Message.the-variants as Message
+use Rattle.session.specs.Names.{leastRoom}
 use Rattle.session.specs.Relation.{keeps}
 use Rattle.session.specs.Answer.{Kept, Lent, Answered, answered}
 
@@ -45,63 +48,54 @@ serviceOf Message.Unknown n = rangeOf n
 abbrev pub routeOf : List ℕ → Service
 routeOf r = serviceOf (messageOf (messageWord r)) (messageWord r)
 
-unfoldable pub sameService : Service → Service → Bool
-sameService DataService DataService = true
-sameService DataService TapeService = false
-sameService DataService ScsiService = false
-sameService DataService JointService = false
-sameService DataService ControlService = false
-sameService TapeService DataService = false
-sameService TapeService TapeService = true
-sameService TapeService ScsiService = false
-sameService TapeService JointService = false
-sameService TapeService ControlService = false
-sameService ScsiService DataService = false
-sameService ScsiService TapeService = false
-sameService ScsiService ScsiService = true
-sameService ScsiService JointService = false
-sameService ScsiService ControlService = false
-sameService JointService s = false
-sameService ControlService s = false
+unfoldable pub serviceNumber : Service → ℕ
+serviceNumber DataService = 0
+serviceNumber TapeService = 1
+serviceNumber ScsiService = 2
+serviceNumber JointService = 3
+serviceNumber ControlService = 4
 
--- one call: the request's record, and what is lent with it
-pub record Call : Type 0 where
+unfoldable pub sameService : Service → Service → Bool
+sameService d e = eqb (serviceNumber d) (serviceNumber e)
+
+-- what is fixed of a call before the first one: the request's record
+pub record Ask : Type 0 where
   pub request : List ℕ
+
+-- one call: what is asked, and what is lent with it
+pub record Call : Type 0 where
+  pub ask : Ask
   pub lent : Lent
 
 -- ws is made of the requests of xs, ys and zs, each list in its own order; each call is lent something of its own
-pub data Merge : List (List ℕ) → List (List ℕ) → List (List ℕ) → List Call → Type 0 where
+pub data Merge : List Ask → List Ask → List Ask → List Call → Type 0 where
   done : Merge [] [] [] []
-  left : {r : List ℕ} {l : Lent} {xs ys zs : List (List ℕ)} {ws : List Call} → Merge xs ys zs ws → Merge (r ∷ xs) ys zs (record { request = r; lent = l } ∷ ws)
-  middle : {r : List ℕ} {l : Lent} {xs ys zs : List (List ℕ)} {ws : List Call} → Merge xs ys zs ws → Merge xs (r ∷ ys) zs (record { request = r; lent = l } ∷ ws)
-  right : {r : List ℕ} {l : Lent} {xs ys zs : List (List ℕ)} {ws : List Call} → Merge xs ys zs ws → Merge xs ys (r ∷ zs) (record { request = r; lent = l } ∷ ws)
-
-abbrev pub Each {ℓ} : {A : Type ℓ} → (A → Type 0) → List A → Type 0
-Each P [] = Unit {0}
-Each P (x ∷ xs) = P x × Each P xs
+  left : {a : Ask} {l : Lent} {xs ys zs : List Ask} {ws : List Call} → Merge xs ys zs ws → Merge (a ∷ xs) ys zs (record { ask = a; lent = l } ∷ ws)
+  middle : {a : Ask} {l : Lent} {xs ys zs : List Ask} {ws : List Call} → Merge xs ys zs ws → Merge xs (a ∷ ys) zs (record { ask = a; lent = l } ∷ ws)
+  right : {a : Ask} {l : Lent} {xs ys zs : List Ask} {ws : List Call} → Merge xs ys zs ws → Merge xs ys (a ∷ zs) (record { ask = a; lent = l } ∷ ws)
 
 -- a well-framed request of a service, and no joint one: those have a service of their own. Its message may be unknown in the service's
 -- range, its body may not decode, and the session need not be authorized.
-pub record Asks (d : Service) (r : List ℕ) : Type 0 where
-  pub framed : wellFramed r ≡ true
-  pub request : kindOf r ≡ 0
-  pub service : routeOf r ≡ d
+pub record Asks (d : Service) (a : Ask) : Type 0 where
+  pub framed : wellFramed (a .request) ≡ true
+  pub request : kindOf (a .request) ≡ 0
+  pub service : routeOf (a .request) ≡ d
 
 abbrev pub Roomy : Call → Type 0
-Roomy c = 36864 ≤ c .lent .room
+Roomy c = leastRoom ≤ c .lent .room
 
 -- a message's bytes without its sequence and time stamp
 unfoldable pub unstamped : List ℕ → List ℕ
 unstamped m = take 4 m ++ drop 12 m
 
--- what a call gave: the request, the code, and the reply but for its sequence and time stamp
+-- what a call gave: what was asked, the code, and the reply but for its sequence and time stamp
 pub record Given : Type 0 where
-  pub request : List ℕ
+  pub ask : Ask
   pub code : ℕ
   pub reply : List ℕ
 
-abbrev pub given : List ℕ → Answered → Given
-given r a = record { request = r; code = a .code; reply = unstamped (a .reply) }
+abbrev pub given : Ask → Answered → Given
+given q a = record { ask = q; code = a .code; reply = unstamped (a .reply) }
 
 pub record Run : Type 0 where
   pub replies : List Given
@@ -112,18 +106,18 @@ pub record Run : Type 0 where
 unfoldable pub run : Kept → List Call → Run
 run k [] = record { replies = []; notices = []; last = k }
 run k (c ∷ cs) =
-    let a = answered k (c .lent) (c .request) in
+    let a = answered k (c .lent) (c .ask .request) in
     let rest = run (a .next) cs in
-    record { replies = given (c .request) a ∷ rest .replies; notices = a .notices ++ rest .notices; last = rest .last }
+    record { replies = given (c .ask) a ∷ rest .replies; notices = a .notices ++ rest .notices; last = rest .last }
 
 -- those of a service's requests, in order
 unfoldable pub repliesTo : Service → List Given → List Given
 repliesTo d [] = []
-repliesTo d (g ∷ gs) = choose (sameService d (routeOf (g .request))) (g ∷ repliesTo d gs) (repliesTo d gs)
+repliesTo d (g ∷ gs) = choose (sameService d (routeOf (g .ask .request))) (g ∷ repliesTo d gs) (repliesTo d gs)
 
 -- every call was refused with 1002, or every call was answered
 abbrev pub refusal : Bool → ℕ
-refusal valid = choose valid 0 1002
+refusal valid = choose valid 0 brokenSession
 
 pub record SameEnd (valid : Bool) (v w : Run) : Type 0 where
   pub data-replies : repliesTo DataService (v .replies) ≡ repliesTo DataService (w .replies)
@@ -136,6 +130,6 @@ pub record SameEnd (valid : Bool) (v w : Run) : Type 0 where
 abbrev pub AnyOrder : Type 0
 AnyOrder =
     (k : Kept) → k .session .closed ≡ false
-    → (xs ys zs : List (List ℕ)) → Each (Asks DataService) xs → Each (Asks TapeService) ys → Each (Asks ScsiService) zs
+    → (xs ys zs : List Ask) → Each (Asks DataService) xs → Each (Asks TapeService) ys → Each (Asks ScsiService) zs
     → (v w : List Call) → Merge xs ys zs v → Merge xs ys zs w → Each Roomy v → Each Roomy w
     → SameEnd (keeps (k .session)) (run k v) (run k w)

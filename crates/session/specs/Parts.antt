@@ -1,30 +1,24 @@
 -- The states and codes of the session's parts, and the states that they begin with.
-use Prim.Native.Nat.{ℕ, _+_, _-_, _/_, _%_}
+use Prim.Native.Nat.{ℕ, _+_, _-_, _%_}
 use mathlib.Core.Bool.{Bool, true, false, not}
-use mathlib.Core.List.{List, [], _∷_}
 use lib.Dec.{eqb, ltb}
 use Rattle.xdr.specs.Choose.{choose}
 use Rattle.session.specs.declared.types.Data.{Data}
 use Rattle.session.specs.declared.types.Mover.{Mover}
 use Rattle.session.specs.declared.types.Tape.{Tape}
 use Rattle.session.specs.declared.types.Changer.{Changer}
+use Rattle.session.specs.declared.types.Login.{Login}
 use Rattle.session.specs.declared.types.Session.{Session}
+use Rattle.session.specs.Names.{dataIdle, dataActive, dataHalted, dataConnected, moverIdle, moverListening, moverActive, moverPaused, moverHalted, toTapeMode, noMode, noOperation, top}
 
--- "Data: IDLE 0, ACTIVE 1, HALTED 2, LISTEN 3, CONNECTED 4. Mover: IDLE 0, LISTEN 1, ACTIVE 2, PAUSED 3, HALTED 4."
--- The numbers are written in the definitions; src/lib.rt has them as constants.
-
--- 2^64 - 1
-abbrev pub top : ℕ
-top = 18446744073709551615
-
--- the data end at rest; operation 0 is none, 1 a backup, 2 a recover
+-- the data end at rest
 abbrev pub restData : Data
-restData = record { state = 0; operation = 0; reason = 0; processed = 0 }
+restData = record { state = dataIdle; operation = noOperation; reason = 0; processed = 0 }
 
--- the mover at rest, with its record size; mode 0 goes to tape, 1 from tape, 2 is none
+-- the mover at rest, with its record size
 abbrev pub restMover : ℕ → Mover
 restMover size =
-    record { state = 0; mode = 2; pause = 0; halt = 0; size = size; offset = 0; length = 0; moved = 0; seek = 0; left = 0; origin = 0 }
+    record { state = moverIdle; mode = noMode; pause = 0; halt = 0; size = size; offset = 0; length = 0; moved = 0; seek = 0; left = 0; origin = 0 }
 
 abbrev pub closedTape : Tape
 closedTape = record { opened = false; writable = false; position = 0 }
@@ -32,34 +26,55 @@ closedTape = record { opened = false; writable = false; position = 0 }
 abbrev pub closedChanger : Changer
 closedChanger = record { opened = false; pending = false }
 
+-- nobody has logged in
+abbrev pub noLogin : Login
+noLogin = record { authorized = false }
+
+-- a session with nothing in it yet
+abbrev pub newSession : Bool → ℕ → Session
+newSession closed sequence =
+    record { closed = closed; first = true; login = noLogin; sequence = sequence; source = restData; mover = restMover 0; tape = closedTape; changer = closedChanger }
+
+-- ---- changes of the session: other parts; and a message more. "after 4,294,967,295 comes 0"
+abbrev pub withParts : Session → Login → Data → Mover → Tape → Changer → Session
+withParts s g d m t c = record { closed = s .closed; first = s .first; login = g; sequence = s .sequence; source = d; mover = m; tape = t; changer = c }
+
+abbrev pub afterMessage : Session → Bool → Session
+afterMessage s first =
+    record { closed = s .closed; first = first; login = s .login; sequence = (s .sequence + 1) % 4294967296; source = s .source; mover = s .mover; tape = s .tape; changer = s .changer }
+
+-- "Closing changes nothing else"
+abbrev pub shut : Session → Session
+shut s = record { closed = true; first = s .first; login = s .login; sequence = s .sequence; source = s .source; mover = s .mover; tape = s .tape; changer = s .changer }
+
 -- ---- changes of the data end
 abbrev pub dataTo : ℕ → Data → Data
 dataTo state d = record { state = state; operation = d .operation; reason = d .reason; processed = d .processed }
 
 abbrev pub dataStarts : ℕ → Data → Data
-dataStarts operation d = record { state = 1; operation = operation; reason = d .reason; processed = d .processed }
+dataStarts operation d = record { state = dataActive; operation = operation; reason = d .reason; processed = d .processed }
 
 abbrev pub dataHalts : ℕ → Data → Data
-dataHalts why d = record { state = 2; operation = d .operation; reason = why; processed = d .processed }
+dataHalts why d = record { state = dataHalted; operation = d .operation; reason = why; processed = d .processed }
 
 -- ---- changes of the mover
 abbrev pub moverListens : ℕ → Mover → Mover
 moverListens mode m =
-    record { state = 1; mode = mode; pause = m .pause; halt = m .halt; size = m .size; offset = m .offset; length = m .length; moved = m .moved; seek = m .seek; left = m .left; origin = m .origin }
+    record { state = moverListening; mode = mode; pause = m .pause; halt = m .halt; size = m .size; offset = m .offset; length = m .length; moved = m .moved; seek = m .seek; left = m .left; origin = m .origin }
 
 -- it becomes ACTIVE with the tape at a position, which "stands for the window's offset"
 abbrev pub moverRuns : ℕ → ℕ → Mover → Mover
 moverRuns mode position m =
-    record { state = 2; mode = mode; pause = 0; halt = m .halt; size = m .size; offset = m .offset; length = m .length; moved = m .moved; seek = m .seek; left = m .left; origin = position }
+    record { state = moverActive; mode = mode; pause = 0; halt = m .halt; size = m .size; offset = m .offset; length = m .length; moved = m .moved; seek = m .seek; left = m .left; origin = position }
 
 -- "A pause voids the window."
 abbrev pub moverPauses : ℕ → Mover → Mover
 moverPauses why m =
-    record { state = 3; mode = m .mode; pause = why; halt = m .halt; size = m .size; offset = 0; length = 0; moved = m .moved; seek = m .seek; left = m .left; origin = m .origin }
+    record { state = moverPaused; mode = m .mode; pause = why; halt = m .halt; size = m .size; offset = 0; length = 0; moved = m .moved; seek = m .seek; left = m .left; origin = m .origin }
 
 abbrev pub moverHalts : ℕ → Mover → Mover
 moverHalts why m =
-    record { state = 4; mode = m .mode; pause = 0; halt = why; size = m .size; offset = m .offset; length = m .length; moved = m .moved; seek = m .seek; left = m .left; origin = m .origin }
+    record { state = moverHalted; mode = m .mode; pause = 0; halt = why; size = m .size; offset = m .offset; length = m .length; moved = m .moved; seek = m .seek; left = m .left; origin = m .origin }
 
 abbrev pub moverWindow : ℕ → ℕ → Mover → Mover
 moverWindow offset length m =
@@ -93,17 +108,29 @@ abbrev pub moverHands : ℕ → Mover → Mover
 moverHands n m =
     record { state = m .state; mode = m .mode; pause = m .pause; halt = m .halt; size = m .size; offset = m .offset; length = m .length; moved = wrapped (m .moved + n); seek = m .seek + n; left = m .left - n; origin = m .origin }
 
+-- where a window, or a part of the stream, ends; the end itself is outside
+abbrev pub windowEnd : ℕ → ℕ → ℕ
+windowEnd offset length = offset + length
+
+-- "offset + length above 2^64 - 1"
+unfoldable pub pastTop : ℕ → ℕ → Bool
+pastTop offset length = ltb top (windowEnd offset length)
+
+-- "reasons only in their state"
+unfoldable pub toldIn : ℕ → ℕ → ℕ → ℕ
+toldIn at state reason = choose (eqb state at) reason 0
+
 -- "Data is CONNECTED or ACTIVE exactly when the mover is ACTIVE or PAUSED; then they are joined."
 unfoldable pub dataJoined : ℕ → Bool
-dataJoined state = choose (eqb state 1) true (eqb state 4)
+dataJoined state = choose (eqb state dataActive) true (eqb state dataConnected)
 
 unfoldable pub moverJoined : ℕ → Bool
-moverJoined state = choose (eqb state 2) true (eqb state 3)
+moverJoined state = choose (eqb state moverActive) true (eqb state moverPaused)
 
 -- the mover holds the tape: LISTEN or ACTIVE
 unfoldable pub holdsTape : ℕ → Bool
-holdsTape state = choose (eqb state 1) true (eqb state 2)
+holdsTape state = choose (eqb state moverListening) true (eqb state moverActive)
 
--- mover mode 0 with a tape that is open read-only
+-- a mode that goes to tape, with a tape that is open read-only
 unfoldable pub unwritable : ℕ → Bool → Bool
-unwritable mode writable = choose (eqb mode 0) (not writable) false
+unwritable mode writable = choose (eqb mode toTapeMode) (not writable) false

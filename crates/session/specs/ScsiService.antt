@@ -4,17 +4,16 @@ use mathlib.Core.Bool.{Bool, true, false, not}
 use mathlib.Core.List.{List, [], _∷_}
 use lib.ListN.{length, getD}
 use lib.Dec.{eqb, ltb}
-use Rattle.xdr.specs.Choose.{choose}
+use Rattle.codes.specs.Codes.{deviceOpened, notOpen, illegalArguments, noDevice, senseBytes}
+use Rattle.xdr.specs.Choose.{choose, least}
 use Rattle.xdr.specs.Xdr.{sameBytes}
-use Rattle.cartridge.specs.Operations.{least}
+use Rattle.requests.specs.Within.{bytesAt}
 use Rattle.requests.specs.declared.ScsiRequest.{ScsiRequest}
 use Rattle.requests.specs.declared.ScsiRequest.the-variants.{Open, Close, State, Reset, Cdb}
-use Rattle.replies.specs.declared.Reply.{Reply}
 use Rattle.replies.specs.declared.Reply.the-variants as Reply
 use Rattle.session.specs.declared.types.Changer.{Changer}
-use Rattle.session.specs.Judge.{Test, test, first, Served, served}
-use Rattle.session.specs.DataService.{textOf, TextIn}
-use Rattle.session.specs.TapeService.{openTests}
+use Rattle.session.specs.Names.{longestCdb}
+use Rattle.session.specs.Judge.{test, Outcome, accept, judge}
 
 -- the device's name, `changer0`
 unfoldable pub changer0 : List ℕ
@@ -24,58 +23,44 @@ changer0 = 0x63 ∷ 0x68 ∷ 0x61 ∷ 0x6E ∷ 0x67 ∷ 0x65 ∷ 0x72 ∷ 0x30 �
 abbrev pub clearedChanger : Bool → Changer
 clearedChanger opened = record { opened = opened; pending = false }
 
-abbrev pub scsiOpenTests : Bool → Bool → Bool → List Test
-scsiOpenTests known named opened = test (not known) 4 ∷ test (not named) 16 ∷ test opened 3 ∷ []
+-- a changer with a sense pending or not
+abbrev pub withSense : Changer → Bool → Changer
+withSense c pending = record { opened = c .opened; pending = pending }
 
-unfoldable pub scsiOpen : Bool → Changer → Bool → Served Changer
-scsiOpen known c named =
-    let e = first (scsiOpenTests known named (c .opened)) in
-    served e (Reply.Plain e) (clearedChanger true) c
+-- "16, 3: name other than .. `changer0` (SCSI); that same device already open"
+unfoldable pub scsiOpen : Changer → Bool → Outcome Changer
+scsiOpen c named = judge (test (not named) noDevice ∷ test (c .opened) deviceOpened ∷ []) (accept Reply.Plain (clearedChanger true))
 
 -- "Open, close and reset clear it": close and reset. Reset leaves the device open
-unfoldable pub scsiClear : Bool → Changer → Bool → Served Changer
-scsiClear known c opened =
-    let e = first (openTests known (c .opened)) in
-    served e (Reply.Plain e) (clearedChanger opened) c
+unfoldable pub scsiClear : Changer → Bool → Outcome Changer
+scsiClear c opened = judge (test (not (c .opened)) notOpen ∷ []) (accept Reply.Plain (clearedChanger opened))
 
-unfoldable pub scsiState : Bool → Changer → Served Changer
-scsiState known c =
-    let e = first (openTests known (c .opened)) in
-    served e (Reply.ScsiState e) c c
-
--- "CDB length 0 or above 16: 9."
-abbrev pub cdbTests : Bool → Bool → ℕ → List Test
-cdbTests known opened len = test (not known) 4 ∷ test (not opened) 6 ∷ test (eqb len 0) 9 ∷ test (ltb 16 len) 9 ∷ []
+unfoldable pub scsiState : Changer → Outcome Changer
+scsiState c = judge (test (not (c .opened)) notOpen ∷ []) (accept Reply.ScsiState c)
 
 -- "the pending sense, cut to the CDB's fifth byte (none in a shorter CDB) and the data-in length": the fifth byte is 0 past the end
 unfoldable pub senseLength : List ℕ → ℕ → ℕ
-senseLength cdb room = least (least (getD cdb 4 0) room) 18
+senseLength cdb room = least (least (getD cdb 4 0) room) senseBytes
 
 -- "CDB 00h: status 0. 03h (REQUEST SENSE): the pending sense .., then cleared. Other opcodes: status 2, and the sense .. becomes pending and is
 -- returned as the extended sense, with no data-in; 03h returns it as data-in, with status 0. .. 00h keeps what is pending."
-unfoldable pub runCdb : Changer → List ℕ → ℕ → Served Changer
+unfoldable pub runCdb : Changer → List ℕ → ℕ → Outcome Changer
 runCdb c cdb room =
-    choose (eqb (getD cdb 0 0) 0) (record { reply = Reply.Cdb 0; part = c })
-    (choose (eqb (getD cdb 0 0) 3) (record { reply = Reply.Sense (senseLength cdb room) (c .pending); part = record { opened = c .opened; pending = false } })
-    (record { reply = Reply.Check; part = record { opened = c .opened; pending = true } }))
+    choose (eqb (getD cdb 0 0) 0) (accept Reply.Cdb c)
+    (choose (eqb (getD cdb 0 0) 3) (accept (Reply.Sense (senseLength cdb room) (c .pending)) (withSense c false))
+    (accept Reply.Check (withSense c true)))
 
-unfoldable pub scsiCdb : Bool → Changer → List ℕ → ℕ → Served Changer
-scsiCdb known c cdb room =
-    let e = first (cdbTests known (c .opened) (length cdb)) in
-    choose (eqb e 0) (runCdb c cdb room) (record { reply = Reply.Cdb e; part = c })
+-- "CDB length 0 or above 16: 9."
+unfoldable pub scsiCdb : Changer → List ℕ → ℕ → Outcome Changer
+scsiCdb c cdb room =
+    judge
+    (test (not (c .opened)) notOpen ∷ test (eqb (length cdb) 0) illegalArguments ∷ test (ltb longestCdb (length cdb)) illegalArguments ∷ [])
+    (runCdb c cdb room)
 
 -- the SCSI step
-unfoldable pub scsiStep : Bool → Changer → ScsiRequest → List ℕ → Served Changer
-scsiStep known c (Open name) body = scsiOpen known c (sameBytes (textOf body name) changer0)
-scsiStep known c Close body = scsiClear known c false
-scsiStep known c State body = scsiState known c
-scsiStep known c Reset body = scsiClear known c true
-scsiStep known c (Cdb cdb room) body = scsiCdb known c (textOf body cdb) room
-
--- the text of a request lies in its body
-unfoldable pub ScsiTexts : List ℕ → ScsiRequest → Type 0
-ScsiTexts body (Open name) = TextIn body name
-ScsiTexts body Close = Unit
-ScsiTexts body State = Unit
-ScsiTexts body Reset = Unit
-ScsiTexts body (Cdb cdb room) = TextIn body cdb
+unfoldable pub scsiStep : Changer → ScsiRequest → List ℕ → Outcome Changer
+scsiStep c (Open name) body = scsiOpen c (sameBytes (bytesAt body name) changer0)
+scsiStep c Close body = scsiClear c false
+scsiStep c State body = scsiState c
+scsiStep c Reset body = scsiClear c true
+scsiStep c (Cdb cdb room) body = scsiCdb c (bytesAt body cdb) room

@@ -42,12 +42,18 @@ pub struct Changer {
     pub pending: bool,
 }
 
+// What the connection knows of its client.
+#[repr(C)]
+pub struct Login {
+    pub authorized: bool,
+}
+
 // A session. First is set until a request has been answered; sequence is the number of the next message; source is the data end.
 #[repr(C)]
 pub struct Session {
     pub closed: bool,
     pub first: bool,
-    pub authorized: bool,
+    pub login: Login,
     pub sequence: u32,
     pub source: Data,
     pub mover: Mover,

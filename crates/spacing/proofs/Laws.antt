@@ -11,22 +11,22 @@ use Rattle.xdr.proofs.Tests.{by-test}
 use Rattle.image.specs.Image.{count, entryLen}
 use Rattle.image.specs.Sound.{Placed}
 use Rattle.spacing.specs.declared.Spaced.{Spaced}
-use Rattle.spacing.specs.Spacing.{ended, walk, spacing, aheadOf, passes, after, counted, stops, goesForward, countsMarks}
+use Rattle.spacing.specs.Spacing.{ended, walk, spacing, aheadOf, passes, positionAfter, leftAfter, stops, goesForward, countsMarks}
 
 -- a step stays within the table
 module _ (n i rest : ℕ) (some : rest ≡ 0 → ⊥) where
   pub passes-below : (f : Bool) → i ≤ n → rest ≡ aheadOf f n i → passes f i < n
-  unfolding aheadOf passes after
+  unfolding aheadOf passes positionAfter
   passes-below true h e = omega arith
   passes-below false h e = omega arith
 
-  pub after-within : (f : Bool) → i ≤ n → rest ≡ aheadOf f n i → after f i ≤ n
-  unfolding aheadOf passes after
+  pub after-within : (f : Bool) → i ≤ n → rest ≡ aheadOf f n i → positionAfter f i ≤ n
+  unfolding aheadOf passes positionAfter
   after-within true h e = omega arith
   after-within false h e = omega arith
 
-  pub after-ahead : (f : Bool) → i ≤ n → rest ≡ aheadOf f n i → rest - 1 ≡ aheadOf f n (after f i)
-  unfolding aheadOf passes after
+  pub after-ahead : (f : Bool) → i ≤ n → rest ≡ aheadOf f n i → rest - 1 ≡ aheadOf f n (positionAfter f i)
+  unfolding aheadOf passes positionAfter
   after-ahead true h e = omega arith
   after-ahead false h e = omega arith
 
@@ -40,24 +40,25 @@ module _ (f marks : Bool) (l : List ℕ) where
   unfolding walk choose
   walk-end k i left h e = rw (e, ne-eqb _ _ h)
 
-  pub walk-stop : (m i left : ℕ) → (left ≡ 0 → ⊥) → (m ≡ 0 → ⊥) → marks ≡ false → entryLen l (passes f i) ≡ 0 → walk f marks l m i left ≡ ended 12 (after f i) left
-  unfolding walk stops counted choose
+  pub walk-stop : (m i left : ℕ) → (left ≡ 0 → ⊥) → (m ≡ 0 → ⊥) → marks ≡ false → entryLen l (passes f i) ≡ 0 → walk f marks l m i left ≡ ended 12
+      (positionAfter f i) left
+  unfolding walk stops leftAfter choose
   walk-stop m i left some on by q =
       let more : m ≡ suc (m - 1) = omega arith in
       rw (more, ne-eqb _ _ some, eq-eqb _ _ q, by)
 
   -- one entry ahead, and k after it
   module _ (m k i left : ℕ) (some : left ≡ 0 → ⊥) (more : m ≡ suc k) where
-    pub walk-mark : marks ≡ true → entryLen l (passes f i) ≡ 0 → walk f marks l m i left ≡ walk f marks l k (after f i) (left - 1)
-    unfolding walk stops counted choose
+    pub walk-mark : marks ≡ true → entryLen l (passes f i) ≡ 0 → walk f marks l m i left ≡ walk f marks l k (positionAfter f i) (left - 1)
+    unfolding walk stops leftAfter choose
     walk-mark by q = rw (more, ne-eqb _ _ some, eq-eqb _ _ q, by)
 
-    pub walk-pass : marks ≡ true → (entryLen l (passes f i) ≡ 0 → ⊥) → walk f marks l m i left ≡ walk f marks l k (after f i) left
-    unfolding walk stops counted choose
+    pub walk-pass : marks ≡ true → (entryLen l (passes f i) ≡ 0 → ⊥) → walk f marks l m i left ≡ walk f marks l k (positionAfter f i) left
+    unfolding walk stops leftAfter choose
     walk-pass by q = rw (more, ne-eqb _ _ some, ne-eqb _ _ q, by)
 
-    pub walk-record : marks ≡ false → (entryLen l (passes f i) ≡ 0 → ⊥) → walk f marks l m i left ≡ walk f marks l k (after f i) (left - 1)
-    unfolding walk stops counted choose
+    pub walk-record : marks ≡ false → (entryLen l (passes f i) ≡ 0 → ⊥) → walk f marks l m i left ≡ walk f marks l k (positionAfter f i) (left - 1)
+    unfolding walk stops leftAfter choose
     walk-record by q = rw (more, ne-eqb _ _ some, ne-eqb _ _ q, by)
 
 -- ---- where a walk ends: within the table, and with no more left than was asked
@@ -65,8 +66,8 @@ pub record Walked (n times : ℕ) (s : Spaced) : Type 0 where
   pub within : s .position ≤ n
   pub least : s .residue ≤ times
 
-counted-less : (marks mark : Bool) (left : ℕ) → counted marks mark left ≤ left
-unfolding counted
+counted-less : (marks mark : Bool) (left : ℕ) → leftAfter marks mark left ≤ left
+unfolding leftAfter
 counted-less true true left = omega arith
 counted-less true false left = omega arith
 counted-less false true left = omega arith
@@ -83,11 +84,11 @@ module _ (f marks : Bool) (l : List ℕ) (n : ℕ) where
       let some : suc k ≡ 0 → ⊥ = λ z. omega arith in
       let step = after-within n i (suc k) some f h e in
       let pred : suc k - 1 ≡ k = omega arith in
-      let ahead : k ≡ aheadOf f n (after f i) = sym pred ∙ after-ahead n i (suc k) some f h e in
-      let rest = walked k (after f i) (counted marks mark left) step ahead in
+      let ahead : k ≡ aheadOf f n (positionAfter f i) = sym pred ∙ after-ahead n i (suc k) some f h e in
+      let rest = walked k (positionAfter f i) (leftAfter marks mark left) step ahead in
       let less = counted-less marks mark left in
       by-test (Walked n left) (eqb left 0) (ended 0 i 0) _ (λ _. record { within = h; least = omega arith })
-      (λ _. by-test (Walked n left) (stops marks mark) (ended 12 (after f i) left) _ (λ _. record { within = step; least = omega arith })
+      (λ _. by-test (Walked n left) (stops marks mark) (ended 12 (positionAfter f i) left) _ (λ _. record { within = step; least = omega arith })
       (λ _. record { within = rest .within; least = omega arith }))
 
 pub spaced-within : (l : List ℕ) (op p times : ℕ) → p ≤ count l → Walked (count l) times (spacing l op p times)
@@ -106,8 +107,8 @@ module _ (f marks : Bool) (l : List ℕ) where
   no-other (suc k) i left =
       let mark = eqb (entryLen l (passes f i)) 0 in
       by-test (λ (s : Spaced). Other (s .error) → ⊥) (eqb left 0) (ended 0 i 0) _ (λ _ o. o .0 refl)
-      (λ _. by-test (λ (s : Spaced). Other (s .error) → ⊥) (stops marks mark) (ended 12 (after f i) left) _ (λ _ o. o .1 refl)
-      (λ _. no-other k (after f i) (counted marks mark left)))
+      (λ _. by-test (λ (s : Spaced). Other (s .error) → ⊥) (stops marks mark) (ended 12 (positionAfter f i) left) _ (λ _ o. o .1 refl)
+      (λ _. no-other k (positionAfter f i) (leftAfter marks mark left)))
 
 pub spaced-error : (l : List ℕ) (op p times : ℕ) → Other (spacing l op p times .error) → ⊥
 unfolding spacing

@@ -3,6 +3,7 @@ use Prim.Native.Nat.{ℕ, zero, suc, _+_, _-_, _*_, _%_}
 use mathlib.Core.List.{List}
 use mathlib.Core.Bool.{Bool, true, false}
 use lib.Dec.{eqb, ltb}
+use Rattle.codes.specs.Codes.{atMark, atEnd, forwardRecords}
 use Rattle.xdr.specs.Choose.{choose}
 use Rattle.image.specs.Image.{count, entryLen}
 use Rattle.spacing.specs.declared.Spaced.{Spaced}
@@ -15,7 +16,7 @@ abbrev pub goesForward : ℕ → Bool
 goesForward op = eqb (op % 2) 0
 
 abbrev pub countsMarks : ℕ → Bool
-countsMarks op = ltb op 2
+countsMarks op = ltb op forwardRecords
 
 -- how many entries lie ahead of position i of n, forward or back
 unfoldable pub aheadOf : Bool → ℕ → ℕ → ℕ
@@ -28,16 +29,16 @@ passes true i = i
 passes false i = i - 1
 
 -- the position after a step
-unfoldable pub after : Bool → ℕ → ℕ
-after true i = i + 1
-after false i = i - 1
+unfoldable pub positionAfter : Bool → ℕ → ℕ
+positionAfter true i = i + 1
+positionAfter false i = i - 1
 
 -- what is left to count after a step, where marks or else records are counted and a mark or else a record was passed
-unfoldable pub counted : Bool → Bool → ℕ → ℕ
-counted true true left = left - 1
-counted true false left = left
-counted false true left = left
-counted false false left = left - 1
+unfoldable pub leftAfter : Bool → Bool → ℕ → ℕ
+leftAfter true true left = left - 1
+leftAfter true false left = left
+leftAfter false true left = left
+leftAfter false false left = left - 1
 
 -- "FSR and BSR pass records; a mark is passed, ends the walk with 12 and is not counted"
 unfoldable pub stops : Bool → Bool → Bool
@@ -47,11 +48,11 @@ stops false mark = mark
 -- k entries lie ahead of position i, and left marks or else records are to be counted. "FSF stops after the count-th mark, BSF
 -- before it; at an end 13. .. Residue is count less what was counted."
 unfoldable pub walk : Bool → Bool → List ℕ → ℕ → ℕ → ℕ → Spaced
-walk forward marks l zero i left = choose (eqb left 0) (ended 0 i 0) (ended 13 i left)
+walk forward marks l zero i left = choose (eqb left 0) (ended 0 i 0) (ended atEnd i left)
 walk forward marks l (suc k) i left =
     let mark = eqb (entryLen l (passes forward i)) 0 in
-    let rest = walk forward marks l k (after forward i) (counted marks mark left) in
-    choose (eqb left 0) (ended 0 i 0) (choose (stops marks mark) (ended 12 (after forward i) left) rest)
+    let rest = walk forward marks l k (positionAfter forward i) (leftAfter marks mark left) in
+    choose (eqb left 0) (ended 0 i 0) (choose (stops marks mark) (ended atMark (positionAfter forward i) left) rest)
 
 -- ops 0 to 3 from position p, `times` the request's count
 unfoldable pub spacing : List ℕ → ℕ → ℕ → ℕ → Spaced

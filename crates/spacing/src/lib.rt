@@ -2,8 +2,9 @@
 ghost use mathlib.Core.Path.{_≡_};
 ghost use Prim.Native.Nat.{ℕ, _+_, _-_, _*_, _<_, _≤_};
 ghost use lib.ListN.{length};
+ghost use Rattle.image.specs.Image.{mostEntries};
 ghost use Rattle.image.specs.Sound.{Placed};
-ghost use Rattle.spacing.specs.Spacing.{spacing, aheadOf, passes, after};
+ghost use Rattle.spacing.specs.Spacing.{spacing, aheadOf, passes, positionAfter};
 ghost use Rattle.spacing.specs.Examples.{ExamplesHold};
 
 // Where a walk over the table ended: the error, the position and the residue.
@@ -35,10 +36,10 @@ fn entry_passed(forward: bool, at: usize) -> usize
     }
 }
 
-// The position after a step, in a table of at most 4,096 entries.
+// The position after a step, in a table of no more entries than an image may have.
 fn position_after(forward: bool, at: usize) -> usize
-    requires { ⌜ at ≤ 4096 ⌝ }
-    ensures { λ r. ⌜ r ≡ after forward at ⌝ }
+    requires { ⌜ at ≤ mostEntries ⌝ }
+    ensures { λ r. ⌜ r ≡ positionAfter forward at ⌝ }
 {
     if forward {
         at + 1
@@ -54,9 +55,9 @@ pub fn space(image: &[u8], op: u32, position: usize, times: u32) -> Spaced
     requires { ⌜ Placed (now image) position ⌝ }
     ensures { λ r. ⌜ r ≡ spacing (now (image .entry)) op position times ⌝ }
 {
-    let n = image::field(image, 8);
+    let n = image::count(image);
     let forward = op % 2 == 0;
-    let marks = op < 2;
+    let marks = op < codes::FORWARD_RECORDS;
     let mut at = position;
     let mut left = times;
     let mut rest = entries_ahead(forward, n, position);
@@ -70,13 +71,13 @@ pub fn space(image: &[u8], op: u32, position: usize, times: u32) -> Spaced
         }
         if rest == 0 {
             break Spaced {
-                error: 13,
+                error: codes::AT_END,
                 position: at,
                 residue: left,
             };
         }
         let entry = entry_passed(forward, at);
-        let len = image::field(image, 16 + entry * 8);
+        let len = image::entry_len(image, entry);
         at = position_after(forward, at);
         rest -= 1;
         if len == 0 {
@@ -84,7 +85,7 @@ pub fn space(image: &[u8], op: u32, position: usize, times: u32) -> Spaced
                 left -= 1;
             } else {
                 break Spaced {
-                    error: 12,
+                    error: codes::AT_MARK,
                     position: at,
                     residue: left,
                 };

@@ -1,2 +1,2 @@
--- The laws between what the cartridge gives and what a tape request answers.
-pub mod Answering
+-- The laws of what a refusal leaves.
+pub mod Leaving

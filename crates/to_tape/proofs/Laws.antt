@@ -1,33 +1,33 @@
--- The laws of a move to tape, as the code uses them. Assumes nothing.
+-- What rules (4) to (7) lean on, from the tests before them, and what rules (6) and (7) say, from what the write gave. Assumes nothing.
 use Prim.Native.Nat.{ℕ}
 use mathlib.Core.Bool.{Bool, true, false, not}
 use mathlib.Core.List.{List}
 use mathlib.Core.Path.{_≡_, sym, ap, _∙_}
 use lib.ListN.{length, take}
 use borrow.Author.Tests.{not-true, not-false}
-use Rattle.xdr.specs.Choose.{choose}
+use Rattle.xdr.specs.Choose.{choose, least}
 use Rattle.image.specs.Image.{faulty}
 use Rattle.image.proofs.Laws.{placed}
 use Rattle.writing.specs.Writing.{roomFor, FilledWrite}
 use Rattle.cartridge.specs.Step.{Step, Told, keeping}
-use Rattle.cartridge.specs.Operations.{least}
 use Rattle.session.specs.declared.types.Data.{Data}
 use Rattle.session.specs.declared.types.Mover.{Mover}
 use Rattle.session.specs.declared.types.Tape.{Tape}
+use Rattle.session.specs.Names.{toTapeMode, backupOperation}
 use Rattle.session.specs.Relation.{moverWrong}
 use Rattle.session.proofs.Kept.{mover-kept}
 use Rattle.session.proofs.Keeping.{active-holds}
-use Rattle.moves.proofs.Moving.{runs}
+use Rattle.moves.proofs.Moving.{running}
 use Rattle.moves.specs.declared.Move.{Move}
 use Rattle.moves.specs.Moves.{idle, takes, writing}
 use Rattle.to_tape.specs.Fillable.{Fillable}
 
 -- where the mover is in order and runs, and the tape has no fault, records can go to it
-pub fillable : (d : Data) (m : Mover) (t : Tape) (l : List ℕ) (r f : Bool) → moverWrong m t ≡ false → r ≡ idle 0 1 d m → r ≡ false
+pub fillable : (d : Data) (m : Mover) (t : Tape) (l : List ℕ) (r f : Bool) → moverWrong m t ≡ false → r ≡ idle toTapeMode backupOperation d m → r ≡ false
     → f ≡ faulty l (t .position) → f ≡ false → Fillable m l (t .position)
 fillable d m t l r f w e h g k =
     let q = mover-kept m t w in
-    let held = q .hold (active-holds (m .state) (runs 0 1 d m (sym e ∙ h) .active)) in
+    let held = q .hold (active-holds (m .state) (running toTapeMode backupOperation d m (sym e ∙ h) .active)) in
     record { small = q .sizes; fits = q .window (held .window) .fits; place = placed l (t .position) (sym g ∙ k) }
 
 -- rules (6) and (7), from what the write gave

@@ -3,7 +3,7 @@ ghost use mathlib.Core.Path.{_≡_};
 ghost use mathlib.Core.Bool.{false};
 ghost use Rattle.cartridge.specs.Step.{Told};
 ghost use Rattle.session.specs.Relation.{moverWrong};
-ghost use Rattle.moves.specs.Moves.{ending, scant, filling, toTape};
+ghost use Rattle.moves.specs.Moves.{streamEnds, scant, filling, toTape};
 ghost use Rattle.to_tape.specs.Fillable.{Fillable};
 use moves::Move;
 use session::types::Data;
@@ -12,7 +12,7 @@ use session::types::Tape;
 
 // The stream has come to its end.
 fn is_ending(last: bool, n: usize) -> bool
-    ensures { λ r. ⌜ r ≡ ending last n ⌝ }
+    ensures { λ r. ⌜ r ≡ streamEnds last n ⌝ }
 {
     if last {
         return n == 0;
@@ -37,15 +37,16 @@ fn fill_tape(d: Data, m: Mover, t: Tape, image: &mut [u8], stream: &[u8], last: 
 {
     let end = m.offset + m.length;
     let size = m.size as usize;
-    let part = cartridge::lesser(stream.len(), size);
+    let part = xdr::lesser_len(stream.len(), size);
+    let scant = is_scant(last, stream.len(), size);
     if m.moved == end {
-        return moves::pause_at(5, d, m, t);
+        return moves::pause_at(Mover::END_OF_WINDOW, d, m, t);
     }
-    if is_scant(last, stream.len(), size) {
+    if scant {
         return moves::no_move(d, m, t);
     }
     if !writing::write_filled(image, t.position, &stream[..part], size) {
-        return moves::pause_at(1, d, m, t);
+        return moves::pause_at(Mover::END_OF_MEDIUM, d, m, t);
     }
     moves::take_record(part, d, m, t)
 }
@@ -55,16 +56,16 @@ pub fn to_tape(d: Data, m: Mover, t: Tape, image: &mut [u8], stream: &[u8], last
     requires { ⌜ moverWrong m t ≡ false ⌝ }
     ensures { λ r. ⌜ Told (toTape d m t (now (image .entry)) (now (stream .entry)) last) r (now (image .exit)) ⌝ }
 {
-    if moves::is_idle(0, 1, d, m) {
+    if moves::is_idle(Mover::TO_TAPE, Data::BACKUP, d, m) {
         return moves::no_move(d, m, t);
     }
     let faulty = image::is_faulty(image, t.position);
     let ends = is_ending(last, stream.len());
     if faulty {
-        return moves::halt_both(4, 5, d, m, t);
+        return moves::halt_both(Data::CONNECT_ERROR, Mover::MEDIA_ERROR, d, m, t);
     }
     if ends {
-        return moves::halt_both(1, 1, d, m, t);
+        return moves::halt_both(Data::SUCCESSFUL, Mover::CONNECT_CLOSED, d, m, t);
     }
     fill_tape(d, m, t, image, stream, last)
 }

@@ -8,8 +8,10 @@ use lib.ListN.{length, getD, replicate, length-append, length-replicate}
 use lib.Dec.{ltb, leb}
 use borrow.Author.Tests.{ltb-true, ltb-false, leb-true, lt-ltb, le-ltb, le-leb}
 use Rattle.xdr.specs.Choose.{choose, allOf}
+use Rattle.xdr.specs.Xdr.{overlay}
 use Rattle.xdr.proofs.Tests.{all-get}
-use Rattle.image.specs.Image.{capacity, count, used, entryStart, bodyAt, bodyLen}
+use Rattle.xdr.proofs.Laws.{overlay-none, overlay-then}
+use Rattle.image.specs.Image.{capacity, count, used, entryStart, bodyAt, bodyLen, withEntry}
 use Rattle.image.specs.Sound.{Sound, Placed, sumBefore}
 use Rattle.image.proofs.Laws.{sum-used}
 use Rattle.writing.specs.Writing.{kept, roomTests, roomFor, Room, written, fillTo, KeptBytes, FilledWrite}
@@ -82,3 +84,16 @@ filled-refused l p s n h = record { room = h; image = rw (← h) }
 pub filled-done : (l : List ℕ) (p : ℕ) (s : List ℕ) (n : ℕ) (l′ : List ℕ) → true ≡ roomFor l p n → l′ ≡ written l p (fillTo s n) → FilledWrite l p s n true l′
 unfolding choose
 filled-done l p s n l′ h e = record { room = h; image = rw (← h) e }
+
+-- the entry, a part and then zeros are one record
+pub filled-is : (l : List ℕ) (p : ℕ) (s : List ℕ) (n : ℕ) → length s ≤ n
+    → overlay (bodyAt l + kept l p + length s) (replicate (n - length s) 0) (overlay (bodyAt l + kept l p) s (withEntry l p (kept l p) n)) ≡ written l p (fillTo s n)
+unfolding written fillTo
+filled-is l p s n h =
+    let len : length (s ++ replicate (n - length s) 0) ≡ n = length-fill s n h in
+    rw len (overlay-then (bodyAt l + kept l p) s (replicate (n - length s) 0) (withEntry l p (kept l p) n))
+
+-- a mark is its entry
+pub mark-is : (l : List ℕ) (p : ℕ) → withEntry l p (kept l p) 0 ≡ written l p []
+unfolding written
+mark-is l p = overlay-none (bodyAt l + kept l p) (withEntry l p (kept l p) 0)

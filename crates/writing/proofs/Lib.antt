@@ -1,4 +1,3 @@
--- `Entries` has the words of the image after a write, `Laws` the laws of room and of what is kept, `Theorems` what a write leaves.
+-- `Laws` has the laws of room, of what is kept and of filled records, `Theorems` what a write leaves.
 pub mod Laws
-pub mod Entries
 pub mod Theorems

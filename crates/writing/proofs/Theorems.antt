@@ -6,57 +6,65 @@ use native.Mathlib.Omega.{arith}
 use native.Mathlib.Nat.{add-zero}
 use lib.ListN.{length, take, drop, getD}
 use borrow.Author.Count.{below-more}
+use Rattle.codes.specs.Codes.{longestRecord}
 use Rattle.xdr.specs.Xdr.{word, overlay}
 use Rattle.xdr.proofs.Laws.{length-overlay}
-use Rattle.xdr.proofs.Places.{word-before, byte-before, part-back, part-same}
-use Rattle.image.specs.Image.{capacity, count, used, entryLen, entryStart, entryBytes, bodyAt, bodyLen}
+use Rattle.xdr.proofs.Places.{byte-before, part-back, part-same}
+use Rattle.image.specs.Image.{capacity, count, used, entryLen, entryStart, entryBytes, bodyAt, bodyLen, Table, withEntry}
 use Rattle.image.specs.Sound.{Header, Entry, Sound, Placed, sumBefore}
-use Rattle.image.proofs.Laws.{sum-next, sum-mono, sum-same}
-use Rattle.writing.specs.Writing.{kept, Room, withEntry, written, withMarks}
-use Rattle.writing.proofs.Laws.{kept-end, kept-sum, kept-used}
-use Rattle.writing.proofs.Entries.{entry-length, entry-count, entry-used, entry-len, entry-start, entry-head, entry-table, entry-byte, mark-is}
+use Rattle.image.proofs.Laws.{entry-there, sum-next, sum-mono, sum-same}
+use Rattle.image.proofs.Writes.{entry-length, entry-first, entry-capacity, entry-count, entry-used, entry-len, entry-start, before-len, before-start, entry-byte}
+use Rattle.image.proofs.Writes.{body-first, body-capacity, body-count, body-used, body-len, body-start}
+use Rattle.writing.specs.Writing.{kept, Room, written, withMarks}
+use Rattle.writing.proofs.Laws.{kept-end, kept-sum, kept-used, mark-is}
 
-module _ (l : List ℕ) (p : ℕ) (b : List ℕ) (at : Placed l p) (small : length b ≤ 32768) (room : Room l p (length b)) where
-  table-fits : 24 + p * 8 ≤ length l
-  table-fits = let f = at .ok .header in omega arith
+module _ (l : List ℕ) (p : ℕ) (b : List ℕ) (at : Placed l p) (small : length b ≤ longestRecord) (room : Room l p (length b)) where
+  -- the image with the entry, before the bytes
+  abbrev cut : List ℕ
+  cut = withEntry l p (kept l p) (length b)
 
-  few : p < 4096
-  few = let f = at .ok .header in omega arith
+  there : Table l (p + 1)
+  there = entry-there l p (at .ok) (room .slot)
 
   bytes : kept l p + length b < 4294967296
   bytes = let f = at .ok .header in omega arith
 
-  front-fits : bodyAt l + kept l p ≤ length (withEntry l p (kept l p) (length b))
+  front-fits : bodyAt l + kept l p ≤ length cut
   front-fits =
-      let e = entry-length l p (kept l p) (length b) table-fits few bytes in
+      let e = entry-length l p (kept l p) (length b) there bytes in
       let f = at .ok .header in
       omega arith
+
+  after : bodyAt cut ≤ bodyAt l + kept l p
+  after = let e = entry-capacity l p (kept l p) (length b) there bytes in omega arith
 
   pub written-length : length (written l p b) ≡ length l
   unfolding written
   written-length =
-      let e = entry-length l p (kept l p) (length b) table-fits few bytes in
+      let e = entry-length l p (kept l p) (length b) there bytes in
       let f = at .ok .header in
-      length-overlay (bodyAt l + kept l p) b (withEntry l p (kept l p) (length b)) (omega arith) ∙ e
+      length-overlay (bodyAt l + kept l p) b cut (omega arith) ∙ e
 
-  -- a word before the body
-  written-word : (i : ℕ) → i + 4 ≤ bodyAt l → word (written l p b) i ≡ word (withEntry l p (kept l p) (length b)) i
+  written-first : word (written l p b) 0 ≡ word l 0
   unfolding written
-  written-word i h = word-before (bodyAt l + kept l p) b (withEntry l p (kept l p) (length b)) front-fits i (omega arith)
-
-  pub written-count : count (written l p b) ≡ p + 1
-  written-count = written-word 8 (omega arith) ∙ entry-count l p (kept l p) (length b) table-fits few bytes
-
-  pub written-used : used (written l p b) ≡ kept l p + length b
-  written-used = written-word 12 (omega arith) ∙ entry-used l p (kept l p) (length b) table-fits few bytes
+  written-first = body-first cut _ b after front-fits ∙ entry-first l p (kept l p) (length b) there bytes
 
   pub written-capacity : capacity (written l p b) ≡ capacity l
-  written-capacity = written-word 4 (omega arith) ∙ entry-head l p (kept l p) (length b) table-fits few bytes 4 (omega arith)
+  unfolding written
+  written-capacity = body-capacity cut _ b after front-fits ∙ entry-capacity l p (kept l p) (length b) there bytes
+
+  pub written-count : count (written l p b) ≡ p + 1
+  unfolding written
+  written-count = body-count cut _ b after front-fits ∙ entry-count l p (kept l p) (length b) there bytes
+
+  pub written-used : used (written l p b) ≡ kept l p + length b
+  unfolding written
+  written-used = body-used cut _ b after front-fits ∙ entry-used l p (kept l p) (length b) there bytes
 
   written-header : Header (written l p b)
   written-header =
       let f = at .ok .header in
-      let e0 = written-word 0 (omega arith) ∙ entry-head l p (kept l p) (length b) table-fits few bytes 0 (omega arith) in
+      let e0 = written-first in
       let e1 = written-length in
       let e2 = written-count in
       let e3 = written-used in
@@ -72,19 +80,24 @@ module _ (l : List ℕ) (p : ℕ) (b : List ℕ) (at : Placed l p) (small : leng
         bytes = omega arith;
       }
 
+  below : (i : ℕ) → i ≤ p → i < capacity cut
+  below i h = let e = entry-capacity l p (kept l p) (length b) there bytes in let s = room .slot in omega arith
+
   pub written-len : entryLen (written l p b) p ≡ length b
-  written-len = written-word (16 + p * 8) (omega arith) ∙ entry-len l p (kept l p) (length b) table-fits few bytes
+  unfolding written
+  written-len = body-len cut _ b after front-fits p (below p (omega arith)) ∙ entry-len l p (kept l p) (length b) there bytes
 
   pub written-start : entryStart (written l p b) p ≡ kept l p
-  written-start = written-word (20 + p * 8) (omega arith) ∙ entry-start l p (kept l p) (length b) table-fits few bytes
+  unfolding written
+  written-start = body-start cut _ b after front-fits p (below p (omega arith)) ∙ entry-start l p (kept l p) (length b) there bytes
 
   pub same-len : (i : ℕ) → i < p → entryLen (written l p b) i ≡ entryLen l i
-  same-len i h =
-      written-word (16 + i * 8) (omega arith) ∙ entry-table l p (kept l p) (length b) table-fits few bytes (16 + i * 8) (omega arith) (omega arith)
+  unfolding written
+  same-len i h = body-len cut _ b after front-fits i (below i (omega arith)) ∙ before-len l p (kept l p) (length b) there bytes i h
 
   pub same-start : (i : ℕ) → i < p → entryStart (written l p b) i ≡ entryStart l i
-  same-start i h =
-      written-word (20 + i * 8) (omega arith) ∙ entry-table l p (kept l p) (length b) table-fits few bytes (20 + i * 8) (omega arith) (omega arith)
+  unfolding written
+  same-start i h = body-start cut _ b after front-fits i (below i (omega arith)) ∙ before-start l p (kept l p) (length b) there bytes i h
 
   same-sum : (i : ℕ) → i ≤ p → sumBefore (written l p b) i ≡ sumBefore l i
   same-sum i h = sum-same l (written l p b) i (λ j k. same-len j (omega arith))
@@ -108,7 +121,10 @@ module _ (l : List ℕ) (p : ℕ) (b : List ℕ) (at : Placed l p) (small : leng
       record {
         header = written-header;
         entry = λ i h. below-more (Entry (written l p b)) p old-entry new-entry i (omega arith);
-        total = written-used ∙ (let a = kept-sum l p at in let c = same-sum p (omega arith) in let d = written-len in let s = sum-next (written l p b) p in omega arith) ∙ ap (sumBefore (written l p b)) (sym n);
+        total =
+            written-used
+            ∙ (let a = kept-sum l p at in let c = same-sum p (omega arith) in let d = written-len in let s = sum-next (written l p b) p in omega arith)
+            ∙ ap (sumBefore (written l p b)) (sym n);
       }
 
   -- and the position after it is one of its tape
@@ -118,7 +134,7 @@ module _ (l : List ℕ) (p : ℕ) (b : List ℕ) (at : Placed l p) (small : leng
   -- the bytes of the record are there
   body-back : take (length b) (drop (bodyAt l + kept l p) (written l p b)) ≡ b
   unfolding written
-  body-back = part-back (bodyAt l + kept l p) b (withEntry l p (kept l p) (length b)) front-fits
+  body-back = part-back (bodyAt l + kept l p) b cut front-fits
 
   -- what was written at a position stands there
   pub written-there : entryBytes (written l p b) p ≡ b
@@ -130,8 +146,8 @@ module _ (l : List ℕ) (p : ℕ) (b : List ℕ) (at : Placed l p) (small : leng
   unfolding written
   same-byte i h k =
       let f = at .ok .header in
-      byte-before (bodyAt l + kept l p) b (withEntry l p (kept l p) (length b)) front-fits i k
-      ∙ entry-byte l p (kept l p) (length b) table-fits few bytes i (omega arith)
+      byte-before (bodyAt l + kept l p) b cut front-fits i k
+      ∙ entry-byte l p (kept l p) (length b) there bytes i (omega arith)
 
   -- the records before the position keep their bytes
   pub same-bytes : (i : ℕ) → i < p → entryBytes (written l p b) i ≡ entryBytes l i
@@ -174,7 +190,7 @@ mark-room l p f h =
 pub mark-step : (l₀ : List ℕ) (p n keep : ℕ) (l : List ℕ) (at left : ℕ) (l′ : List ℕ) → Marking l₀ p n keep l at left → 0 < left → l′ ≡ withEntry l at keep 0
     → Marking l₀ p n keep l′ (at + 1) (left - 1)
 mark-step l₀ p n keep l at left l′ m some e =
-    let small : length {A = ℕ} [] ≤ 32768 = omega arith in
+    let small : length {A = ℕ} [] ≤ longestRecord = omega arith in
     let s = m .slots in
     let room = mark-room l at (m .here) (omega arith) in
     let same : l′ ≡ written l at [] = rw (m .keeps) at e ∙ mark-is l at in
@@ -200,7 +216,7 @@ pub marks-placed : (k : ℕ) (l : List ℕ) (p : ℕ) → Placed l p → p + k �
 unfolding withMarks
 marks-placed zero l p f h = rw (add-zero p) f
 marks-placed (suc k) l p f h =
-    let small : length {A = ℕ} [] ≤ 32768 = omega arith in
+    let small : length {A = ℕ} [] ≤ longestRecord = omega arith in
     let room = mark-room l p f (omega arith) in
     let cap = written-capacity l p [] f small room in
     let g : p + suc k ≡ p + 1 + k = omega arith in

@@ -6,8 +6,8 @@ use mathlib.Core.Path.{_≡_}
 use lib.ListN.{length, replicate}
 use lib.Dec.{ltb, leb}
 use Rattle.xdr.specs.Choose.{choose, allOf}
-use Rattle.xdr.specs.Xdr.{be32s, overlay}
-use Rattle.image.specs.Image.{capacity, count, used, entryStart, bodyAt, bodyLen}
+use Rattle.xdr.specs.Xdr.{overlay}
+use Rattle.image.specs.Image.{capacity, count, used, entryStart, bodyAt, bodyLen, withEntry}
 
 -- "Writing cuts the list at the position and uses the room again": the bytes before position p are kept
 unfoldable pub kept : List ℕ → ℕ → ℕ
@@ -24,10 +24,6 @@ roomFor l p m = allOf (roomTests l p m)
 pub record Room (l : List ℕ) (p m : ℕ) : Type 0 where
   pub slot : p < capacity l
   pub fits : kept l p + m ≤ bodyLen l
-
--- the table cut at p: n is p + 1, used is k + m, and entry p is m bytes from k on
-unfoldable pub withEntry : List ℕ → ℕ → ℕ → ℕ → List ℕ
-withEntry l p k m = overlay (16 + p * 8) (be32s (m ∷ k ∷ [])) (overlay 8 (be32s ((p + 1) ∷ (k + m) ∷ [])) l)
 
 -- the image with the record b written at position p. "Old entries and bytes past the end stay": nothing else is written.
 unfoldable pub written : List ℕ → ℕ → List ℕ → List ℕ

@@ -1,49 +1,39 @@
 // Writing records and marks to a sound cartridge image.
 ghost use mathlib.Core.Path.{_≡_};
-ghost use Prim.Native.Nat.{ℕ, _+_, _-_, _*_, _<_, _≤_};
+ghost use Prim.Native.Nat.{_+_, _-_, _<_, _≤_};
 ghost use lib.ListN.{length};
+ghost use Rattle.codes.specs.Codes.{longestRecord};
 ghost use Rattle.image.specs.Image.{capacity};
 ghost use Rattle.image.specs.Sound.{Placed};
-ghost use Rattle.writing.specs.Writing.{KeptBytes, FilledWrite, withEntry, withMarks};
+ghost use Rattle.writing.specs.Writing.{KeptBytes, FilledWrite, withMarks};
 
 // The bytes before a position, which a write there keeps.
 fn kept_bytes(image: &[u8], position: usize) -> usize
     requires { ⌜ Placed (now image) position ⌝ }
     ensures { λ r. ⌜ KeptBytes (now (image .entry)) position r ⌝ }
 {
-    if position < image::field(image, 8) {
-        image::field(image, 20 + position * 8)
+    if position < image::count(image) {
+        image::entry_start(image, position)
     } else {
-        image::field(image, 12)
+        image::used_bytes(image)
     }
-}
-
-// Cuts the table at a position and writes an entry there.
-fn put_entry(image: &mut [u8], position: usize, keep: usize, len: usize)
-    requires { ⌜ (24 + position * 8 ≤ length (now image)) × (position < 4096) × (keep + len < 4294967296) ⌝ }
-    ensures { λ _. ⌜ now (image .exit) ≡ withEntry (now (image .entry)) position keep len ⌝ }
-{
-    let counts = [(position + 1) as u32, (keep + len) as u32];
-    xdr::write_words(image, 8, &counts);
-    let entry = [len as u32, keep as u32];
-    xdr::write_words(image, 16 + position * 8, &entry);
 }
 
 // Writes a record of size bytes at a position, the part and then zeros; where there is no room it changes nothing and says so.
 pub fn write_filled(image: &mut [u8], position: usize, part: &[u8], size: usize) -> bool
-    requires { ⌜ Placed (now image) position × (length (now part) ≤ size) × (size ≤ 32768) ⌝ }
+    requires { ⌜ Placed (now image) position × (length (now part) ≤ size) × (size ≤ longestRecord) ⌝ }
     ensures { λ r. ⌜ FilledWrite (now (image .entry)) position (now (part .entry)) size r (now (image .exit)) ⌝ }
 {
-    let capacity = image::field(image, 4);
+    let capacity = image::capacity(image);
     let keep = kept_bytes(image, position);
-    let body = 16 + capacity * 8;
+    let body = image::body_at(image);
     if capacity <= position {
         return false;
     }
     if image.len() - body < keep + size {
         return false;
     }
-    put_entry(image, position, keep, size);
+    image::put_entry(image, position, keep, size);
     xdr::copy_blocks(image, body + keep, part);
     xdr::zero_fill(image, body + keep + part.len(), size - part.len());
     true
@@ -58,7 +48,7 @@ pub fn write_marks(image: &mut [u8], position: usize, times: usize)
     let mut at = position;
     let mut left = times;
     while 0 < left {
-        put_entry(image, at, keep, 0);
+        image::put_entry(image, at, keep, 0);
         at += 1;
         left -= 1;
     }

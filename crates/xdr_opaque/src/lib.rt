@@ -2,7 +2,7 @@
 // may be missing.
 ghost use mathlib.Core.Path.{_≡_};
 ghost use Prim.Native.Nat.{_+_, _*_, _≤_, _<_};
-ghost use lib.ListN.{length};
+ghost use lib.ListN.{length, replicate};
 ghost use Rattle.xdr.specs.Xdr.{be32s};
 ghost use Rattle.xdr_opaque.specs.Opaque.{wordAt, opaqueAt, pairAt, timesAt, countedAt};
 ghost use Rattle.xdr_opaque.specs.Put.{Put, opaque};
@@ -129,6 +129,15 @@ pub fn put_words(out: &mut [u8], at: usize, ws: &[u32]) -> usize
 {
     xdr::write_words(out, at, ws);
     at + 4 * ws.len()
+}
+
+// Writes n zero words at an offset; returns the offset after them.
+pub fn put_zero_words(out: &mut [u8], at: usize, n: usize) -> usize
+    requires { ⌜ at + 4 * n ≤ length (now out) ⌝ }
+    ensures { λ r. ⌜ Put at (be32s (replicate n 0)) (now (out .entry)) r (now (out .exit)) ⌝ }
+{
+    xdr::zero_fill(out, at, 4 * n);
+    at + 4 * n
 }
 
 // Writes s as opaque data or a string at an offset; returns the offset after its fill.

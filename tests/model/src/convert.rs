@@ -2,14 +2,14 @@
 
 use crate::model::State;
 use crate::model::state;
-use crate::proved::{Changer, Data, Mover, Session, Tape};
+use crate::proved::{Changer, Data, Login, Mover, Session, Tape};
 
 pub fn session(s: &State) -> Session {
     let (offset, length) = s.mover.window;
     Session {
         closed: s.closed,
         first: s.fresh,
-        authorized: s.authorized,
+        login: Login { authorized: s.authorized },
         sequence: s.number,
         source: Data { state: s.data.state, operation: s.data.operation, reason: s.data.halt, processed: s.data.processed },
         mover: Mover {
@@ -34,7 +34,7 @@ pub fn state(s: &Session) -> State {
     State {
         closed: s.closed,
         fresh: s.first,
-        authorized: s.authorized,
+        authorized: s.login.authorized,
         number: s.sequence,
         data: state::Data { state: s.source.state, operation: s.source.operation, halt: s.source.reason, processed: s.source.processed },
         mover: state::Mover {
@@ -76,7 +76,7 @@ macro_rules! named {
 named! {
     "closed" closed: bool,
     "first" first: bool,
-    "authorized" authorized: bool,
+    "authorized" login.authorized: bool,
     "sequence" sequence: u32,
     "data.state" source.state: u32,
     "data.operation" source.operation: u32,

@@ -132,7 +132,7 @@ impl Driver {
 
     fn sensible(&mut self, w: &World) -> Step {
         let s = &w.session;
-        if !s.authorized {
+        if !s.login.authorized {
             // What comes before auth: a few wrong ones, and a request that has to wait.
             return match self.r.below(20) {
                 0 => self.some(w, 0x900),

@@ -5,7 +5,7 @@ use Rattle.answering.proofs.finish.Tie as tie
 use Rattle.answering.proofs.finish.Reads as reads
 use Rattle.answering.proofs.finish.Lts as lts
 use Rattle.replies.proofs.write_reply.Reads as write-reply-reads
-use Rattle.answering.proofs.after_message.Reads as after-message-reads
+use Rattle.session.proofs.types.Session.after_message.Reads as types-Session-after-message-reads
 use Rattle.xdr.proofs.read_word.Reads as read-word-reads
 
 read-word-requires : tie.Need-read-word-requires
@@ -24,7 +24,12 @@ same-length : tie.Need-same-length
 same-length c = search needs
 
 returns : tie.Need-returns
-returns c = (c .before .before .before .write-reply .ensures .small, finished _ _ _ _ _ _ _ _ (c .before .before .before .before .before .before .before .before .before .before .args .next) _ _ (c .before .before .before .before .before .before .read-word .ensures) (c .before .before .before .before .before .read-word2 .ensures) (c .before .before .before .write-reply .ensures .put) (c .after-message .ensures))
+returns c = (
+  c .before .before .before .write-reply .ensures .small,
+  finished _ _ _ _ _ _ _ _
+      (c .before .before .before .before .before .before .before .before .before .before .args .next) _ _ (c .before .before .before .before .before .before .read-word .ensures)
+      (c .before .before .before .before .before .read-word2 .ensures) (c .before .before .before .write-reply .ensures .put) (c .after-message .ensures),
+)
 
 pub finish-spec : {M : Type 1} → statement M
 finish-spec =

@@ -6,7 +6,7 @@ use Rattle.answering.proofs.notify.Tie as tie
 use Rattle.answering.proofs.notify.Reads as reads
 use Rattle.answering.proofs.notify.Lts as lts
 use Rattle.replies.proofs.write_notice.Reads as write-notice-reads
-use Rattle.answering.proofs.after_message.Reads as after-message-reads
+use Rattle.session.proofs.types.Session.after_message.Reads as types-Session-after-message-reads
 
 returns : tie.Need-returns
 returns c = (omega arith, λ a image l t. not-noticed _ _ _ a _ image l _ (c .if1 .taken) t)
@@ -21,7 +21,11 @@ same-length : tie.Need-same-length
 same-length c = search needs
 
 returns-2 : tie.Need-returns-2
-returns-2 c = (c .before .before .before .write-notice .ensures .small, λ a image l t. also-noticed _ _ _ a _ image l _ _ _ _ (c .before .before .before .before .before .before .if1 .left) t (c .before .before .before .write-notice .ensures .put) (c .after-message .ensures))
+returns-2 c = (
+  c .before .before .before .write-notice .ensures .small,
+  λ a image l t. also-noticed _ _ _ a _ image l _ _ _ _ (c .before .before .before .before .before .before .if1 .left)
+      t (c .before .before .before .write-notice .ensures .put) (c .after-message .ensures),
+)
 
 pub notify-spec : {M : Type 1} → statement M
 notify-spec =

@@ -1,13 +1,16 @@
-use mathlib.Core.Path.{refl}
 use Rattle.answering.proofs.Calling.{unsent}
 use borrow.Author.Needs.{needs}
 use Rattle.answering.proofs.shut.Statement.{statement}
 use Rattle.answering.proofs.shut.Tie as tie
 use Rattle.answering.proofs.shut.Reads as reads
 use Rattle.answering.proofs.shut.Lts as lts
+use Rattle.session.proofs.types.Session.shuts.Reads as shuts-reads
+
+shuts-requires : tie.Need-shuts-requires
+shuts-requires c κs = search needs
 
 returns : tie.Need-returns
-returns c = λ image l. unsent _ _ _ image l refl
+returns c = λ image l. unsent _ _ _ image l (c .shuts .ensures)
 
 pub shut-spec : {M : Type 1} → statement M
-shut-spec = tie.close (tie.spec returns)
+shut-spec = tie.close (tie.spec shuts-requires returns)

@@ -1,3 +1,4 @@
+-- Marks that pass the capacity are refused; else those written are the definition's, by what the write ensures.
 use native.Mathlib.Omega.{arith}
 use Rattle.cartridge.proofs.Laws.{told-marks, told-no-marks}
 use borrow.Author.Needs.{needs}
@@ -5,11 +6,11 @@ use Rattle.cartridge.proofs.marks.Statement.{statement}
 use Rattle.cartridge.proofs.marks.Tie as tie
 use Rattle.cartridge.proofs.marks.Reads as reads
 use Rattle.cartridge.proofs.marks.Lts as lts
-use Rattle.image.proofs.field.Reads as field-reads
+use Rattle.image.proofs.capacity.Reads as capacity-reads
 use Rattle.writing.proofs.write_marks.Reads as write-marks-reads
 
-field-requires : tie.Need-field-requires
-field-requires c κs = search needs
+capacity-requires : tie.Need-capacity-requires
+capacity-requires c κs = search needs
 
 add-if1 : tie.Need-add-if1
 add-if1 c = search needs
@@ -36,7 +37,7 @@ pub marks-spec : {M : Type 1} → statement M
 marks-spec =
     tie.close
     (tie.spec
-    field-requires
+    capacity-requires
     add-if1
     same-length
     returns

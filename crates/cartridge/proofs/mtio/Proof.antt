@@ -1,3 +1,4 @@
+-- Each return is the test of `mtioStep` that applies there; marks and spacing run where there is no fault.
 use Rattle.xdr.proofs.Tests.{asked, ltb-no, eqb-yes, eqb-no}
 use Rattle.cartridge.proofs.Telling.{told-if, told-else}
 use native.Mathlib.Omega.{arith}
@@ -39,7 +40,10 @@ same-length-2 c = search needs
 
 returns-4 : tie.Need-returns-4
 unfolding mtioStep
-returns-4 c = told-else _ (ltb-no (c .before .before .before .before .before .before .before .before .before .if1 .left)) (told-else _ (eqb-no (c .before .before .before .before .before .before .before .before .if2 .left)) (told-else _ (asked (c .before .before .before .before .before .before .is-faulty .ensures) (c .before .before .before .before .before .if3 .left)) (told-if _ (eqb-yes (c .before .before .before .before .if4 .taken)) (c .before .before .marks .ensures))))
+returns-4 c =
+    let d = c .before .before .before .before in
+    told-else _ (ltb-no (d .before .before .before .before .before .if1 .left)) (told-else _ (eqb-no (d .before .before .before .before .if2 .left))
+    (told-else _ (asked (d .before .before .is-faulty .ensures) (d .before .if3 .left)) (told-if _ (eqb-yes (d .if4 .taken)) (c .before .before .marks .ensures))))
 
 same-length-3 : tie.Need-same-length-3
 same-length-3 c = search needs

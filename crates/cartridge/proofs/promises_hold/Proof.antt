@@ -1,3 +1,4 @@
+-- The promises are the theorems of `Promises`, one for each field.
 use Rattle.cartridge.proofs.Promises.{promises}
 use Rattle.cartridge.proofs.promises_hold.Statement.{statement}
 use Rattle.cartridge.proofs.promises_hold.Tie as tie

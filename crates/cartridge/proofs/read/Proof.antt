@@ -1,3 +1,4 @@
+-- Each return is the test of `readPart` that applies there; the entry is read where there is no fault.
 use Rattle.xdr.proofs.Tests.{picking}
 use Rattle.cartridge.specs.Operations.{readPart}
 use Rattle.cartridge.proofs.Laws.{no-fault-here}

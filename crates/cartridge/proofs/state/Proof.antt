@@ -1,3 +1,4 @@
+-- A fault is the first test; else the place is what `place_of` ensures.
 use Rattle.cartridge.proofs.Laws.{standing-is}
 use Rattle.xdr.proofs.Tests.{asked, pick-else}
 use Rattle.xdr.proofs.Tests.{picking}

@@ -1,3 +1,4 @@
+-- Each return is the test of `writeStep` that applies there, the last two by whether there was room.
 use Rattle.xdr.proofs.Tests.{asked, ltb-no, eqb-no}
 use Rattle.cartridge.proofs.Telling.{told-else}
 use native.Mathlib.Omega.{arith}
@@ -47,14 +48,20 @@ same-length-3 c = search needs
 
 returns-4 : tie.Need-returns-4
 unfolding writeStep
-returns-4 c = told-else _ (ltb-no (c .before .before .before .before .before .before .before .before .before .if1 .left)) (told-else _ (asked (c .before .before .before .before .before .before .before .is-faulty .ensures) (c .before .before .before .before .before .before .if2 .left)) (told-else _ (eqb-no (c .before .before .before .before .before .if3 .left)) (told-room _ _ _ _ _ (c .before .before .before .write-filled .ensures) (c .if4 .taken))))
+returns-4 c =
+    let d = c .before .before .before .before .before in
+    told-else _ (ltb-no (d .before .before .before .before .if1 .left)) (told-else _ (asked (d .before .before .is-faulty .ensures) (d .before .if2 .left))
+    (told-else _ (eqb-no (d .if3 .left)) (told-room _ _ _ _ _ (c .before .before .before .write-filled .ensures) (c .if4 .taken))))
 
 same-length-4 : tie.Need-same-length-4
 same-length-4 c = search needs
 
 returns-5 : tie.Need-returns-5
 unfolding writeStep
-returns-5 c = told-else _ (ltb-no (c .before .before .before .before .before .before .before .before .before .if1 .left)) (told-else _ (asked (c .before .before .before .before .before .before .before .is-faulty .ensures) (c .before .before .before .before .before .before .if2 .left)) (told-else _ (eqb-no (c .before .before .before .before .before .if3 .left)) (told-full _ _ _ _ _ (c .before .before .before .write-filled .ensures) (c .if4 .left))))
+returns-5 c =
+    let d = c .before .before .before .before .before in
+    told-else _ (ltb-no (d .before .before .before .before .if1 .left)) (told-else _ (asked (d .before .before .is-faulty .ensures) (d .before .if2 .left))
+    (told-else _ (eqb-no (d .if3 .left)) (told-full _ _ _ _ _ (c .before .before .before .write-filled .ensures) (c .if4 .left))))
 
 pub write-spec : {M : Type 1} → statement M
 write-spec =

@@ -1,3 +1,4 @@
+-- The first test chooses between the second text's test and false, as `matches` does.
 use Rattle.xdr.proofs.Tests.{asked, pick-if, pick-else}
 use mathlib.Core.Path.{refl}
 use Rattle.session.specs.Connection.{matches}

@@ -1,3 +1,5 @@
+-- The bytes that were compared are the text's own, by the law `named`.
+use denote.Ref.{now}
 use Rattle.session.proofs.Serving.{named}
 use borrow.Author.Needs.{needs}
 use Rattle.connection.proofs.is_text.Statement.{statement}
@@ -22,7 +24,7 @@ same-requires : tie.Need-same-requires
 same-requires c κs = search needs
 
 returns : tie.Need-returns
-returns c = named _ _ _ _ (c .same .ensures)
+returns c = let a = c .before .before .before .before .before .args in named (now (a .body)) (a .t) (now (a .wanted)) _ (c .same .ensures)
 
 pub is-text-spec : {M : Type 1} → statement M
 is-text-spec =

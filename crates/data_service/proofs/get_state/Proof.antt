@@ -1,3 +1,5 @@
+use Rattle.session.specs.Judge.{judge}
+use Rattle.session.specs.DataService.{dataState}
 use borrow.Author.Needs.{needs}
 use Rattle.data_service.proofs.get_state.Statement.{statement}
 use Rattle.data_service.proofs.get_state.Tie as tie
@@ -8,6 +10,7 @@ told-in-requires : tie.Need-told-in-requires
 told-in-requires c κs = search needs
 
 returns : tie.Need-returns
+unfolding dataState judge
 returns c = cc
 
 pub get-state-spec : {M : Type 1} → statement M

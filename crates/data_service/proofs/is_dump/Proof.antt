@@ -1,8 +1,7 @@
+-- The bytes that were compared are the text's own, by the law `named`.
 use denote.Ref.{now}
 use Rattle.session.proofs.Serving.{named}
-use lib.ListN.{length, take, drop}
-use native.Mathlib.Omega.{arith}
-use Rattle.session.specs.DataService.{textOf, dump}
+use Rattle.session.specs.DataService.{dump}
 use borrow.Author.Needs.{needs}
 use Rattle.data_service.proofs.is_dump.Statement.{statement}
 use Rattle.data_service.proofs.is_dump.Tie as tie
@@ -30,7 +29,7 @@ same-requires c κs = search needs
 
 returns : tie.Need-returns
 unfolding dump
-returns c = named _ _ _ _ (c .same .ensures)
+returns c = let a = c .before .before .before .before .before .args in named (now (a .body)) (a .name) dump _ (c .same .ensures)
 
 pub is-dump-spec : {M : Type 1} → statement M
 is-dump-spec =

@@ -1,6 +1,6 @@
+-- The accepted state is put for what `goes` gave, behind the tests.
 use Rattle.xdr.proofs.Tests.{picking}
 use Rattle.session.specs.Judge.{judge}
-use mathlib.Core.Path.{refl}
 use Rattle.session.specs.DataService.{dataListen}
 use borrow.Author.Needs.{needs}
 use Rattle.data_service.proofs.listen.Statement.{statement}

@@ -1,5 +1,6 @@
-use Rattle.session.specs.Judge.{judge}
-use Rattle.session.specs.DataService.{dataStep, DataTexts}
+-- Each arm is its function's promise, with q replaced by the variant; the requires gives the text of a start so too.
+use Rattle.requests.specs.Within.{textsWithin}
+use Rattle.session.specs.DataService.{dataStep}
 use borrow.Author.Needs.{needs}
 use Rattle.data_service.proofs.serve.Statement.{statement}
 use Rattle.data_service.proofs.serve.Tie as tie
@@ -16,7 +17,7 @@ enum-known-q : tie.Need-enum-known-q
 enum-known-q c = search needs
 
 is-dump-requires : tie.Need-is-dump-requires
-unfolding DataTexts
+unfolding textsWithin
 is-dump-requires c κs = rw (c .before .q .given .1) at (c .before .before .before .before .pre)
 
 start-requires : tie.Need-start-requires
@@ -26,7 +27,7 @@ enum-known-q-2 : tie.Need-enum-known-q-2
 enum-known-q-2 c = search needs
 
 is-dump-requires-2 : tie.Need-is-dump-requires-2
-unfolding DataTexts
+unfolding textsWithin
 is-dump-requires-2 c κs = rw (c .before .q2 .given .1) at (c .before .before .before .before .pre)
 
 start-requires-2 : tie.Need-start-requires-2
@@ -45,7 +46,7 @@ listen-requires : tie.Need-listen-requires
 listen-requires c κs = search needs
 
 returns : tie.Need-returns
-unfolding dataStep judge
+unfolding dataStep
 returns c = rw (c .before .enum-told .given .1) (c .get-state .ensures)
 
 returns-2 : tie.Need-returns-2

@@ -1,3 +1,4 @@
+-- The accepted state is put for what `starts` gave, behind the tests.
 use Rattle.xdr.proofs.Tests.{picking}
 use Rattle.session.specs.Judge.{judge}
 use Rattle.session.specs.DataService.{dataStart}
@@ -15,9 +16,12 @@ returns-2 : tie.Need-returns-2
 unfolding dataStart judge
 returns-2 c = search picking depth 8
 
+starts-requires : tie.Need-starts-requires
+starts-requires c κs = search needs
+
 returns-3 : tie.Need-returns-3
 unfolding dataStart judge
-returns-3 c = search picking depth 10
+returns-3 c = rw (c .starts .ensures) (search picking depth 10)
 
 pub start-spec : {M : Type 1} → statement M
 start-spec =
@@ -25,4 +29,5 @@ start-spec =
     (tie.spec
     returns
     returns-2
+    starts-requires
     returns-3)

@@ -1,3 +1,4 @@
+-- The accepted state is put for what `rests` gave, behind the tests.
 use Rattle.xdr.proofs.Tests.{picking}
 use Rattle.session.specs.Judge.{judge}
 use Rattle.session.specs.DataService.{dataStop}
@@ -11,13 +12,17 @@ returns : tie.Need-returns
 unfolding dataStop judge
 returns c = search picking depth 8
 
+rests-requires : tie.Need-rests-requires
+rests-requires c κs = search needs
+
 returns-2 : tie.Need-returns-2
 unfolding dataStop judge
-returns-2 c = search picking depth 8
+returns-2 c = rw (c .rests .ensures) (search picking depth 10)
 
 pub stop-spec : {M : Type 1} → statement M
 stop-spec =
     tie.close
     (tie.spec
     returns
+    rests-requires
     returns-2)

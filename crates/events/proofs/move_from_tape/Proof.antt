@@ -1,43 +1,40 @@
-use Rattle.events.proofs.Telling.{moved-if, moved-else}
-use Rattle.moves.specs.Events.{guarded, movedFromTape}
-use Rattle.xdr.proofs.Tests.{ltb-yes, ltb-no, asked-not, yes, asked}
-use mathlib.Core.Path.{sym, _∙_}
+use denote.Ref.{now}
+use mathlib.Core.Path.{refl, sym, _∙_}
 use native.Mathlib.Omega.{arith}
+use lib.ListN.{length}
+use Rattle.session.specs.Answer.{held}
+use Rattle.moves.specs.Events.{stamped}
+use Rattle.session.proofs.Guarding.{guard-goes}
+use Rattle.events.proofs.Telling.{from-stopped, from-goes}
 use borrow.Author.Needs.{needs}
 use Rattle.events.proofs.move_from_tape.Statement.{statement}
 use Rattle.events.proofs.move_from_tape.Tie as tie
 use Rattle.events.proofs.move_from_tape.Reads as reads
 use Rattle.events.proofs.move_from_tape.Lts as lts
-use Rattle.events.proofs.hand.Reads as hand-reads
-use Rattle.events.proofs.unmoved.Reads as unmoved-reads
-use Rattle.relation.proofs.is_kept.Reads as is-kept-reads
+
+guard-requires : tie.Need-guard-requires
+guard-requires c κs = search needs
+
+enum-known-guard : tie.Need-enum-known-guard
+enum-known-guard c = search needs
 
 unmoved-requires : tie.Need-unmoved-requires
 unmoved-requires c κs = search needs
 
 returns : tie.Need-returns
-unfolding movedFromTape guarded
-returns c = moved-if _ (ltb-yes (c .before .if1 .taken)) (c .unmoved .ensures _ _ _)
+returns c =
+    let c8 = c .before .before .before .before .before .before .before .before in
+    let a = c8 .args in
+    from-stopped (held (a .s) (now (a .image))) (stamped (a .time) (length (now (a .out)))) (now (a .dest)) _
+    (sym (c .before .before .guard2 .given .1) ∙ c .before .before .before .before .guard .ensures) (c .unmoved .ensures _ _ _)
 
-is-kept-requires : tie.Need-is-kept-requires
-is-kept-requires c κs = search needs
-
-unmoved-requires-2 : tie.Need-unmoved-requires-2
-unmoved-requires-2 c κs = search needs
-
-returns-2 : tie.Need-returns-2
-unfolding movedFromTape guarded
-returns-2 c = moved-else _ (ltb-no (c .before .before .before .if1 .left)) (moved-if _ (asked-not (c .before .before .is-kept .ensures) (c .before .if2 .taken)) (c .unmoved2 .ensures _ _ _))
-
-unmoved-requires-3 : tie.Need-unmoved-requires-3
-unmoved-requires-3 c κs = search needs
-
-returns-3 : tie.Need-returns-3
-unfolding movedFromTape guarded
-returns-3 c = moved-else _ (ltb-no (c .before .before .before .before .if1 .left)) (moved-else _ (asked-not (c .before .before .before .is-kept .ensures) (c .before .before .if2 .left)) (moved-if _ (c .before .if3 .taken) (c .unmoved3 .ensures _ _ _)))
+enum-told : tie.Need-enum-told
+enum-told c = search needs
 
 hand-requires : tie.Need-hand-requires
-hand-requires c κs = (yes (asked-not (c .before .before .before .before .is-kept .ensures) (c .before .before .before .if2 .left)), omega (arith, c .before .before .before .before .before .if1 .left))
+hand-requires c κs =
+    let g = guard-goes _ _ (sym (c .before .before .enum-told .given .1) ∙ c .before .before .before .before .guard .ensures) in
+    (g .valid, omega (arith, g .roomy))
 
 same-length : tie.Need-same-length
 same-length c = search needs
@@ -45,22 +42,23 @@ same-length c = search needs
 same-length-2 : tie.Need-same-length-2
 same-length-2 c = search needs
 
-returns-4 : tie.Need-returns-4
-unfolding movedFromTape guarded
-returns-4 c = moved-else _ (ltb-no (c .before .before .before .before .before .before .before .before .before .before .if1 .left)) (moved-else _ (asked-not (c .before .before .before .before .before .before .before .before .before .is-kept .ensures) (c .before .before .before .before .before .before .before .before .if2 .left)) (moved-else _ (c .before .before .before .before .before .before .before .if3 .left) (c .before .before .before .before .hand .ensures)))
+returns-2 : tie.Need-returns-2
+returns-2 c =
+    let c8 = c .before .before .before .before .before .before .before .before in
+    let a = c8 .before .before .before .before .before .args in
+    from-goes (held (a .s) (now (a .image))) (stamped (a .time) (length (now (a .out)))) (now (a .dest))
+    (sym (c .before .before .before .before .before .before .before .enum-told .given .1) ∙ c8 .before .guard .ensures) (c .before .before .before .before .hand .ensures)
 
 pub move-from-tape-spec : {M : Type 1} → statement M
 move-from-tape-spec =
     tie.close
     (tie.spec
+    guard-requires
+    enum-known-guard
     unmoved-requires
     returns
-    is-kept-requires
-    unmoved-requires-2
-    returns-2
-    unmoved-requires-3
-    returns-3
+    enum-told
     hand-requires
     same-length
     same-length-2
-    returns-4)
+    returns-2)

@@ -1,10 +1,10 @@
 use mathlib.Core.Path.{refl}
+use native.Mathlib.Omega.{arith}
 use borrow.Author.Needs.{needs}
 use Rattle.events.proofs.report.Statement.{statement}
 use Rattle.events.proofs.report.Tie as tie
 use Rattle.events.proofs.report.Reads as reads
 use Rattle.events.proofs.report.Lts as lts
-use Rattle.events.proofs.announce.Reads as announce-reads
 
 announce-requires : tie.Need-announce-requires
 announce-requires c κs = search needs
@@ -13,7 +13,12 @@ same-length : tie.Need-same-length
 same-length c = search needs
 
 returns : tie.Need-returns
-returns c = λ image dest. record { call = c .before .before .before .announce .ensures image; count = refl; dest = refl }
+returns c = λ before image dest. record { call = c .before .before .before .announce .ensures before image; count = refl; dest = refl }
 
 pub report-spec : {M : Type 1} → statement M
-report-spec = tie.close (tie.spec announce-requires same-length returns)
+report-spec =
+    tie.close
+    (tie.spec
+    announce-requires
+    same-length
+    returns)

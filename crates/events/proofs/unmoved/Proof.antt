@@ -1,5 +1,6 @@
 use Rattle.answering.proofs.Calling.{unsent}
 use mathlib.Core.Path.{refl}
+use borrow.Author.Needs.{needs}
 use Rattle.events.proofs.unmoved.Statement.{statement}
 use Rattle.events.proofs.unmoved.Tie as tie
 use Rattle.events.proofs.unmoved.Reads as reads
@@ -9,4 +10,7 @@ returns : tie.Need-returns
 returns c = λ image dest l. record { call = unsent _ _ _ image l refl; count = refl; dest = refl }
 
 pub unmoved-spec : {M : Type 1} → statement M
-unmoved-spec = tie.close (tie.spec returns)
+unmoved-spec =
+    tie.close
+    (tie.spec
+    returns)

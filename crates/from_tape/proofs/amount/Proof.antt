@@ -1,3 +1,4 @@
+-- The amount is the least of three by the callees' contracts, and its bounds follow by arithmetic.
 use native.Mathlib.Omega.{arith}
 use Rattle.moves.specs.Moves.{amount}
 use borrow.Author.Needs.{needs}
@@ -5,7 +6,7 @@ use Rattle.from_tape.proofs.amount.Statement.{statement}
 use Rattle.from_tape.proofs.amount.Tie as tie
 use Rattle.from_tape.proofs.amount.Reads as reads
 use Rattle.from_tape.proofs.amount.Lts as lts
-use Rattle.cartridge.proofs.lesser.Reads as lesser-reads
+use Rattle.xdr.proofs.lesser_len.Reads as lesser-len-reads
 use Rattle.from_tape.proofs.into_record.Reads as into-record-reads
 
 cast-size : tie.Need-cast-size
@@ -17,17 +18,17 @@ into-record-requires c κs = search needs
 sub-rest : tie.Need-sub-rest
 sub-rest c = search needs
 
-lesser-requires : tie.Need-lesser-requires
-lesser-requires c κs = search needs
+lesser-len-requires : tie.Need-lesser-len-requires
+lesser-len-requires c κs = search needs
 
-lesser-requires-2 : tie.Need-lesser-requires-2
-lesser-requires-2 c κs = search needs
+lesser-len-requires-2 : tie.Need-lesser-len-requires-2
+lesser-len-requires-2 c κs = search needs
 
 returns : tie.Need-returns
 unfolding amount
-returns c = record { is = cc; asked = omega arith; roomy = omega arith; rest = omega arith }
+returns c = record { is = cc; owed = omega arith; roomy = omega arith; rest = omega arith }
 
 pub amount-spec : {M : Type 1} → statement M
 amount-spec =
     tie.close
-    (tie.spec cast-size into-record-requires sub-rest lesser-requires lesser-requires-2 returns)
+    (tie.spec cast-size into-record-requires sub-rest lesser-len-requires lesser-len-requires-2 returns)

@@ -1,3 +1,4 @@
+-- What is left of the walk from the origin is invariant, and the entries ahead get fewer; each way out is a case of the walk.
 use native.Mathlib.Omega.{arith}
 use borrow.Author.Needs.{needs}
 use Rattle.from_tape.proofs.Walk.{Walking, turn, found-end, found-mark, found-target}
@@ -5,7 +6,7 @@ use Rattle.from_tape.proofs.find_record.Statement.{statement}
 use Rattle.from_tape.proofs.find_record.Tie as tie
 use Rattle.from_tape.proofs.find_record.Reads as reads
 use Rattle.from_tape.proofs.find_record.Lts as lts
-use Rattle.image.proofs.field.Reads as field-reads
+use Rattle.image.proofs.entry_len.Reads as entry-len-reads
 
 abbrev Inv-loop : tie.InvT-loop
 Inv-loop image n origin k at₀ left₀ rest₀ at left rest = Walking image n origin k at left rest
@@ -19,17 +20,11 @@ sub-rest c = search needs
 loop-holds : tie.Need-loop-holds Inv-loop μ-loop
 loop-holds c = search needs
 
-mul-field : tie.Need-mul-field Inv-loop μ-loop
-mul-field c = search needs
+entry-len-requires : tie.Need-entry-len-requires Inv-loop μ-loop
+entry-len-requires c κs = search needs
 
-add-field : tie.Need-add-field Inv-loop μ-loop
-add-field c = search needs
-
-field-requires : tie.Need-field-requires Inv-loop μ-loop
-field-requires c κs = search needs
-
-add-t13 : tie.Need-add-t13 Inv-loop μ-loop
-add-t13 c = search needs
+add-t11 : tie.Need-add-t11 Inv-loop μ-loop
+add-t11 c = search needs
 
 add-at : tie.Need-add-at Inv-loop μ-loop
 add-at c = search needs
@@ -63,10 +58,8 @@ find-record-spec =
     μ-loop
     sub-rest
     loop-holds
-    mul-field
-    add-field
-    field-requires
-    add-t13
+    entry-len-requires
+    add-t11
     add-at
     sub-left
     sub-rest-2

@@ -1,3 +1,4 @@
+-- Each return is the rule that applies there, found by its tests; the walk may begin, since the mover runs and the tape has no fault.
 use Rattle.xdr.proofs.Tests.{asked}
 use Rattle.moves.specs.Moves.{fromTape}
 use Rattle.from_tape.proofs.Handing.{handing, seekable}
@@ -49,7 +50,9 @@ returns-4 c = search handing depth 15
 seek-back-requires : tie.Need-seek-back-requires
 seek-back-requires c κs =
     let s = c .before .before .before .before .before .before .before .before .before .before in
-    seekable (s .args .d) (s .args .m) (s .args .t) _ (s .pre) (asked (c .before .before .before .before .before .before .before .is-idle .ensures) (c .before .before .before .before .before .before .if1 .left)) (asked (c .before .before .before .before .before .is-faulty .ensures) (c .before .before .before .before .if2 .left))
+    let busy = asked (c .before .before .before .before .before .before .before .is-idle .ensures) (c .before .before .before .before .before .before .if1 .left) in
+    let fine = asked (c .before .before .before .before .before .is-faulty .ensures) (c .before .before .before .before .if2 .left) in
+    seekable (s .args .d) (s .args .m) (s .args .t) _ (s .pre) busy fine
 
 same-length : tie.Need-same-length
 same-length c = search needs

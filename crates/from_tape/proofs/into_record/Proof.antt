@@ -1,3 +1,4 @@
+-- The place in the record is a remainder, and less than its divisor.
 use mathlib.Core.Path.{refl}
 use native.Mathlib.Nat.{mod-lt}
 use borrow.Author.Needs.{needs}

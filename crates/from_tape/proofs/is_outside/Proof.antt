@@ -1,3 +1,4 @@
+-- Each return is a case of the tests, by arithmetic.
 use native.Mathlib.Omega.{arith}
 use Rattle.from_tape.proofs.Handing.{before-it, in-it, after-it}
 use borrow.Author.Needs.{needs}

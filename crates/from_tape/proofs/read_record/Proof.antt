@@ -1,3 +1,4 @@
+-- A wrong length is the fault's halt; else the bytes copied are those of the record from the place in it on.
 use Prim.Native.Nat.{_+_}
 use denote.Ref.{now}
 use native.Mathlib.Omega.{arith}
@@ -10,7 +11,7 @@ use Rattle.from_tape.proofs.read_record.Lts as lts
 use Rattle.from_tape.proofs.amount.Reads as amount-reads
 use Rattle.from_tape.proofs.into_record.Reads as into-record-reads
 use Rattle.from_tape.proofs.record_start.Reads as record-start-reads
-use Rattle.image.proofs.field.Reads as field-reads
+use Rattle.image.proofs.entry_len.Reads as entry-len-reads
 use Rattle.moves.proofs.halt_both.Reads as halt-both-reads
 use Rattle.moves.proofs.hand_over.Reads as hand-over-reads
 use Rattle.xdr.proofs.copy_blocks.Reads as copy-blocks-reads
@@ -18,14 +19,8 @@ use Rattle.xdr.proofs.copy_blocks.Reads as copy-blocks-reads
 cast-size : tie.Need-cast-size
 cast-size c = search needs
 
-mul-field : tie.Need-mul-field
-mul-field c = search needs
-
-add-field : tie.Need-add-field
-add-field c = search needs
-
-field-requires : tie.Need-field-requires
-field-requires c κs = search needs
+entry-len-requires : tie.Need-entry-len-requires
+entry-len-requires c κs = search needs
 
 halt-both-requires : tie.Need-halt-both-requires
 halt-both-requires c κs = search needs
@@ -71,16 +66,17 @@ returns-2 c =
     let a = c .before .before .before .before .before .before .before .before .before .before .before .before .before .before .args in
     let n = c .before .before .before .before .before .before .before .amount in
     let begin = c .before .before .before .before .before .before .record-start .result + c .before .before .before .before .before .before .before .before .into-record .result in
-    read-right (a .i) (a .d) (a .m) (a .t) (now (a .image)) (now (a .dest)) _ _ (n .result) begin (omega arith) (n .ensures .is) (n .ensures .rest) (omega arith) (c .before .before .before .copy-blocks .ensures) (c .hand-over .ensures)
+    let copied = c .before .before .before .copy-blocks .ensures in
+    let handed = c .hand-over .ensures in
+    read-right (a .i) (a .d) (a .m) (a .t) (now (a .image)) (now (a .dest)) _ _ (n .result) begin (omega arith) (n .ensures .is) (n .ensures .rest) (omega arith)
+    copied handed
 
 pub read-record-spec : {M : Type 1} → statement M
 read-record-spec =
     tie.close
     (tie.spec
     cast-size
-    mul-field
-    add-field
-    field-requires
+    entry-len-requires
     halt-both-requires
     returns
     into-record-requires

@@ -1,3 +1,4 @@
+-- A record of a sound image lies in it, so that no sum is too large.
 use denote.Ref.{now}
 use native.Mathlib.Omega.{arith}
 use Rattle.cartridge.proofs.Reading.{entry-within}
@@ -6,28 +7,17 @@ use Rattle.from_tape.proofs.record_start.Statement.{statement}
 use Rattle.from_tape.proofs.record_start.Tie as tie
 use Rattle.from_tape.proofs.record_start.Reads as reads
 use Rattle.from_tape.proofs.record_start.Lts as lts
-use Rattle.image.proofs.field.Reads as field-reads
+use Rattle.image.proofs.body_at.Reads as body-at-reads
+use Rattle.image.proofs.entry_start.Reads as entry-start-reads
 
-field-requires : tie.Need-field-requires
-field-requires c κs = search needs
+body-at-requires : tie.Need-body-at-requires
+body-at-requires c κs = search needs
 
-mul-result : tie.Need-mul-result
-mul-result c = search needs
+entry-start-requires : tie.Need-entry-start-requires
+entry-start-requires c κs = search needs
 
 add-result : tie.Need-add-result
 add-result c = search needs
-
-mul-field : tie.Need-mul-field
-mul-field c = search needs
-
-add-field : tie.Need-add-field
-add-field c = search needs
-
-field-requires-2 : tie.Need-field-requires-2
-field-requires-2 c κs = search needs
-
-add-result-2 : tie.Need-add-result-2
-add-result-2 c = search needs
 
 returns : tie.Need-returns
 returns c =
@@ -40,11 +30,7 @@ pub record-start-spec : {M : Type 1} → statement M
 record-start-spec =
     tie.close
     (tie.spec
-    field-requires
-    mul-result
+    body-at-requires
+    entry-start-requires
     add-result
-    mul-field
-    add-field
-    field-requires-2
-    add-result-2
     returns)

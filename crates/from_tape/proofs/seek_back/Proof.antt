@@ -1,3 +1,4 @@
+-- Each return by its test; a seek position that is not outside the window is not before it.
 use Rattle.xdr.proofs.Tests.{asked}
 use Rattle.moves.specs.Moves.{seeking}
 use Rattle.from_tape.proofs.Handing.{handing, inside}

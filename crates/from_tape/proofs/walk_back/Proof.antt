@@ -1,3 +1,4 @@
+-- Each return by what the walk found; a record that it found is an entry of the table.
 use denote.Ref.{now}
 use Rattle.from_tape.proofs.Walk.{target-in}
 use Rattle.from_tape.proofs.Handing.{on-target, on-mark, on-end}
@@ -9,10 +10,10 @@ use Rattle.from_tape.proofs.walk_back.Lts as lts
 use Rattle.from_tape.proofs.find_record.Reads as find-record-reads
 use Rattle.from_tape.proofs.pause_there.Reads as pause-there-reads
 use Rattle.from_tape.proofs.read_record.Reads as read-record-reads
-use Rattle.image.proofs.field.Reads as field-reads
+use Rattle.image.proofs.count.Reads as count-reads
 
-field-requires : tie.Need-field-requires
-field-requires c κs = search needs
+count-requires : tie.Need-count-requires
+count-requires c κs = search needs
 
 sub-k : tie.Need-sub-k
 sub-k c = search needs
@@ -62,7 +63,7 @@ pub walk-back-spec : {M : Type 1} → statement M
 walk-back-spec =
     tie.close
     (tie.spec
-    field-requires
+    count-requires
     sub-k
     cast-k
     div-k

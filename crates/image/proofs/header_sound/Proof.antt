@@ -1,3 +1,4 @@
+-- Each return false breaks a fact of a sound header; the last has them all.
 use borrow.Author.Needs.{needs}
 use native.Mathlib.Omega.{arith}
 use Rattle.xdr.proofs.Tests.{no}
@@ -6,7 +7,11 @@ use Rattle.image.proofs.header_sound.Statement.{statement}
 use Rattle.image.proofs.header_sound.Tie as tie
 use Rattle.image.proofs.header_sound.Reads as reads
 use Rattle.image.proofs.header_sound.Lts as lts
+use Rattle.image.proofs.body_at.Reads as body-at-reads
+use Rattle.image.proofs.capacity.Reads as capacity-reads
+use Rattle.image.proofs.count.Reads as count-reads
 use Rattle.image.proofs.field.Reads as field-reads
+use Rattle.image.proofs.used_bytes.Reads as used-bytes-reads
 
 returns : tie.Need-returns
 returns c = no _ (λ h. let f = header-facts _ h in omega arith)
@@ -14,20 +19,17 @@ returns c = no _ (λ h. let f = header-facts _ h in omega arith)
 field-requires : tie.Need-field-requires
 field-requires c κs = search needs
 
-field-requires-2 : tie.Need-field-requires-2
-field-requires-2 c κs = search needs
+capacity-requires : tie.Need-capacity-requires
+capacity-requires c κs = search needs
 
-field-requires-3 : tie.Need-field-requires-3
-field-requires-3 c κs = search needs
+count-requires : tie.Need-count-requires
+count-requires c κs = search needs
 
-field-requires-4 : tie.Need-field-requires-4
-field-requires-4 c κs = search needs
+used-bytes-requires : tie.Need-used-bytes-requires
+used-bytes-requires c κs = search needs
 
-mul-body : tie.Need-mul-body
-mul-body c = search needs
-
-add-body : tie.Need-add-body
-add-body c = search needs
+body-at-requires : tie.Need-body-at-requires
+body-at-requires c κs = search needs
 
 returns-2 : tie.Need-returns-2
 returns-2 c = no _ (λ h. let f = header-facts _ h in omega arith)
@@ -65,11 +67,10 @@ header-sound-spec =
     (tie.spec
     returns
     field-requires
-    field-requires-2
-    field-requires-3
-    field-requires-4
-    mul-body
-    add-body
+    capacity-requires
+    count-requires
+    used-bytes-requires
+    body-at-requires
     returns-2
     returns-3
     returns-4

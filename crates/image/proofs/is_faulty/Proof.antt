@@ -1,3 +1,4 @@
+-- Each return is a case of `faulty`, by what `sound` gave and the test of the position.
 use borrow.Author.Needs.{needs}
 use mathlib.Core.Path.{_≡_}
 use mathlib.Core.Bool.{true}
@@ -10,7 +11,7 @@ use Rattle.image.proofs.is_faulty.Statement.{statement}
 use Rattle.image.proofs.is_faulty.Tie as tie
 use Rattle.image.proofs.is_faulty.Reads as reads
 use Rattle.image.proofs.is_faulty.Lts as lts
-use Rattle.image.proofs.field.Reads as field-reads
+use Rattle.image.proofs.count.Reads as count-reads
 use Rattle.image.proofs.sound.Reads as sound-reads
 
 sound-requires : tie.Need-sound-requires
@@ -19,8 +20,8 @@ sound-requires c κs = search needs
 sound-here : (c : tie.Then1) → isSound (now (c .before .before .before .args .image)) ≡ true
 sound-here c = cc
 
-field-requires : tie.Need-field-requires
-field-requires c κs = let f = sound-facts _ (sound-here c) in omega arith
+count-requires : tie.Need-count-requires
+count-requires c κs = let f = sound-facts _ (sound-here c) in omega arith
 
 returns : tie.Need-returns
 returns c = fault-above _ _ (sound-here (c .before .before)) (omega arith)
@@ -32,4 +33,4 @@ returns-3 : tie.Need-returns-3
 returns-3 c = fault-unsound _ _ (cc)
 
 pub is-faulty-spec : {M : Type 1} → statement M
-is-faulty-spec = tie.close (tie.spec sound-requires field-requires returns returns-2 returns-3)
+is-faulty-spec = tie.close (tie.spec sound-requires count-requires returns returns-2 returns-3)

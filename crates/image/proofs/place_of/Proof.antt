@@ -1,3 +1,4 @@
+-- The marks and the records since the last, up to entry i, are invariant; each turn is a law for a mark or a record.
 use Prim.Native.Nat.{ℕ, suc, _+_, _-_, _*_, _≤_, _<_}
 use mathlib.Core.Path.{_≡_, refl, sym, ap, _∙_}
 use native.Mathlib.Omega.{arith}
@@ -9,7 +10,7 @@ use Rattle.image.proofs.place_of.Statement.{statement}
 use Rattle.image.proofs.place_of.Tie as tie
 use Rattle.image.proofs.place_of.Reads as reads
 use Rattle.image.proofs.place_of.Lts as lts
-use Rattle.image.proofs.field.Reads as field-reads
+use Rattle.image.proofs.entry_len.Reads as entry-len-reads
 
 abbrev Inv-loop : tie.InvT-loop
 Inv-loop image position file₀ block₀ i₀ file block i =
@@ -22,14 +23,8 @@ loop-holds : tie.Need-loop-holds Inv-loop μ-loop
 unfolding marksBefore recordsSince
 loop-holds c = (search needs, search needs, search needs, refl, refl)
 
-mul-field : tie.Need-mul-field Inv-loop μ-loop
-mul-field c = search needs
-
-add-field : tie.Need-add-field Inv-loop μ-loop
-add-field c = search needs
-
-field-requires : tie.Need-field-requires Inv-loop μ-loop
-field-requires c κs = search needs
+entry-len-requires : tie.Need-entry-len-requires Inv-loop μ-loop
+entry-len-requires c κs = search needs
 
 add-i : tie.Need-add-i Inv-loop μ-loop
 add-i c = search needs
@@ -70,9 +65,7 @@ place-of-spec =
     Inv-loop
     μ-loop
     loop-holds
-    mul-field
-    add-field
-    field-requires
+    entry-len-requires
     add-i
     add-file
     loop-less

@@ -1,3 +1,4 @@
+-- The header is judged first, and shows that the table can be read; then the table decides.
 use borrow.Author.Needs.{needs}
 use mathlib.Core.Path.{_≡_, sym}
 use mathlib.Core.Bool.{true}
@@ -12,7 +13,8 @@ use Rattle.image.proofs.sound.Reads as reads
 use Rattle.image.proofs.sound.Lts as lts
 use Rattle.image.proofs.header_sound.Reads as header-sound-reads
 use Rattle.image.proofs.table_sound.Reads as table-sound-reads
-use Rattle.image.proofs.field.Reads as field-reads
+use Rattle.image.proofs.count.Reads as count-reads
+use Rattle.image.proofs.used_bytes.Reads as used-bytes-reads
 
 header-sound-requires : tie.Need-header-sound-requires
 header-sound-requires c κs = search needs
@@ -23,14 +25,14 @@ ok c = cc
 facts : (c : tie.Then1) → Header (now (c .before .before .before .args .image))
 facts c = header-facts _ (ok c)
 
-field-requires : tie.Need-field-requires
-field-requires c κs = let f = facts c in omega arith
+count-requires : tie.Need-count-requires
+count-requires c κs = let f = facts c in omega arith
 
-field-requires-2 : tie.Need-field-requires-2
-field-requires-2 c κs = let f = facts (c .before) in omega arith
+used-bytes-requires : tie.Need-used-bytes-requires
+used-bytes-requires c κs = let f = facts (c .before) in omega arith
 
 table-sound-requires : tie.Need-table-sound-requires
-table-sound-requires c κs = let f = facts (c .before .before) in omega arith
+table-sound-requires c κs = let f = facts (c .before .before) in record { few = omega arith; whole = omega arith }
 
 returns : tie.Need-returns
 returns c = cc (sound-table _ (ok (c .before .before .before)))
@@ -43,8 +45,8 @@ sound-spec =
     tie.close
     (tie.spec
     header-sound-requires
-    field-requires
-    field-requires-2
+    count-requires
+    used-bytes-requires
     table-sound-requires
     returns
     returns-2)

@@ -1,19 +1,22 @@
+-- The table from entry i on is what is left to judge, with the sum so far; each way out is a law of `tableOk`.
 use Prim.Native.Nat.{ℕ, _+_, _-_, _*_, _≤_, _<_}
 use mathlib.Core.Path.{_≡_, refl, sym, ap, _∙_}
 use native.Mathlib.Nat.{sub-zero}
 use native.Mathlib.Omega.{arith}
 use borrow.Author.Needs.{needs}
-use Rattle.image.specs.Image.{tableOk, entryLen, entryStart}
+use Rattle.codes.specs.Codes.{longestRecord}
+use Rattle.image.specs.Image.{tableOk}
 use Rattle.image.proofs.Laws.{table-long, table-gap, table-next, table-end}
 use Rattle.image.proofs.table_sound.Statement.{statement}
 use Rattle.image.proofs.table_sound.Tie as tie
 use Rattle.image.proofs.table_sound.Reads as reads
 use Rattle.image.proofs.table_sound.Lts as lts
-use Rattle.image.proofs.field.Reads as field-reads
+use Rattle.image.proofs.entry_len.Reads as entry-len-reads
+use Rattle.image.proofs.entry_start.Reads as entry-start-reads
 
 abbrev Inv-loop : tie.InvT-loop
 Inv-loop image entries total i₀ sum₀ i sum =
-    (i ≤ entries) × (sum ≤ i * 32768) × (tableOk image total entries 0 0 ≡ tableOk image total (entries - i) i sum)
+    (i ≤ entries) × (sum ≤ i * longestRecord) × (tableOk image total entries 0 0 ≡ tableOk image total (entries - i) i sum)
 
 abbrev μ-loop : tie.MeasureT-loop
 μ-loop image entries total i₀ sum₀ i sum = entries - i
@@ -21,23 +24,11 @@ abbrev μ-loop : tie.MeasureT-loop
 loop-holds : tie.Need-loop-holds Inv-loop μ-loop
 loop-holds c = (search needs, search needs, rw sub-zero)
 
-mul-field : tie.Need-mul-field Inv-loop μ-loop
-mul-field c = search needs
+entry-len-requires : tie.Need-entry-len-requires Inv-loop μ-loop
+entry-len-requires c κs = search needs
 
-add-field : tie.Need-add-field Inv-loop μ-loop
-add-field c = search needs
-
-field-requires : tie.Need-field-requires Inv-loop μ-loop
-field-requires c κs = search needs
-
-mul-field-2 : tie.Need-mul-field-2 Inv-loop μ-loop
-mul-field-2 c = search needs
-
-add-field-2 : tie.Need-add-field-2 Inv-loop μ-loop
-add-field-2 c = search needs
-
-field-requires-2 : tie.Need-field-requires-2 Inv-loop μ-loop
-field-requires-2 c κs = search needs
+entry-start-requires : tie.Need-entry-start-requires Inv-loop μ-loop
+entry-start-requires c κs = search needs
 
 returns : tie.Need-returns Inv-loop μ-loop
 returns c = sym (c .before .before .before .before .loop .inv .2 ∙ table-long _ _ _ _ _ (omega arith) (omega arith))
@@ -67,12 +58,8 @@ table-sound-spec =
     Inv-loop
     μ-loop
     loop-holds
-    mul-field
-    add-field
-    field-requires
-    mul-field-2
-    add-field-2
-    field-requires-2
+    entry-len-requires
+    entry-start-requires
     returns
     returns-2
     add-sum

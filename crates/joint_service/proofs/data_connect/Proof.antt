@@ -1,47 +1,31 @@
-use Rattle.replies.specs.declared.Reply.the-variants.{Plain}
+use Rattle.xdr.proofs.Tests.{picking}
+use Rattle.session.specs.Judge.{judge}
 use Rattle.session.specs.Joint.{dataConnect}
-use Rattle.session.proofs.Serving.{told-ok, told-no}
 use borrow.Author.Needs.{needs}
 use Rattle.joint_service.proofs.data_connect.Statement.{statement}
 use Rattle.joint_service.proofs.data_connect.Tie as tie
 use Rattle.joint_service.proofs.data_connect.Reads as reads
 use Rattle.joint_service.proofs.data_connect.Lts as lts
-use Rattle.joint_service.proofs.connect_error.Reads as connect-error-reads
-use Rattle.joint_service.proofs.no_halt.Reads as no-halt-reads
-use Rattle.session.proofs.types.Data.goes.Reads as goes-reads
-use Rattle.session.proofs.types.Mover.runs.Reads as runs-reads
-
-connect-error-requires : tie.Need-connect-error-requires
-connect-error-requires c κs = search needs
-
-no-halt-requires : tie.Need-no-halt-requires
-no-halt-requires c κs = search needs
+use Rattle.joint_service.proofs.join.Reads as join-reads
 
 returns : tie.Need-returns
-unfolding dataConnect
-returns c = rw (c .no-halt .ensures .0, c .no-halt .ensures .1) (told-no (λ e. Plain e) _ _ _ _ (c .before .before .connect-error .ensures) (c .before .if1 .taken))
-
-goes-requires : tie.Need-goes-requires
-goes-requires c κs = search needs
-
-runs-requires : tie.Need-runs-requires
-runs-requires c κs = search needs
-
-no-halt-requires-2 : tie.Need-no-halt-requires-2
-no-halt-requires-2 c κs = search needs
+unfolding dataConnect judge
+returns c = search picking depth 8
 
 returns-2 : tie.Need-returns-2
-unfolding dataConnect
-returns-2 c = rw (c .no-halt2 .ensures .0, c .no-halt2 .ensures .1, c .before .runs .ensures, c .before .before .goes .ensures) (told-ok (λ e. Plain e) _ _ _ _ (c .before .before .before .before .connect-error .ensures) (c .before .before .before .if1 .left))
+unfolding dataConnect judge
+returns-2 c = search picking depth 10
+
+returns-3 : tie.Need-returns-3
+unfolding dataConnect judge
+returns-3 c = search picking depth 12
+
+join-requires : tie.Need-join-requires
+join-requires c κs = search needs
+
+returns-4 : tie.Need-returns-4
+unfolding dataConnect judge
+returns-4 c = rw (c .join .ensures) (search picking depth 14)
 
 pub data-connect-spec : {M : Type 1} → statement M
-data-connect-spec =
-    tie.close
-    (tie.spec
-    connect-error-requires
-    no-halt-requires
-    returns
-    goes-requires
-    runs-requires
-    no-halt-requires-2
-    returns-2)
+data-connect-spec = tie.close (tie.spec returns returns-2 returns-3 join-requires returns-4)

@@ -1,27 +1,53 @@
-use Rattle.replies.specs.declared.Reply.the-variants.{Plain}
+use Rattle.xdr.proofs.Tests.{picking}
+use Rattle.session.specs.Judge.{judge}
 use Rattle.session.specs.MoverService.{moverRead}
-use Rattle.session.proofs.Serving.{told-ok, told-no}
 use borrow.Author.Needs.{needs}
 use Rattle.mover_service.proofs.mover_read.Statement.{statement}
 use Rattle.mover_service.proofs.mover_read.Tie as tie
 use Rattle.mover_service.proofs.mover_read.Reads as reads
 use Rattle.mover_service.proofs.mover_read.Lts as lts
-use Rattle.mover_service.proofs.read_error.Reads as read-error-reads
+use Rattle.session.proofs.types.Mover.is_past_top.Reads as is-past-top-reads
 use Rattle.session.proofs.types.Mover.seeks.Reads as seeks-reads
 
-read-error-requires : tie.Need-read-error-requires
-read-error-requires c κs = search needs
-
 returns : tie.Need-returns
-unfolding moverRead
-returns c = told-no (λ e. Plain e) _ _ _ _ (c .before .read-error .ensures) (c .if1 .taken)
+unfolding moverRead judge
+returns c = search picking depth 8
+
+returns-2 : tie.Need-returns-2
+unfolding moverRead judge
+returns-2 c = search picking depth 10
+
+returns-3 : tie.Need-returns-3
+unfolding moverRead judge
+returns-3 c = search picking depth 12
+
+is-past-top-requires : tie.Need-is-past-top-requires
+is-past-top-requires c κs = search needs
+
+returns-4 : tie.Need-returns-4
+unfolding moverRead judge
+returns-4 c = search picking depth 14
+
+returns-5 : tie.Need-returns-5
+unfolding moverRead judge
+returns-5 c = search picking depth 16
 
 seeks-requires : tie.Need-seeks-requires
 seeks-requires c κs = search needs
 
-returns-2 : tie.Need-returns-2
-unfolding moverRead
-returns-2 c = rw (c .seeks .ensures) (told-ok (λ e. Plain e) _ _ _ _ (c .before .before .read-error .ensures) (c .before .if1 .left))
+returns-6 : tie.Need-returns-6
+unfolding moverRead judge
+returns-6 c = rw (c .seeks .ensures) (search picking depth 18)
 
 pub mover-read-spec : {M : Type 1} → statement M
-mover-read-spec = tie.close (tie.spec read-error-requires returns seeks-requires returns-2)
+mover-read-spec =
+    tie.close
+    (tie.spec
+    returns
+    returns-2
+    returns-3
+    is-past-top-requires
+    returns-4
+    returns-5
+    seeks-requires
+    returns-6)

@@ -1,27 +1,31 @@
-use Rattle.replies.specs.declared.Reply.the-variants.{Plain}
+use Rattle.xdr.proofs.Tests.{picking}
+use Rattle.session.specs.Judge.{judge}
 use Rattle.session.specs.MoverService.{setSize}
-use Rattle.session.proofs.Serving.{told-ok, told-no}
 use borrow.Author.Needs.{needs}
 use Rattle.mover_service.proofs.set_record_size.Statement.{statement}
 use Rattle.mover_service.proofs.set_record_size.Tie as tie
 use Rattle.mover_service.proofs.set_record_size.Reads as reads
 use Rattle.mover_service.proofs.set_record_size.Lts as lts
-use Rattle.mover_service.proofs.size_error.Reads as size-error-reads
 use Rattle.session.proofs.types.Mover.sized.Reads as sized-reads
 
-size-error-requires : tie.Need-size-error-requires
-size-error-requires c κs = search needs
-
 returns : tie.Need-returns
-unfolding setSize
-returns c = told-no (λ e. Plain e) _ _ _ _ (c .before .size-error .ensures) (c .if1 .taken)
+unfolding setSize judge
+returns c = search picking depth 8
+
+returns-2 : tie.Need-returns-2
+unfolding setSize judge
+returns-2 c = search picking depth 10
+
+returns-3 : tie.Need-returns-3
+unfolding setSize judge
+returns-3 c = search picking depth 12
 
 sized-requires : tie.Need-sized-requires
 sized-requires c κs = search needs
 
-returns-2 : tie.Need-returns-2
-unfolding setSize
-returns-2 c = rw (c .sized .ensures) (told-ok (λ e. Plain e) _ _ _ _ (c .before .before .size-error .ensures) (c .before .if1 .left))
+returns-4 : tie.Need-returns-4
+unfolding setSize judge
+returns-4 c = rw (c .sized .ensures) (search picking depth 14)
 
 pub set-record-size-spec : {M : Type 1} → statement M
-set-record-size-spec = tie.close (tie.spec size-error-requires returns sized-requires returns-2)
+set-record-size-spec = tie.close (tie.spec returns returns-2 returns-3 sized-requires returns-4)

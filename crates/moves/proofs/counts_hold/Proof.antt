@@ -1,3 +1,4 @@
+-- The counts are a theorem of `Counts`, over any sequence of moves.
 use Rattle.moves.proofs.Counts as laws
 use Rattle.moves.proofs.counts_hold.Statement.{statement}
 use Rattle.moves.proofs.counts_hold.Tie as tie

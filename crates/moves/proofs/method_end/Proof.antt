@@ -1,3 +1,4 @@
+-- Where the data end is ACTIVE both ends halt, by a law; else nothing changes.
 use Rattle.moves.specs.Moves.{methodEnd}
 use Rattle.xdr.proofs.Tests.{picking}
 use Rattle.moves.proofs.Moving.{end-halts}

@@ -1,3 +1,4 @@
+-- What moves keep is a theorem of `Sequence`, over any sequence of calls.
 use Rattle.moves.proofs.Sequence as laws
 use Rattle.moves.proofs.moves_keep.Statement.{statement}
 use Rattle.moves.proofs.moves_keep.Tie as tie

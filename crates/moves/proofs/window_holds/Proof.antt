@@ -1,3 +1,4 @@
+-- That the window holds is a theorem of `Sequence`, over any sequence of calls.
 use Rattle.moves.proofs.Sequence as laws
 use Rattle.moves.proofs.window_holds.Statement.{statement}
 use Rattle.moves.proofs.window_holds.Tie as tie

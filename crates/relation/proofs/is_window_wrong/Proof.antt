@@ -5,7 +5,7 @@ use Rattle.relation.proofs.is_window_wrong.Statement.{statement}
 use Rattle.relation.proofs.is_window_wrong.Tie as tie
 use Rattle.relation.proofs.is_window_wrong.Reads as reads
 use Rattle.relation.proofs.is_window_wrong.Lts as lts
-use Rattle.mover_service.proofs.is_past_top.Reads as is-past-top-reads
+use Rattle.session.proofs.types.Mover.is_past_top.Reads as is-past-top-reads
 
 returns : tie.Need-returns
 unfolding windowWrong

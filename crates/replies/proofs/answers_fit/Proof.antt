@@ -1,3 +1,4 @@
+-- That every answer fits is a law of `Laws`, from how long each reply and notice is.
 use Rattle.replies.proofs.Laws.{fit}
 use Rattle.replies.proofs.answers_fit.Statement.{statement}
 use Rattle.replies.proofs.answers_fit.Tie as tie

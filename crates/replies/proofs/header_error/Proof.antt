@@ -1,3 +1,4 @@
+-- Only a header reply has its number in the header; every other variant is 0, by cases.
 use Rattle.replies.proofs.Laws.{no-header}
 use Rattle.replies.specs.Replies.{headerError}
 use borrow.Author.Needs.{needs}

@@ -1,3 +1,4 @@
+-- The words that are put are a body without texts and tail.
 use Rattle.replies.proofs.Laws.{whole, no-texts, no-words}
 use borrow.Author.Needs.{needs}
 use Rattle.replies.proofs.put_body.Statement.{statement}

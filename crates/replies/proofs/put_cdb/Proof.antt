@@ -1,3 +1,4 @@
+-- Three words and two texts are put one after the other, which is the body; the length of the first text leaves room for the second.
 use native.Mathlib.Omega.{arith}
 use Rattle.xdr.specs.Xdr.{be32, be32s}
 use Rattle.xdr_opaque.proofs.Laws.{length-opaque}
@@ -22,13 +23,17 @@ put-opaque-requires c κs = (omega arith, omega arith)
 
 put-opaque-requires-2 : tie.Need-put-opaque-requires-2
 unfolding be32s be32
-put-opaque-requires-2 c κs = (omega (arith, length-opaque (c .before .before .before .before .before .before .before .before .before .before .before .before .before .args .data-in .now)), omega arith)
+put-opaque-requires-2 c κs =
+    (omega (arith, length-opaque (c .before .before .before .before .before .before .before .before .before .before .before .before .before .args .data-in .now)), omega arith)
 
 same-length : tie.Need-same-length
 same-length c = search needs
 
 returns : tie.Need-returns
-returns c = whole _ (c .before .before .before .before .before .before .before .before .before .before .put-words .ensures) (text _ _ (c .before .before .before .before .before .before .put-opaque .ensures) (text _ _ (c .before .before .put-opaque2 .ensures) no-texts)) no-words
+returns c =
+    whole _ (c .before .before .before .before .before .before .before .before .before .before .put-words .ensures)
+    (text _ _ (c .before .before .before .before .before .before .put-opaque .ensures) (text _ _ (c .before .before .put-opaque2 .ensures) no-texts))
+    no-words
 
 pub put-cdb-spec : {M : Type 1} → statement M
 put-cdb-spec =

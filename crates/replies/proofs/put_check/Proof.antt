@@ -1,3 +1,4 @@
+-- The body is that of a CDB reply with no data and the sense, by what the callees ensure.
 use Rattle.replies.specs.Replies.{shapeOf}
 use borrow.Author.Needs.{needs}
 use Rattle.replies.proofs.put_check.Statement.{statement}

@@ -1,3 +1,4 @@
+-- The words that are put are those of `shapeOf`.
 use Rattle.replies.specs.Replies.{shapeOf}
 use borrow.Author.Needs.{needs}
 use Rattle.replies.proofs.put_data_state.Statement.{statement}
@@ -5,10 +6,6 @@ use Rattle.replies.proofs.put_data_state.Tie as tie
 use Rattle.replies.proofs.put_data_state.Reads as reads
 use Rattle.replies.proofs.put_data_state.Lts as lts
 use Rattle.replies.proofs.put_body.Reads as put-body-reads
-use Rattle.replies.proofs.unsupported.Reads as unsupported-reads
-
-unsupported-requires : tie.Need-unsupported-requires
-unsupported-requires c κs = search needs
 
 cast-high : tie.Need-cast-high
 cast-high c = search needs
@@ -27,16 +24,9 @@ same-length c = search needs
 
 returns : tie.Need-returns
 unfolding shapeOf
-returns c = rw (c .before .before .before .before .before .before .before .unsupported .ensures) at (c .before .before .put-body .ensures)
+returns c = c .before .before .put-body .ensures
 
 pub put-data-state-spec : {M : Type 1} → statement M
 put-data-state-spec =
     tie.close
-    (tie.spec
-    unsupported-requires
-    cast-high
-    cast-low
-    slice-aggregate-put-body
-    put-body-requires
-    same-length
-    returns)
+    (tie.spec cast-high cast-low slice-aggregate-put-body put-body-requires same-length returns)

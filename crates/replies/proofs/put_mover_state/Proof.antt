@@ -1,3 +1,4 @@
+-- The words that are put are those of `shapeOf`; each half of a hyper is a word.
 use native.Mathlib.Omega.{arith}
 use Rattle.replies.specs.Replies.{shapeOf}
 use borrow.Author.Needs.{needs}
@@ -7,35 +8,35 @@ use Rattle.replies.proofs.put_mover_state.Reads as reads
 use Rattle.replies.proofs.put_mover_state.Lts as lts
 use Rattle.replies.proofs.put_body.Reads as put-body-reads
 
-cast-t9 : tie.Need-cast-t9
-cast-t9 c = search needs
+cast-t8 : tie.Need-cast-t8
+cast-t8 c = search needs
 
-cast-t11 : tie.Need-cast-t11
-cast-t11 c = search needs
+cast-t10 : tie.Need-cast-t10
+cast-t10 c = search needs
 
-cast-t13 : tie.Need-cast-t13
-cast-t13 c = search needs
+cast-t12 : tie.Need-cast-t12
+cast-t12 c = search needs
 
-cast-t15 : tie.Need-cast-t15
-cast-t15 c = search needs
+cast-t14 : tie.Need-cast-t14
+cast-t14 c = search needs
 
-cast-t17 : tie.Need-cast-t17
-cast-t17 c = search needs
+cast-t16 : tie.Need-cast-t16
+cast-t16 c = search needs
 
-cast-t19 : tie.Need-cast-t19
-cast-t19 c = search needs
+cast-t18 : tie.Need-cast-t18
+cast-t18 c = search needs
 
-cast-t21 : tie.Need-cast-t21
-cast-t21 c = omega (arith, c .struct-known7 .given)
+cast-t20 : tie.Need-cast-t20
+cast-t20 c = omega (arith, c .struct-known7 .given)
 
-cast-t23 : tie.Need-cast-t23
-cast-t23 c = search needs
+cast-t22 : tie.Need-cast-t22
+cast-t22 c = search needs
 
-cast-t25 : tie.Need-cast-t25
-cast-t25 c = omega (arith, c .struct-known9 .given)
+cast-t24 : tie.Need-cast-t24
+cast-t24 c = omega (arith, c .struct-known9 .given)
 
-cast-t27 : tie.Need-cast-t27
-cast-t27 c = search needs
+cast-t26 : tie.Need-cast-t26
+cast-t26 c = search needs
 
 slice-aggregate-put-body : tie.Need-slice-aggregate-put-body
 slice-aggregate-put-body c = search needs
@@ -54,16 +55,16 @@ pub put-mover-state-spec : {M : Type 1} → statement M
 put-mover-state-spec =
     tie.close
     (tie.spec
-    cast-t9
-    cast-t11
-    cast-t13
-    cast-t15
-    cast-t17
-    cast-t19
-    cast-t21
-    cast-t23
-    cast-t25
-    cast-t27
+    cast-t8
+    cast-t10
+    cast-t12
+    cast-t14
+    cast-t16
+    cast-t18
+    cast-t20
+    cast-t22
+    cast-t24
+    cast-t26
     slice-aggregate-put-body
     put-body-requires
     same-length

@@ -1,3 +1,4 @@
+-- The words and the header in front of them are the record, by a law on writes.
 use native.Mathlib.Omega.{arith}
 use Rattle.replies.proofs.Laws.{notice-sent}
 use borrow.Author.Needs.{needs}

@@ -1,3 +1,4 @@
+-- A word and a text are put one after the other, which is the body of a read.
 use native.Mathlib.Omega.{arith}
 use Rattle.xdr.specs.Xdr.{be32, be32s}
 use Rattle.replies.proofs.Laws.{whole, text, no-texts, no-words}

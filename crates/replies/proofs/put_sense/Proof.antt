@@ -1,3 +1,4 @@
+-- The body is that of a CDB reply with the first n bytes of the sense, by what the callees ensure.
 use mathlib.Core.Path.{sym}
 use Rattle.replies.proofs.Laws.{sense-length}
 use native.Mathlib.Omega.{arith}
@@ -23,7 +24,8 @@ slice-aggregate-put-cdb-2 : tie.Need-slice-aggregate-put-cdb-2
 slice-aggregate-put-cdb-2 c = search needs
 
 put-cdb-requires : tie.Need-put-cdb-requires
-put-cdb-requires c κs = (search needs, omega (arith, sense-length (c .before .before .before .before .before .args .n) _ _ (c .before .before .before .sense-bytes .ensures) (search needs)), search needs)
+put-cdb-requires c κs =
+    (search needs, omega (arith, sense-length (c .before .before .before .before .before .args .n) _ _ (c .before .before .before .sense-bytes .ensures) (search needs)), search needs)
 
 same-length : tie.Need-same-length
 same-length c = search needs

@@ -1,3 +1,4 @@
+-- The texts are those of a client that is known or not, by what was tested.
 use Rattle.replies.specs.Replies.{shapeOf, serverTexts}
 use borrow.Author.Needs.{needs}
 use Rattle.replies.proofs.put_server_info.Statement.{statement}

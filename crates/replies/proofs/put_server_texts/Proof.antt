@@ -1,3 +1,4 @@
+-- A word, three texts and the tail are put one after the other; the length of each text leaves room for what follows.
 use native.Mathlib.Omega.{arith}
 use Rattle.xdr.specs.Xdr.{be32, be32s}
 use Rattle.xdr_opaque.proofs.Laws.{length-opaque}
@@ -22,24 +23,37 @@ put-opaque-requires c κs = (omega arith, omega arith)
 
 put-opaque-requires-2 : tie.Need-put-opaque-requires-2
 unfolding be32s be32
-put-opaque-requires-2 c κs = (omega (arith, length-opaque (c .before .before .before .before .before .before .before .before .before .before .before .before .before .before .args .vendor .now)), omega arith)
+put-opaque-requires-2 c κs =
+    let a = c .before .before .before .before .before .before .before .before .before .before .before .before .before .before .args in
+    (omega (arith, length-opaque (a .vendor .now)), omega arith)
 
 put-opaque-requires-3 : tie.Need-put-opaque-requires-3
 unfolding be32s be32
-put-opaque-requires-3 c κs = (omega (arith, length-opaque (c .before .before .before .before .before .before .before .before .before .before .before .before .before .before .before .before .before .before .args .vendor .now), length-opaque (c .before .before .before .before .before .before .before .before .before .before .before .before .before .before .before .before .before .before .args .product .now)), omega arith)
+put-opaque-requires-3 c κs =
+    let b = c .before .before .before .before .before .before .before .before .before in
+    let a = b .before .before .before .before .before .before .before .before .before .args in
+    (omega (arith, length-opaque (a .vendor .now), length-opaque (a .product .now)), omega arith)
 
 slice-aggregate-put-words-2 : tie.Need-slice-aggregate-put-words-2
 slice-aggregate-put-words-2 c = search needs
 
 put-words-requires-2 : tie.Need-put-words-requires-2
 unfolding be32s be32
-put-words-requires-2 c κs = omega (arith, length-opaque (c .before .before .before .before .before .before .before .before .before .before .before .before .before .before .before .before .before .before .before .before .before .before .before .args .vendor .now), length-opaque (c .before .before .before .before .before .before .before .before .before .before .before .before .before .before .before .before .before .before .before .before .before .before .before .args .product .now), length-opaque (c .before .before .before .before .before .before .before .before .before .before .before .before .before .before .before .before .before .before .before .before .before .before .before .args .revision .now))
+put-words-requires-2 c κs =
+    let b = c .before .before .before .before .before .before .before .before .before .before .before in
+    let a = b .before .before .before .before .before .before .before .before .before .before .before .before .args in
+    omega (arith, length-opaque (a .vendor .now), length-opaque (a .product .now), length-opaque (a .revision .now))
 
 same-length : tie.Need-same-length
 same-length c = search needs
 
 returns : tie.Need-returns
-returns c = whole _ (c .before .before .before .before .before .before .before .before .before .before .before .before .before .before .before .before .before .before .before .put-words .ensures) (text _ _ (c .before .before .before .before .before .before .before .before .before .before .before .before .before .before .before .put-opaque .ensures) (text _ _ (c .before .before .before .before .before .before .before .before .before .before .before .put-opaque2 .ensures) (text _ _ (c .before .before .before .before .before .before .before .put-opaque3 .ensures) no-texts))) (c .before .before .put-words2 .ensures)
+returns c =
+    let b = c .before .before .before .before .before .before .before .before .before .before .before in
+    whole _ (b .before .before .before .before .before .before .before .before .put-words .ensures)
+    (text _ _ (b .before .before .before .before .put-opaque .ensures) (text _ _ (b .put-opaque2 .ensures)
+    (text _ _ (c .before .before .before .before .before .before .before .put-opaque3 .ensures) no-texts)))
+    (c .before .before .put-words2 .ensures)
 
 pub put-server-texts-spec : {M : Type 1} → statement M
 put-server-texts-spec =

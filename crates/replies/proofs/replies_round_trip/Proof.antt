@@ -1,3 +1,4 @@
+-- That what is sent is read back is a theorem of `RoundTrip`.
 use Rattle.replies.proofs.RoundTrip.{back}
 use Rattle.replies.proofs.replies_round_trip.Statement.{statement}
 use Rattle.replies.proofs.replies_round_trip.Tie as tie

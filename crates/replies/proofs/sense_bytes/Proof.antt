@@ -1,3 +1,4 @@
+-- The bytes are computed, with a sense pending and with none.
 use Rattle.xdr.specs.Choose.{choose}
 use Rattle.replies.specs.Replies.{sense}
 use Rattle.replies.proofs.sense_bytes.Statement.{statement}

@@ -1,3 +1,4 @@
+-- Each arm puts the words of its notice, by what the callee ensures.
 use Rattle.replies.specs.Replies.{noticeBytes, noticeNumber, noticeWords}
 use borrow.Author.Needs.{needs}
 use Rattle.replies.proofs.write_notice.Statement.{statement}

@@ -20,13 +20,19 @@ sub-write-header : tie.Need-sub-write-header
 sub-write-header c = search needs
 
 write-header-requires : tie.Need-write-header-requires
-write-header-requires c κs = (omega arith, omega (arith, c .before .before .before .before .write-body .ensures .end, body-small _ _ (c .before .before .before .before .before .before .before .before .pre .1)))
+write-header-requires c κs =
+    let b = c .before .before .before .before in
+    (omega arith, omega (arith, b .write-body .ensures .end, body-small _ _ (b .before .before .before .before .pre .1)))
 
 same-length : tie.Need-same-length
 same-length c = search needs
 
 returns : tie.Need-returns
-returns c = reply-sent _ _ _ _ _ _ _ _ _ _ _ _ (c .before .before .before .before .before .before .before .write-body .ensures) (c .before .before .before .before .before .before .before .before .before .before .before .pre .1) (omega arith) refl (c .before .before .before .before .header-error .ensures) (c .before .before .write-header .ensures)
+returns c =
+    let b = c .before .before .before .before .before .before .before in
+    reply-sent _ _ _ _ _ _ _ _ _ _ _ _ (b .write-body .ensures) (b .before .before .before .before .pre .1) (omega arith) refl
+    (c .before .before .before .before .header-error .ensures)
+    (c .before .before .write-header .ensures)
 
 pub write-reply-spec : {M : Type 1} → statement M
 write-reply-spec =

@@ -1,27 +1,63 @@
-use Rattle.replies.specs.declared.Reply.the-variants as Reply
-use Rattle.session.specs.ScsiService.{scsiCdb}
-use Rattle.session.proofs.Serving.{told-then, told-other, told-error}
+-- Each test on the way is that of the definition, the opcode's behind those of the length.
+use Rattle.session.specs.ScsiService.{scsiCdb, runCdb}
+use Rattle.session.specs.Judge.{judge}
+use Rattle.xdr.proofs.Tests.{picking}
 use borrow.Author.Needs.{needs}
 use Rattle.scsi_service.proofs.execute_cdb.Statement.{statement}
 use Rattle.scsi_service.proofs.execute_cdb.Tie as tie
 use Rattle.scsi_service.proofs.execute_cdb.Reads as reads
 use Rattle.scsi_service.proofs.execute_cdb.Lts as lts
-use Rattle.scsi_service.proofs.cdb_error.Reads as cdb-error-reads
-use Rattle.scsi_service.proofs.run_cdb.Reads as run-cdb-reads
-
-cdb-error-requires : tie.Need-cdb-error-requires
-cdb-error-requires c κs = search needs
+use Rattle.scsi_service.proofs.sense_length.Reads as sense-length-reads
+use Rattle.scsi_service.proofs.with_sense.Reads as with-sense-reads
+use Rattle.xdr.proofs.byte_at.Reads as byte-at-reads
 
 returns : tie.Need-returns
-unfolding scsiCdb
-returns c = told-other _ _ _ _ (c .before .cdb-error .ensures) _ _ (c .if1 .taken) (told-error (λ e. Reply.Cdb e) _ _ _ (c .before .cdb-error .ensures))
-
-run-cdb-requires : tie.Need-run-cdb-requires
-run-cdb-requires c κs = search needs
+unfolding scsiCdb judge
+returns c = search picking depth 8
 
 returns-2 : tie.Need-returns-2
-unfolding scsiCdb
-returns-2 c = told-then _ _ _ _ (c .before .before .cdb-error .ensures) _ _ (c .before .if1 .left) (c .run-cdb .ensures)
+unfolding scsiCdb judge
+returns-2 c = search picking depth 8
+
+returns-3 : tie.Need-returns-3
+unfolding scsiCdb judge
+returns-3 c = search picking depth 10
+
+byte-at-requires : tie.Need-byte-at-requires
+byte-at-requires c κs = search needs
+
+returns-4 : tie.Need-returns-4
+unfolding scsiCdb judge runCdb
+returns-4 c = rw (← (c .before .byte-at .ensures)) (search picking depth 14)
+
+sense-length-requires : tie.Need-sense-length-requires
+sense-length-requires c κs = search needs
+
+with-sense-requires : tie.Need-with-sense-requires
+with-sense-requires c κs = search needs
+
+returns-5 : tie.Need-returns-5
+unfolding scsiCdb judge runCdb
+returns-5 c = rw (← (c .before .before .before .before .byte-at .ensures), ← (c .before .sense-length .ensures), c .with-sense .ensures) (search picking depth 16)
+
+with-sense-requires-2 : tie.Need-with-sense-requires-2
+with-sense-requires-2 c κs = search needs
+
+returns-6 : tie.Need-returns-6
+unfolding scsiCdb judge runCdb
+returns-6 c = rw (← (c .before .before .before .byte-at .ensures), c .with-sense2 .ensures) (search picking depth 16)
 
 pub execute-cdb-spec : {M : Type 1} → statement M
-execute-cdb-spec = tie.close (tie.spec cdb-error-requires returns run-cdb-requires returns-2)
+execute-cdb-spec =
+    tie.close
+    (tie.spec
+    returns
+    returns-2
+    returns-3
+    byte-at-requires
+    returns-4
+    sense-length-requires
+    with-sense-requires
+    returns-5
+    with-sense-requires-2
+    returns-6)

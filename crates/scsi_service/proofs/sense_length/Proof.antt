@@ -4,7 +4,7 @@ use Rattle.scsi_service.proofs.sense_length.Statement.{statement}
 use Rattle.scsi_service.proofs.sense_length.Tie as tie
 use Rattle.scsi_service.proofs.sense_length.Reads as reads
 use Rattle.scsi_service.proofs.sense_length.Lts as lts
-use Rattle.scsi_service.proofs.lesser.Reads as lesser-reads
+use Rattle.xdr.proofs.lesser.Reads as lesser-reads
 use Rattle.xdr.proofs.byte_at.Reads as byte-at-reads
 
 byte-at-requires : tie.Need-byte-at-requires

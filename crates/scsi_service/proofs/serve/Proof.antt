@@ -1,6 +1,8 @@
-use native.Mathlib.Omega.{arith}
-use Rattle.session.specs.ScsiService.{scsiStep, ScsiTexts}
+-- Each arm: what its function ensures is the definition's clause for that request.
 use Rattle.session.proofs.Serving.{text-is}
+use Rattle.session.specs.ScsiService.{scsiStep}
+use Rattle.requests.specs.Within.{textsWithin}
+use native.Mathlib.Omega.{arith}
 use borrow.Author.Needs.{needs}
 use Rattle.scsi_service.proofs.serve.Statement.{statement}
 use Rattle.scsi_service.proofs.serve.Tie as tie
@@ -16,7 +18,7 @@ enum-known-q : tie.Need-enum-known-q
 enum-known-q c = search needs
 
 is-changer-requires : tie.Need-is-changer-requires
-unfolding ScsiTexts
+unfolding textsWithin
 is-changer-requires c κs = rw (c .before .q .given .1) at (c .before .before .before .before .pre)
 
 open-changer-requires : tie.Need-open-changer-requires
@@ -44,7 +46,7 @@ enum-known-q-2 : tie.Need-enum-known-q-2
 enum-known-q-2 c = search needs
 
 add-end : tie.Need-add-end
-unfolding ScsiTexts
+unfolding textsWithin
 add-end c = let h = rw (c .before .before .q2 .given .1) at (c .before .before .before .before .before .pre) in omega arith
 
 sub-execute-cdb : tie.Need-sub-execute-cdb
@@ -54,7 +56,7 @@ part-execute-cdb-start : tie.Need-part-execute-cdb-start
 part-execute-cdb-start c = search needs
 
 part-execute-cdb-end : tie.Need-part-execute-cdb-end
-unfolding ScsiTexts
+unfolding textsWithin
 part-execute-cdb-end c = let h = rw (c .before .before .q2 .given .1) at (c .before .before .before .before .before .pre) in omega arith
 
 execute-cdb-requires : tie.Need-execute-cdb-requires

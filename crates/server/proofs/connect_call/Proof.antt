@@ -1,93 +1,68 @@
 use denote.Ref.{now}
 use native.Mathlib.Omega.{arith}
-use mathlib.Core.Path.{refl}
-use Rattle.session.specs.Answer.{connected}
-use Rattle.server.proofs.Routing.{plain-sends, opens-sends, connect-texts}
+use mathlib.Core.Path.{refl, sym, _∙_}
+use Rattle.requests.specs.declared.Request.the-variants as Request
+use Rattle.session.specs.Answer.{isUnread}
+use Rattle.session.proofs.Sending.{connect-sends}
+use Rattle.answering.proofs.Calling.{call-if, call-else}
+use Rattle.server.proofs.Framing.{body-is}
 use borrow.Author.Needs.{needs}
 use Rattle.server.proofs.connect_call.Statement.{statement}
 use Rattle.server.proofs.connect_call.Tie as tie
 use Rattle.server.proofs.connect_call.Reads as reads
 use Rattle.server.proofs.connect_call.Lts as lts
 
-enum-known-q : tie.Need-enum-known-q
-enum-known-q c = search needs
-
-connect-open-requires : tie.Need-connect-open-requires
-connect-open-requires c κs = search needs
-
-slice-aggregate-finish : tie.Need-slice-aggregate-finish
-slice-aggregate-finish c = search needs
-
-finish-requires : tie.Need-finish-requires
-finish-requires c κs = (record { long = c .before .before .before .before .before .before .before .before .before .before .pre .0 .long; room = omega (arith, c .before .before .before .before .before .before .before .before .before .before .pre .0 .room) }, opens-sends _ _ _ _ (c .before .before .connect-open .ensures))
-
-enum-known-q-2 : tie.Need-enum-known-q-2
-enum-known-q-2 c = search needs
-
-auth-call-requires : tie.Need-auth-call-requires
-auth-call-requires c κs =
-    let t = connect-texts _ _ _ (rw (c .before .before .q2 .given .1) at (c .before .before .before .before .before .before .before .before .pre .1)) in
-    (record { long = c .before .before .before .before .before .before .before .before .pre .0 .long; room = omega (arith, c .before .before .before .before .before .before .before .before .pre .0 .room) }, t .0, t .1)
-
-enum-told : tie.Need-enum-told
-enum-told c = search needs
-
-slice-aggregate-finish-2 : tie.Need-slice-aggregate-finish-2
-slice-aggregate-finish-2 c = search needs
-
-finish-requires-2 : tie.Need-finish-requires-2
-finish-requires-2 c κs = (record { long = c .before .before .before .before .before .before .before .before .pre .0 .long; room = omega (arith, c .before .before .before .before .before .before .before .before .pre .0 .room) }, plain-sends 9 _ _ refl)
-
-enum-told-2 : tie.Need-enum-told-2
-enum-told-2 c = search needs
+is-close-requires : tie.Need-is-close-requires
+is-close-requires c κs = search needs
 
 shut-requires : tie.Need-shut-requires
 shut-requires c κs = search needs
 
+returns : tie.Need-returns
+returns c = λ image. call-if _ (sym (c .before .before .is-close .ensures) ∙ c .before .if1 .taken) (c .shut .ensures image _)
+
+sub-serve : tie.Need-sub-serve
+sub-serve c = search needs
+
+part-serve-start : tie.Need-part-serve-start
+part-serve-start c = search needs
+
+part-serve-end : tie.Need-part-serve-end
+part-serve-end c = search needs
+
+serve-requires : tie.Need-serve-requires
+serve-requires c κs =
+    let c8 = c .before .before .before .before .before .before .before .before in
+    rw (body-is (now (c8 .args .input))) (c8 .pre .1)
+
+login-call-requires : tie.Need-login-call-requires
+login-call-requires c κs =
+    let c8 = c .before .before .before .before .before .before .before .before in
+    (c8 .before .before .pre .0, rw (c .before .serve .ensures) (connect-sends _ _ _ _ _))
+
 same-length : tie.Need-same-length
 same-length c = search needs
 
-returns : tie.Need-returns
-unfolding connected
-returns c = λ image. rw (c .before .before .before .before .before .before .before .q .given .1) (rw (c .before .before .before .before .before .connect-open .ensures) at (c .before .before .finish .ensures .1 image))
-
-same-length-2 : tie.Need-same-length-2
-same-length-2 c = search needs
-
 returns-2 : tie.Need-returns-2
-unfolding connected
-returns-2 c = λ image. rw (c .before .before .before .before .before .q2 .given .1) (c .before .before .auth-call .ensures image)
-
-same-length-3 : tie.Need-same-length-3
-same-length-3 c = search needs
-
-returns-3 : tie.Need-returns-3
-unfolding connected
-returns-3 c = λ image. rw (c .before .before .before .before .before .enum-told .given .1) (c .before .before .finish2 .ensures .1 image)
-
-returns-4 : tie.Need-returns-4
-unfolding connected
-returns-4 c = λ image. rw (c .before .enum-told2 .given .1) (c .shut .ensures image _)
+unfolding isUnread
+returns-2 c =
+    let c8 = c .before .before .before .before .before .before .before .before in
+    λ image.
+    let a = c8 .before .before .before .before .before .args in
+    call-else _ (sym (c8 .is-close .ensures) ∙ c .before .before .before .before .before .before .before .if1 .left)
+    (rw (c .before .before .before .before .serve .ensures, body-is (now (a .input))) at (c .before .before .login-call .ensures image (Request.Connect (a .q)) refl))
 
 pub connect-call-spec : {M : Type 1} → statement M
 connect-call-spec =
     tie.close
     (tie.spec
-    enum-known-q
-    connect-open-requires
-    slice-aggregate-finish
-    finish-requires
-    enum-known-q-2
-    auth-call-requires
-    enum-told
-    slice-aggregate-finish-2
-    finish-requires-2
-    enum-told-2
+    is-close-requires
     shut-requires
-    same-length
     returns
-    same-length-2
-    returns-2
-    same-length-3
-    returns-3
-    returns-4)
+    sub-serve
+    part-serve-start
+    part-serve-end
+    serve-requires
+    login-call-requires
+    same-length
+    returns-2)

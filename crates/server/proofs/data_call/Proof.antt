@@ -1,29 +1,22 @@
 use denote.Ref.{now}
 use native.Mathlib.Omega.{arith}
-use mathlib.Core.Path.{sym, ap, _∙_}
-use Rattle.session.specs.Judge.{settled}
-use Rattle.session.specs.DataService.{dataStep, dataRefusal}
-use Rattle.session.specs.Answer.{held, byData}
+use mathlib.Core.Path.{refl, sym, ap, _∙_}
+use mathlib.Core.List.{[]}
+use lib.ListN.{drop}
+use Rattle.replies.specs.declared.Reply.{Reply}
+use Rattle.replies.specs.Fit.{Sendable}
+use Rattle.requests.specs.declared.Request.the-variants as Request
+use Rattle.session.specs.Answer.{held, isUnread, withData}
+use Rattle.session.specs.DataService.{dataStep}
+use Rattle.session.proofs.Sending.{data-sends}
 use Rattle.data_service.specs.Done.{outcomeOf}
 use Rattle.server.proofs.Framing.{body-is}
-use Rattle.server.proofs.Routing.{data-sends, call-unknown, call-settled}
+use Rattle.server.proofs.Routing.{accepted-says, call-refused, call-accepted}
 use borrow.Author.Needs.{needs}
 use Rattle.server.proofs.data_call.Statement.{statement}
 use Rattle.server.proofs.data_call.Tie as tie
 use Rattle.server.proofs.data_call.Reads as reads
 use Rattle.server.proofs.data_call.Lts as lts
-
-data-refused-requires : tie.Need-data-refused-requires
-data-refused-requires c κs = c .before .before .before .before .before .pre .0
-
-same-length : tie.Need-same-length
-same-length c = search needs
-
-returns : tie.Need-returns
-returns c =
-    λ image.
-    let a = c .before .before .before .before .before .before .before .before .args in
-    call-unknown (byData (held (a .s) image) (now (a .input)) (a .time)) (a .s .source) (dataRefusal (a .q)) _ _ (c .before .before .before .before .if1 .taken) (c .before .before .data-refused .ensures image)
 
 sub-serve : tie.Need-sub-serve
 sub-serve c = search needs
@@ -35,13 +28,13 @@ part-serve-end : tie.Need-part-serve-end
 part-serve-end c = search needs
 
 serve-requires : tie.Need-serve-requires
-serve-requires c κs = rw (body-is (now (c .before .before .before .before .before .before .args .input))) (c .before .before .before .before .before .before .pre .1)
+serve-requires c κs = rw (body-is (now (c .before .before .before .before .args .input))) (c .before .before .before .before .pre .1)
 
 enum-known-done : tie.Need-enum-known-done
 enum-known-done c = search needs
 
-data-refused-requires-2 : tie.Need-data-refused-requires-2
-data-refused-requires-2 c κs = c .before .before .before .before .before .before .before .before .before .before .before .pre .0
+refuse-requires : tie.Need-refuse-requires
+refuse-requires c κs = c .before .before .before .before .before .before .before .before .before .pre .0
 
 enum-known-done-2 : tie.Need-enum-known-done-2
 enum-known-done-2 c = search needs
@@ -53,47 +46,57 @@ slice-aggregate-finish : tie.Need-slice-aggregate-finish
 slice-aggregate-finish c = search needs
 
 finish-requires : tie.Need-finish-requires
-finish-requires c κs = (record { long = c .before .before .before .before .before .before .before .before .before .before .before .before .before .before .before .before .pre .0 .long; room = omega (arith, c .before .before .before .before .before .before .before .before .before .before .before .before .before .before .before .before .pre .0 .room) }, data-sends _ _ _ _ _ _ (ap outcomeOf (sym (c .before .before .before .before .before .before .before .done2 .given .1)) ∙ c .before .before .before .before .before .before .before .before .before .serve .ensures))
+finish-requires c κs =
+    let c8 = c .before .before .before .before .before .before .before .before in
+    let pre = c8 .before .before .before .before .before .before .before .pre .0 in (
+      record { long = pre .long; room = omega (arith, pre .room) },
+      accepted-says (λ (r : Reply) _. Sendable r []) _ _ _ (ap outcomeOf (sym (c8 .done2 .given .1)) ∙ c8 .before .before .serve .ensures) (data-sends _ _ _),
+    )
+
+same-length : tie.Need-same-length
+same-length c = search needs
+
+returns : tie.Need-returns
+unfolding isUnread
+returns c =
+    let c8 = c .before .before .before .before .before .before .before .before in
+    λ image.
+    let a = c8 .before .before .before .before .args in
+    let k = held (a .s) image in
+    call-refused k (a .time) (now (a .input)) (Request.Data (a .q)) (withData k) (dataStep (a .s .source) (a .q) (drop 28 (now (a .input)))) _ refl
+    (rw (body-is (now (a .input))) at
+    (ap outcomeOf (sym (c .before .before .before .before .before .done .given .1)) ∙ c .before .before .before .before .before .before .before .serve .ensures))
+    (c .before .before .refuse .ensures image)
 
 same-length-2 : tie.Need-same-length-2
 same-length-2 c = search needs
 
 returns-2 : tie.Need-returns-2
-unfolding settled
 returns-2 c =
+    let c8 = c .before .before .before .before .before .before .before .before in
+    let c16 = c8 .before .before .before .before .before .before .before .before in
     λ image.
-    let a = c .before .before .before .before .before .before .before .before .before .before .before .before .before .before .args in
-    call-settled (byData (held (a .s) image) (now (a .input)) (a .time)) (a .s .source) (dataRefusal (a .q)) _ (dataStep (a .s .source) (a .q)) (now (a .input)) _ _ (c .before .before .before .before .before .before .before .before .before .before .if1 .left) (body-is (now (a .input))) (ap outcomeOf (sym (c .before .before .before .before .before .done .given .1)) ∙ c .before .before .before .before .before .before .before .serve .ensures) (c .before .before .data-refused2 .ensures image)
-
-same-length-3 : tie.Need-same-length-3
-same-length-3 c = search needs
-
-returns-3 : tie.Need-returns-3
-unfolding settled
-returns-3 c =
-    λ image.
-    let a = c .before .before .before .before .before .before .before .before .before .before .before .before .before .before .before .before .before .before .before .args in
-    call-settled (byData (held (a .s) image) (now (a .input)) (a .time)) (a .s .source) (dataRefusal (a .q)) _ (dataStep (a .s .source) (a .q)) (now (a .input)) _ _ (c .before .before .before .before .before .before .before .before .before .before .before .before .before .before .before .if1 .left) (body-is (now (a .input))) (ap outcomeOf (sym (c .before .before .before .before .before .before .before .before .before .before .done2 .given .1)) ∙ c .before .before .before .before .before .before .before .before .before .before .before .before .serve .ensures)
+    let a = c16 .before .before .args in
+    let k = held (a .s) image in
+    call-accepted k (a .time) (now (a .input)) (Request.Data (a .q)) (withData k) (dataStep (a .s .source) (a .q) (drop 28 (now (a .input)))) _ _ refl refl
+    (rw (body-is (now (a .input))) at (ap outcomeOf (sym (c8 .before .before .before .done2 .given .1)) ∙ c8 .before .before .before .before .before .serve .ensures))
     (rw (c .before .before .before .before .before .with-parts .ensures) at (c .before .before .finish .ensures .1 image))
 
 pub data-call-spec : {M : Type 1} → statement M
 data-call-spec =
     tie.close
     (tie.spec
-    data-refused-requires
-    same-length
-    returns
     sub-serve
     part-serve-start
     part-serve-end
     serve-requires
     enum-known-done
-    data-refused-requires-2
+    refuse-requires
     enum-known-done-2
     with-parts-requires
     slice-aggregate-finish
     finish-requires
+    same-length
+    returns
     same-length-2
-    returns-2
-    same-length-3
-    returns-3)
+    returns-2)

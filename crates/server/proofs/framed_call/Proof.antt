@@ -1,19 +1,18 @@
 use denote.Ref.{now}
 use native.Mathlib.Omega.{arith}
-use mathlib.Core.Path.{ap, _∙_}
-use Rattle.frame.specs.Messages.{messageOf}
-use Rattle.session.specs.Answer.{held, judged}
+use mathlib.Core.Path.{refl, sym, _∙_}
+use Rattle.session.specs.Answer.{held}
 use Rattle.server.specs.Call.{lent}
 use Rattle.server.proofs.Framing.{body-is}
-use Rattle.server.proofs.Routing.{header-sends, scsi-texts, tape-texts, data-texts, texts-in, request-is, judged-as}
+use Rattle.server.proofs.Routing.{request-is, texts-in, call-locked, call-free}
 use borrow.Author.Needs.{needs}
 use Rattle.server.proofs.framed_call.Statement.{statement}
 use Rattle.server.proofs.framed_call.Tie as tie
 use Rattle.server.proofs.framed_call.Reads as reads
 use Rattle.server.proofs.framed_call.Lts as lts
 
-message-of-requires : tie.Need-message-of-requires
-message-of-requires c κs = search needs
+row-of-requires : tie.Need-row-of-requires
+row-of-requires c κs = search needs
 
 sub-decode : tie.Need-sub-decode
 sub-decode c = search needs
@@ -27,208 +26,60 @@ part-decode-end c = search needs
 decode-requires : tie.Need-decode-requires
 decode-requires c κs = search needs
 
-enum-known-q : tie.Need-enum-known-q
-enum-known-q c = search needs
+is-locked-requires : tie.Need-is-locked-requires
+is-locked-requires c κs = search needs
 
-connect-call-requires : tie.Need-connect-call-requires
-connect-call-requires c κs = (c .before .before .before .before .before .before .before .before .before .before .before .before .pre .0, texts-in (now (c .before .before .before .before .before .before .before .before .before .before .before .before .args .input)) (body-is (now (c .before .before .before .before .before .before .before .before .before .before .before .before .args .input))) (c .before .before .before .before .decode .ensures) (c .before .before .q .given .1))
-
-enum-known-q-2 : tie.Need-enum-known-q-2
-enum-known-q-2 c = search needs
-
-config-call-requires : tie.Need-config-call-requires
-config-call-requires c κs = search needs
-
-enum-known-q-3 : tie.Need-enum-known-q-3
-enum-known-q-3 c = search needs
-
-scsi-call-requires : tie.Need-scsi-call-requires
-scsi-call-requires c κs = (c .before .before .before .before .before .before .before .before .before .before .before .before .pre .0, scsi-texts _ _ (texts-in (now (c .before .before .before .before .before .before .before .before .before .before .before .before .args .input)) (body-is (now (c .before .before .before .before .before .before .before .before .before .before .before .before .args .input))) (c .before .before .before .before .decode .ensures) (c .before .before .q3 .given .1)))
-
-enum-known-q-4 : tie.Need-enum-known-q-4
-enum-known-q-4 c = search needs
-
-tape-call-requires : tie.Need-tape-call-requires
-tape-call-requires c κs = (c .before .before .before .before .before .before .before .before .before .before .before .before .before .pre .0, tape-texts _ _ (texts-in (now (c .before .before .before .before .before .before .before .before .before .before .before .before .before .args .input)) (body-is (now (c .before .before .before .before .before .before .before .before .before .before .before .before .before .args .input))) (c .before .before .before .before .before .decode .ensures) (c .before .before .before .q4 .given .1)))
-
-enum-known-q-5 : tie.Need-enum-known-q-5
-enum-known-q-5 c = search needs
-
-data-call-requires : tie.Need-data-call-requires
-data-call-requires c κs = (c .before .before .before .before .before .before .before .before .before .before .before .before .pre .0, data-texts _ _ (texts-in (now (c .before .before .before .before .before .before .before .before .before .before .before .before .args .input)) (body-is (now (c .before .before .before .before .before .before .before .before .before .before .before .before .args .input))) (c .before .before .before .before .decode .ensures) (c .before .before .q5 .given .1)))
-
-enum-known-q-6 : tie.Need-enum-known-q-6
-enum-known-q-6 c = search needs
-
-mover-call-requires : tie.Need-mover-call-requires
-mover-call-requires c κs = search needs
-
-enum-known-q-7 : tie.Need-enum-known-q-7
-enum-known-q-7 c = search needs
-
-joint-call-requires : tie.Need-joint-call-requires
-joint-call-requires c κs = search needs
-
-enum-told : tie.Need-enum-told
-enum-told c = search needs
-
-slice-aggregate-finish : tie.Need-slice-aggregate-finish
-slice-aggregate-finish c = search needs
-
-finish-requires : tie.Need-finish-requires
-finish-requires c κs = (record { long = c .before .before .before .before .before .before .before .before .before .before .before .before .pre .0 .long; room = omega (arith, c .before .before .before .before .before .before .before .before .before .before .before .before .pre .0 .room) }, header-sends 1 _)
-
-enum-told-2 : tie.Need-enum-told-2
-enum-told-2 c = search needs
-
-slice-aggregate-finish-2 : tie.Need-slice-aggregate-finish-2
-slice-aggregate-finish-2 c = search needs
-
-finish-requires-2 : tie.Need-finish-requires-2
-finish-requires-2 c κs = (record { long = c .before .before .before .before .before .before .before .before .before .before .before .before .pre .0 .long; room = omega (arith, c .before .before .before .before .before .before .before .before .before .before .before .before .pre .0 .room) }, header-sends 18 _)
+refuse-requires : tie.Need-refuse-requires
+refuse-requires c κs = c .before .before .before .before .before .before .before .before .before .before .before .before .pre .0
 
 same-length : tie.Need-same-length
 same-length c = search needs
 
 returns : tie.Need-returns
-unfolding judged
 returns c =
-    let a = c .before .before .before .before .before .before .before .before .before .before .before .before .before .before .before .args in
-    judged-as (held (a .s) (now (a .image))) (lent (now (a .id)) (now (a .password)) (a .time) (now (a .out))) (now (a .input))
-    (request-is (now (a .input)) (body-is (now (a .input))) (c .before .before .before .before .before .before .before .before .before .message-of .ensures ∙ ap messageOf (c .before .before .before .before .before .before .before .before .before .before .before .before .before .before .before .pre .1)) (c .before .before .before .before .before .before .before .decode .ensures) (c .before .before .before .before .before .q .given .1)) (c .before .before .connect-call .ensures _)
+    let c8 = c .before .before .before .before .before .before .before .before in
+    let a = c8 .before .before .before .before .before .before .before .args in
+    call-locked (held (a .s) (now (a .image))) (lent (now (a .id)) (now (a .password)) (a .time) (now (a .out))) (now (a .input)) _
+    (request-is (now (a .input)) (body-is (now (a .input))) (c8 .before .before .before .before .before .before .before .pre .1) (c8 .before .row-of .ensures) refl
+    (c .before .before .before .before .before .before .before .decode .ensures))
+    (sym (c .before .before .before .before .before .is-locked .ensures) ∙ c .before .before .before .before .if1 .taken) (c .before .before .refuse .ensures _)
+
+serve-call-requires : tie.Need-serve-call-requires
+serve-call-requires c κs =
+    let c8 = c .before .before .before .before .before .before .before .before in
+    let a = c8 .before .before .before .before .before .args in
+    (c8 .before .before .before .before .before .pre .0, texts-in (now (a .input)) (body-is (now (a .input))) (c .before .before .before .before .before .decode .ensures))
 
 same-length-2 : tie.Need-same-length-2
 same-length-2 c = search needs
 
-returns-2 : tie.Need-returns-2
-unfolding judged
-returns-2 c =
-    let a = c .before .before .before .before .before .before .before .before .before .before .before .before .before .before .before .args in
-    judged-as (held (a .s) (now (a .image))) (lent (now (a .id)) (now (a .password)) (a .time) (now (a .out))) (now (a .input))
-    (request-is (now (a .input)) (body-is (now (a .input))) (c .before .before .before .before .before .before .before .before .before .message-of .ensures ∙ ap messageOf (c .before .before .before .before .before .before .before .before .before .before .before .before .before .before .before .pre .1)) (c .before .before .before .before .before .before .before .decode .ensures) (c .before .before .before .before .before .q2 .given .1)) (c .before .before .config-call .ensures _)
-
 same-length-3 : tie.Need-same-length-3
 same-length-3 c = search needs
 
-returns-3 : tie.Need-returns-3
-unfolding judged
-returns-3 c =
-    let a = c .before .before .before .before .before .before .before .before .before .before .before .before .before .before .before .args in
-    judged-as (held (a .s) (now (a .image))) (lent (now (a .id)) (now (a .password)) (a .time) (now (a .out))) (now (a .input))
-    (request-is (now (a .input)) (body-is (now (a .input))) (c .before .before .before .before .before .before .before .before .before .message-of .ensures ∙ ap messageOf (c .before .before .before .before .before .before .before .before .before .before .before .before .before .before .before .pre .1)) (c .before .before .before .before .before .before .before .decode .ensures) (c .before .before .before .before .before .q3 .given .1)) (c .before .before .scsi-call .ensures _)
-
-same-length-4 : tie.Need-same-length-4
-same-length-4 c = search needs
-
-same-length-5 : tie.Need-same-length-5
-same-length-5 c = search needs
-
-returns-4 : tie.Need-returns-4
-unfolding judged
-returns-4 c =
-    let a = c .before .before .before .before .before .before .before .before .before .before .before .before .before .before .before .before .before .before .args in
-    judged-as (held (a .s) (now (a .image))) (lent (now (a .id)) (now (a .password)) (a .time) (now (a .out))) (now (a .input))
-    (request-is (now (a .input)) (body-is (now (a .input))) (c .before .before .before .before .before .before .before .before .before .before .before .before .message-of .ensures ∙ ap messageOf (c .before .before .before .before .before .before .before .before .before .before .before .before .before .before .before .before .before .before .pre .1)) (c .before .before .before .before .before .before .before .before .before .before .decode .ensures) (c .before .before .before .before .before .before .before .before .q4 .given .1)) (c .before .before .before .before .tape-call .ensures)
-
-same-length-6 : tie.Need-same-length-6
-same-length-6 c = search needs
-
-returns-5 : tie.Need-returns-5
-unfolding judged
-returns-5 c =
-    let a = c .before .before .before .before .before .before .before .before .before .before .before .before .before .before .before .args in
-    judged-as (held (a .s) (now (a .image))) (lent (now (a .id)) (now (a .password)) (a .time) (now (a .out))) (now (a .input))
-    (request-is (now (a .input)) (body-is (now (a .input))) (c .before .before .before .before .before .before .before .before .before .message-of .ensures ∙ ap messageOf (c .before .before .before .before .before .before .before .before .before .before .before .before .before .before .before .pre .1)) (c .before .before .before .before .before .before .before .decode .ensures) (c .before .before .before .before .before .q5 .given .1)) (c .before .before .data-call .ensures _)
-
-same-length-7 : tie.Need-same-length-7
-same-length-7 c = search needs
-
-same-length-8 : tie.Need-same-length-8
-same-length-8 c = search needs
-
-returns-6 : tie.Need-returns-6
-unfolding judged
-returns-6 c =
-    let a = c .before .before .before .before .before .before .before .before .before .before .before .before .before .before .before .before .args in
-    judged-as (held (a .s) (now (a .image))) (lent (now (a .id)) (now (a .password)) (a .time) (now (a .out))) (now (a .input))
-    (request-is (now (a .input)) (body-is (now (a .input))) (c .before .before .before .before .before .before .before .before .before .before .message-of .ensures ∙ ap messageOf (c .before .before .before .before .before .before .before .before .before .before .before .before .before .before .before .before .pre .1)) (c .before .before .before .before .before .before .before .before .decode .ensures) (c .before .before .before .before .before .before .q6 .given .1)) (c .before .before .mover-call .ensures)
-
-same-length-9 : tie.Need-same-length-9
-same-length-9 c = search needs
-
-returns-7 : tie.Need-returns-7
-unfolding judged
-returns-7 c =
-    let a = c .before .before .before .before .before .before .before .before .before .before .before .before .before .before .before .args in
-    judged-as (held (a .s) (now (a .image))) (lent (now (a .id)) (now (a .password)) (a .time) (now (a .out))) (now (a .input))
-    (request-is (now (a .input)) (body-is (now (a .input))) (c .before .before .before .before .before .before .before .before .before .message-of .ensures ∙ ap messageOf (c .before .before .before .before .before .before .before .before .before .before .before .before .before .before .before .pre .1)) (c .before .before .before .before .before .before .before .decode .ensures) (c .before .before .before .before .before .q7 .given .1)) (c .before .before .joint-call .ensures _)
-
-same-length-10 : tie.Need-same-length-10
-same-length-10 c = search needs
-
-returns-8 : tie.Need-returns-8
-unfolding judged
-returns-8 c =
-    let a = c .before .before .before .before .before .before .before .before .before .before .before .before .before .before .before .args in
-    judged-as (held (a .s) (now (a .image))) (lent (now (a .id)) (now (a .password)) (a .time) (now (a .out))) (now (a .input))
-    (request-is (now (a .input)) (body-is (now (a .input))) (c .before .before .before .before .before .before .before .before .before .message-of .ensures ∙ ap messageOf (c .before .before .before .before .before .before .before .before .before .before .before .before .before .before .before .pre .1)) (c .before .before .before .before .before .before .before .decode .ensures) (c .before .before .before .before .before .enum-told .given .1)) (c .before .before .finish .ensures .1 _)
-
-same-length-11 : tie.Need-same-length-11
-same-length-11 c = search needs
-
-returns-9 : tie.Need-returns-9
-unfolding judged
-returns-9 c =
-    let a = c .before .before .before .before .before .before .before .before .before .before .before .before .before .before .before .args in
-    judged-as (held (a .s) (now (a .image))) (lent (now (a .id)) (now (a .password)) (a .time) (now (a .out))) (now (a .input))
-    (request-is (now (a .input)) (body-is (now (a .input))) (c .before .before .before .before .before .before .before .before .before .message-of .ensures ∙ ap messageOf (c .before .before .before .before .before .before .before .before .before .before .before .before .before .before .before .pre .1)) (c .before .before .before .before .before .before .before .decode .ensures) (c .before .before .before .before .before .enum-told2 .given .1)) (c .before .before .finish2 .ensures .1 _)
+returns-2 : tie.Need-returns-2
+returns-2 c =
+    let c8 = c .before .before .before .before .before .before .before .before in
+    let c16 = c8 .before .before .before .before .before .before .before .before in
+    let a = c16 .before .before .args in
+    call-free (held (a .s) (now (a .image))) (lent (now (a .id)) (now (a .password)) (a .time) (now (a .out))) (now (a .input)) _
+    (request-is (now (a .input)) (body-is (now (a .input))) (c16 .before .before .pre .1) (c8 .before .before .before .before .row-of .ensures) refl
+    (c8 .before .before .decode .ensures)) (sym (c8 .is-locked .ensures) ∙ c .before .before .before .before .before .before .before .if1 .left)
+    (c .before .before .before .before .serve-call .ensures)
 
 pub framed-call-spec : {M : Type 1} → statement M
 framed-call-spec =
     tie.close
     (tie.spec
-    message-of-requires
+    row-of-requires
     sub-decode
     part-decode-start
     part-decode-end
     decode-requires
-    enum-known-q
-    connect-call-requires
-    enum-known-q-2
-    config-call-requires
-    enum-known-q-3
-    scsi-call-requires
-    enum-known-q-4
-    tape-call-requires
-    enum-known-q-5
-    data-call-requires
-    enum-known-q-6
-    mover-call-requires
-    enum-known-q-7
-    joint-call-requires
-    enum-told
-    slice-aggregate-finish
-    finish-requires
-    enum-told-2
-    slice-aggregate-finish-2
-    finish-requires-2
+    is-locked-requires
+    refuse-requires
     same-length
     returns
+    serve-call-requires
     same-length-2
-    returns-2
     same-length-3
-    returns-3
-    same-length-4
-    same-length-5
-    returns-4
-    same-length-6
-    returns-5
-    same-length-7
-    same-length-8
-    returns-6
-    same-length-9
-    returns-7
-    same-length-10
-    returns-8
-    same-length-11
-    returns-9)
+    returns-2)

@@ -1,11 +1,14 @@
 use denote.Ref.{now}
 use native.Mathlib.Omega.{arith}
-use Prim.Native.Nat.{ℕ}
-use mathlib.Core.List.{List}
-use Rattle.session.specs.Answer.{held, tapePart, byTape}
+use mathlib.Core.Path.{refl, sym, ap, _∙_}
+use Rattle.replies.specs.declared.Reply.{Reply}
+use Rattle.replies.specs.Fit.{Sendable}
+use Rattle.requests.specs.declared.Request.the-variants as Request
+use Rattle.session.specs.Answer.{held, isUnread, tapePart, withTape}
 use Rattle.session.specs.TapeService.{moverPartStep}
-use Rattle.server.proofs.Framing.{body-is}
-use Rattle.server.proofs.Routing.{mover-sends, mover-lifts, arm}
+use Rattle.session.proofs.Sending.{mover-sends}
+use Rattle.mover_service.specs.Done.{outcomeOf}
+use Rattle.server.proofs.Routing.{accepted-says, call-refused, call-accepted, mover-refuses, mover-accepts}
 use borrow.Author.Needs.{needs}
 use Rattle.server.proofs.mover_call.Statement.{statement}
 use Rattle.server.proofs.mover_call.Tie as tie
@@ -15,27 +18,65 @@ use Rattle.server.proofs.mover_call.Lts as lts
 serve-requires : tie.Need-serve-requires
 serve-requires c κs = search needs
 
+enum-known-done : tie.Need-enum-known-done
+enum-known-done c = search needs
+
+refuse-requires : tie.Need-refuse-requires
+refuse-requires c κs = c .before .before .before .before .before .before .before .before .before .before .pre
+
+enum-known-done-2 : tie.Need-enum-known-done-2
+enum-known-done-2 c = search needs
+
 with-parts-requires : tie.Need-with-parts-requires
 with-parts-requires c κs = search needs
 
 finish-requires : tie.Need-finish-requires
-finish-requires c κs = (record { long = c .before .before .before .before .before .before .before .before .before .before .before .pre .long; room = omega (arith, c .before .before .before .before .before .before .before .before .before .before .before .pre .room) }, mover-sends _ _ _ _ _ _ (c .before .before .before .before .before .serve .ensures .reply))
+finish-requires c κs =
+    let c8 = c .before .before .before .before .before .before .before .before in
+    let pre = c8 .before .before .before .before .before .before .pre in (
+      record { long = pre .long; room = omega (arith, pre .room) },
+      accepted-says (λ (r : Reply) _. Sendable r _) _ _ _ (ap outcomeOf (sym (c .before .before .before .before .before .before .done2 .given .1)) ∙ c8 .serve .ensures)
+          (mover-sends _ _ _ (now (c8 .before .before .before .before .before .before .args .image))),
+    )
 
 same-length : tie.Need-same-length
 same-length c = search needs
 
 returns : tie.Need-returns
+unfolding isUnread
 returns c =
-    let a = c .before .before .before .before .before .before .before .before .before .before .before .before .before .before .args in
-    arm (byTape (held (a .s) (now (a .image))) (now (a .input)) (a .time)) (λ (body : List ℕ). moverPartStep (a .s .authorized) (tapePart (held (a .s) (now (a .image)))) (a .q)) (now (a .input)) _ _ _ _ _ _ _ (body-is (now (a .input)))
-    (mover-lifts _ _ _ _ _ _ (c .before .before .before .before .before .before .before .before .serve .ensures) (now (a .image))) (rw (c .before .before .before .before .with-parts .ensures) at (c .before .before .finish .ensures .1 (now (a .image))))
+    let c8 = c .before .before .before .before .before .before .before .before in
+    let a = c8 .before .before .before .before .before .args in
+    let k = held (a .s) (now (a .image)) in
+    call-refused k (a .time) (now (a .input)) (Request.Mover (a .q)) (withTape k) (moverPartStep (tapePart k) (a .q)) _ refl
+    (mover-refuses (tapePart k) (a .q) _
+    (ap outcomeOf (sym (c .before .before .before .before .before .done .given .1)) ∙ c .before .before .before .before .before .before .before .serve .ensures))
+    (c .before .before .refuse .ensures (now (a .image)))
+
+same-length-2 : tie.Need-same-length-2
+same-length-2 c = search needs
+
+returns-2 : tie.Need-returns-2
+returns-2 c =
+    let c8 = c .before .before .before .before .before .before .before .before in
+    let c16 = c8 .before .before .before .before .before .before .before .before in
+    let a = c16 .before .args in
+    let k = held (a .s) (now (a .image)) in
+    call-accepted k (a .time) (now (a .input)) (Request.Mover (a .q)) (withTape k) (moverPartStep (tapePart k) (a .q)) _ _ refl refl
+    (mover-accepts (tapePart k) (a .q) _ _ (ap outcomeOf (sym (c8 .before .done2 .given .1)) ∙ c8 .before .before .before .serve .ensures))
+    (rw (c .before .before .before .before .with-parts .ensures) at (c .before .before .finish .ensures .1 (now (a .image))))
 
 pub mover-call-spec : {M : Type 1} → statement M
 mover-call-spec =
     tie.close
     (tie.spec
     serve-requires
+    enum-known-done
+    refuse-requires
+    enum-known-done-2
     with-parts-requires
     finish-requires
     same-length
-    returns)
+    returns
+    same-length-2
+    returns-2)

@@ -1,4 +1,4 @@
-use Rattle.session.proofs.Refusing.{promises}
+use Rattle.session.proofs.Windows.{promises}
 use Rattle.session.proofs.promises_hold.Statement.{statement}
 use Rattle.session.proofs.promises_hold.Tie as tie
 use Rattle.session.proofs.promises_hold.Reads as reads

@@ -1,3 +1,4 @@
+-- Each return is the case of the direction that was tested.
 use borrow.Author.Needs.{needs}
 use Rattle.spacing.specs.Spacing.{aheadOf}
 use Rattle.spacing.proofs.entries_ahead.Statement.{statement}

@@ -1,3 +1,4 @@
+-- Each return is the case of the direction that was tested; back from 0 is 0.
 use borrow.Author.Needs.{needs}
 use native.Mathlib.Omega.{arith}
 use Rattle.spacing.specs.Spacing.{passes}

@@ -1,7 +1,7 @@
 use mathlib.Core.Path.{refl}
 use Rattle.xdr.specs.Choose.{choose}
 use Rattle.xdr.specs.Xdr.{be32, be32s, word}
-use Rattle.spacing.specs.Spacing.{spacing, walk, aheadOf, passes, after, counted, stops}
+use Rattle.spacing.specs.Spacing.{spacing, walk, aheadOf, passes, positionAfter, leftAfter, stops}
 use Rattle.spacing.specs.Examples.{sample}
 use Rattle.spacing.proofs.examples_hold.Statement.{statement}
 use Rattle.spacing.proofs.examples_hold.Tie as tie
@@ -9,7 +9,7 @@ use Rattle.spacing.proofs.examples_hold.Reads as reads
 use Rattle.spacing.proofs.examples_hold.Lts as lts
 
 returns : tie.Need-returns
-unfolding sample spacing walk aheadOf passes after counted stops choose word be32 be32s
+unfolding sample spacing walk aheadOf passes positionAfter leftAfter stops choose word be32 be32s
 returns c = refl
 
 pub examples-hold-spec : {M : Type 1} → statement M

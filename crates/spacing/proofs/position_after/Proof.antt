@@ -1,6 +1,7 @@
+-- Each return is the case of the direction that was tested; back from 0 is 0.
 use borrow.Author.Needs.{needs}
 use native.Mathlib.Omega.{arith}
-use Rattle.spacing.specs.Spacing.{after}
+use Rattle.spacing.specs.Spacing.{positionAfter}
 use Rattle.spacing.proofs.position_after.Statement.{statement}
 use Rattle.spacing.proofs.position_after.Tie as tie
 use Rattle.spacing.proofs.position_after.Reads as reads
@@ -13,15 +14,15 @@ sub-result : tie.Need-sub-result
 sub-result c = search needs
 
 returns : tie.Need-returns
-unfolding after
+unfolding positionAfter
 returns c = rw (c .if1 .taken)
 
 returns-2 : tie.Need-returns-2
-unfolding after
+unfolding positionAfter
 returns-2 c = rw (c .before .if1 .left) (omega arith)
 
 returns-3 : tie.Need-returns-3
-unfolding after
+unfolding positionAfter
 returns-3 c = rw (c .before .if1 .left)
 
 pub position-after-spec : {M : Type 1} → statement M

@@ -1,10 +1,11 @@
+-- What is left of the walk is invariant, and the entries ahead get fewer; each way out and each turn is a law of `walk`.
 use lib.Dec.{eqb}
 use Prim.Native.Nat.{ℕ, suc, _%_, _+_, _-_, _*_, _≤_, _<_}
 use mathlib.Core.Path.{_≡_, refl, sym, ap, _∙_}
 use native.Mathlib.Omega.{arith}
 use borrow.Author.Needs.{needs}
 use Rattle.image.specs.Image.{count}
-use Rattle.spacing.specs.Spacing.{walk, aheadOf, passes, after}
+use Rattle.spacing.specs.Spacing.{walk, aheadOf, passes, positionAfter}
 use Rattle.spacing.proofs.Laws.{passes-below, after-within, after-ahead, walk-done, walk-end, walk-stop, walk-mark, walk-pass, walk-record}
 use Rattle.spacing.specs.Spacing.{spacing}
 use Rattle.spacing.proofs.space.Statement.{statement}
@@ -14,7 +15,8 @@ use Rattle.spacing.proofs.space.Lts as lts
 use Rattle.spacing.proofs.entries_ahead.Reads as entries-ahead-reads
 use Rattle.spacing.proofs.entry_passed.Reads as entry-passed-reads
 use Rattle.spacing.proofs.position_after.Reads as position-after-reads
-use Rattle.image.proofs.field.Reads as field-reads
+use Rattle.image.proofs.count.Reads as count-reads
+use Rattle.image.proofs.entry_len.Reads as entry-len-reads
 
 abbrev Inv-loop : tie.InvT-loop
 Inv-loop image op position times n forward marks at₀ left₀ rest₀ at left rest =
@@ -24,8 +26,8 @@ Inv-loop image op position times n forward marks at₀ left₀ rest₀ at left r
 abbrev μ-loop : tie.MeasureT-loop
 μ-loop image op position times n forward marks at₀ left₀ rest₀ at left rest = rest
 
-field-requires : tie.Need-field-requires Inv-loop μ-loop
-field-requires c κs = omega arith
+count-requires : tie.Need-count-requires Inv-loop μ-loop
+count-requires c κs = omega arith
 
 entries-ahead-requires : tie.Need-entries-ahead-requires Inv-loop μ-loop
 entries-ahead-requires c κs = omega arith
@@ -37,7 +39,7 @@ entry-passed-requires : tie.Need-entry-passed-requires Inv-loop μ-loop
 entry-passed-requires c κs = tt
 
 -- the entry passed is in the table
-below : (c : tie.After-entry-passed Inv-loop μ-loop) → c .entry-passed .result < c .before .before .before .before .before .field .result
+below : (c : tie.After-entry-passed Inv-loop μ-loop) → c .entry-passed .result < c .before .before .before .before .before .count .result
 below c =
     let at-loop = c .before .before .before in
     rw (c .entry-passed .ensures)
@@ -45,9 +47,10 @@ below c =
 
 -- the step stays in the table
 kept : (c : tie.After-position-after Inv-loop μ-loop)
-    → (c .position-after .result ≤ c .before .before .before .before .before .before .before .field .result)
+    → (c .position-after .result ≤ c .before .before .before .before .before .before .before .count .result)
     × (c .before .before .before .before .before .loop .rest - 1
-    ≡ aheadOf (eqb (c .before .before .before .before .before .before .before .before .before .args .op % 2) 0) (c .before .before .before .before .before .before .before .field .result) (c .position-after .result))
+    ≡ aheadOf (eqb (c .before .before .before .before .before .before .before .before .before .args .op % 2) 0) (c .before .before .before .before .before .before .before .count .result)
+    (c .position-after .result))
 kept c =
     let at-loop = c .before .before .before .before .before in
     let some = c .before .before .before .if2 .left in (
@@ -55,14 +58,8 @@ kept c =
       rw (c .position-after .ensures) (after-ahead _ _ _ some _ (at-loop .loop .inv .0) (at-loop .loop .inv .1)),
     )
 
-mul-field : tie.Need-mul-field Inv-loop μ-loop
-mul-field c = let b = below c in omega arith
-
-add-field : tie.Need-add-field Inv-loop μ-loop
-add-field c = let b = below c in omega arith
-
-field-requires-2 : tie.Need-field-requires-2 Inv-loop μ-loop
-field-requires-2 c κs = let b = below c in omega arith
+entry-len-requires : tie.Need-entry-len-requires Inv-loop μ-loop
+entry-len-requires c κs = let b = below c in record { few = omega arith; whole = omega arith }
 
 position-after-requires : tie.Need-position-after-requires Inv-loop μ-loop
 position-after-requires c κs = omega arith
@@ -128,7 +125,11 @@ returns-2 c = (sym (c .before .before .loop .inv .2 ∙ walk-end _ _ _ _ _ _ (c 
 
 returns-3 : tie.Need-returns-3 Inv-loop μ-loop
 unfolding spacing
-returns-3 c = (sym (c .before .before .before .before .before .before .before .loop .inv .2 ∙ walk-stop _ _ _ _ _ _ (c .before .before .before .before .before .before .if1 .left) (c .before .before .before .before .before .if2 .left) (c .if4 .left) (cc) ∙ (cc)))
+returns-3 c =
+    sym
+    (c .before .before .before .before .before .before .before .loop .inv .2
+    ∙ walk-stop _ _ _ _ _ _ (c .before .before .before .before .before .before .if1 .left) (c .before .before .before .before .before .if2 .left) (c .if4 .left) (cc)
+    ∙ (cc))
 
 pub space-spec : {M : Type 1} → statement M
 space-spec =
@@ -136,13 +137,11 @@ space-spec =
     (tie.spec
     Inv-loop
     μ-loop
-    field-requires
+    count-requires
     entries-ahead-requires
     loop-holds
     entry-passed-requires
-    mul-field
-    add-field
-    field-requires-2
+    entry-len-requires
     position-after-requires
     sub-rest
     sub-left

@@ -1,23 +1,29 @@
-use Rattle.replies.specs.declared.Reply.the-variants.{Plain}
+use Rattle.tape_service.proofs.Leaving.{refused}
 use Rattle.session.specs.TapeService.{tapeClose}
-use Rattle.session.proofs.Serving.{told-ok, told-no}
+use Rattle.session.specs.Judge.{judge}
+use mathlib.Core.Path.{sym}
+use Rattle.xdr.proofs.Tests.{picking}
 use borrow.Author.Needs.{needs}
 use Rattle.tape_service.proofs.close_tape.Statement.{statement}
 use Rattle.tape_service.proofs.close_tape.Tie as tie
 use Rattle.tape_service.proofs.close_tape.Reads as reads
 use Rattle.tape_service.proofs.close_tape.Lts as lts
-use Rattle.tape_service.proofs.tape_error.Reads as tape-error-reads
-
-tape-error-requires : tie.Need-tape-error-requires
-tape-error-requires c κs = search needs
+use Rattle.session.proofs.types.Mover.holds_tape.Reads as holds-tape-reads
 
 returns : tie.Need-returns
-unfolding tapeClose
-returns c = λ l. told-no (λ e. Plain e) _ _ _ _ (c .before .tape-error .ensures) (c .if1 .taken)
+unfolding tapeClose judge
+returns c = λ l. refused (search picking depth 8)
+
+holds-tape-requires : tie.Need-holds-tape-requires
+holds-tape-requires c κs = search needs
 
 returns-2 : tie.Need-returns-2
-unfolding tapeClose
-returns-2 c = λ l. told-ok (λ e. Plain e) _ _ _ _ (c .before .tape-error .ensures) (c .if1 .left)
+unfolding tapeClose judge
+returns-2 c = λ l. refused (search picking depth 8)
+
+returns-3 : tie.Need-returns-3
+unfolding tapeClose judge
+returns-3 c = λ l. sym (search picking depth 10)
 
 pub close-tape-spec : {M : Type 1} → statement M
-close-tape-spec = tie.close (tie.spec tape-error-requires returns returns-2)
+close-tape-spec = tie.close (tie.spec returns holds-tape-requires returns-2 returns-3)

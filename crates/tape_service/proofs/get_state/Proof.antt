@@ -1,26 +1,34 @@
+use Rattle.tape_service.proofs.Leaving.{refused}
 use Rattle.session.specs.TapeService.{tapeState}
-use Rattle.tape_service.proofs.Answering.{told-standing, told-refused}
+use Rattle.session.specs.Judge.{judge}
+use mathlib.Core.Path.{sym}
+use Rattle.xdr.proofs.Tests.{picking}
 use borrow.Author.Needs.{needs}
 use Rattle.tape_service.proofs.get_state.Statement.{statement}
 use Rattle.tape_service.proofs.get_state.Tie as tie
 use Rattle.tape_service.proofs.get_state.Reads as reads
 use Rattle.tape_service.proofs.get_state.Lts as lts
 use Rattle.cartridge.proofs.state.Reads as state-reads
-use Rattle.tape_service.proofs.device_error.Reads as device-error-reads
-
-device-error-requires : tie.Need-device-error-requires
-device-error-requires c κs = search needs
+use Rattle.tape_service.proofs.is_refusal.Reads as is-refusal-reads
 
 returns : tie.Need-returns
-unfolding tapeState
-returns c = told-refused _ _ _ _ _ (c .before .device-error .ensures) (c .if1 .taken)
+unfolding tapeState judge
+returns c = refused (search picking depth 8)
 
 state-requires : tie.Need-state-requires
 state-requires c κs = search needs
 
+is-refusal-requires : tie.Need-is-refusal-requires
+is-refusal-requires c κs = search needs
+
 returns-2 : tie.Need-returns-2
-unfolding tapeState
-returns-2 c = told-standing _ _ _ _ _ (c .before .before .device-error .ensures) _ (c .before .if1 .left) (c .state .ensures)
+unfolding tapeState judge
+returns-2 c = rw (← (c .before .before .state .ensures)) (refused (search picking depth 10))
+
+returns-3 : tie.Need-returns-3
+unfolding tapeState judge
+returns-3 c = rw (← (c .before .before .state .ensures)) (sym (search picking depth 10))
 
 pub get-state-spec : {M : Type 1} → statement M
-get-state-spec = tie.close (tie.spec device-error-requires returns state-requires returns-2)
+get-state-spec =
+    tie.close (tie.spec returns state-requires is-refusal-requires returns-2 returns-3)

@@ -1,3 +1,4 @@
+use denote.Ref.{now}
 use Rattle.session.proofs.Serving.{named}
 use Rattle.session.specs.TapeService.{tape0}
 use borrow.Author.Needs.{needs}
@@ -27,7 +28,7 @@ same-requires c κs = search needs
 
 returns : tie.Need-returns
 unfolding tape0
-returns c = named _ _ _ _ (c .same .ensures)
+returns c = let a = c .before .before .before .before .before .args in named (now (a .body)) (a .name) _ _ (c .same .ensures)
 
 pub is-tape-spec : {M : Type 1} → statement M
 is-tape-spec =

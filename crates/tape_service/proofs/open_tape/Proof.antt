@@ -1,27 +1,38 @@
-use Rattle.replies.specs.declared.Reply.the-variants.{Plain}
+use Rattle.tape_service.proofs.Leaving.{refused}
 use Rattle.session.specs.TapeService.{tapeOpen}
-use Rattle.session.proofs.Serving.{told-ok, told-no}
+use Rattle.session.specs.Judge.{judge}
+use mathlib.Core.Path.{sym}
+use Rattle.xdr.proofs.Tests.{picking}
 use borrow.Author.Needs.{needs}
 use Rattle.tape_service.proofs.open_tape.Statement.{statement}
 use Rattle.tape_service.proofs.open_tape.Tie as tie
 use Rattle.tape_service.proofs.open_tape.Reads as reads
 use Rattle.tape_service.proofs.open_tape.Lts as lts
 use Rattle.image.proofs.sound.Reads as sound-reads
-use Rattle.tape_service.proofs.open_error.Reads as open-error-reads
+
+returns : tie.Need-returns
+unfolding tapeOpen judge
+returns c = refused (search picking depth 8)
+
+returns-2 : tie.Need-returns-2
+unfolding tapeOpen judge
+returns-2 c = refused (search picking depth 8)
+
+returns-3 : tie.Need-returns-3
+unfolding tapeOpen judge
+returns-3 c = refused (search picking depth 10)
 
 sound-requires : tie.Need-sound-requires
 sound-requires c κs = search needs
 
-open-error-requires : tie.Need-open-error-requires
-open-error-requires c κs = search needs
+returns-4 : tie.Need-returns-4
+unfolding tapeOpen judge
+returns-4 c = refused (search picking depth 12)
 
-returns : tie.Need-returns
-unfolding tapeOpen
-returns c = rw (← (c .before .before .sound .ensures)) (told-no (λ e. Plain e) _ _ _ _ (c .before .open-error .ensures) (c .if1 .taken))
-
-returns-2 : tie.Need-returns-2
-unfolding tapeOpen
-returns-2 c = rw (← (c .before .before .sound .ensures)) (told-ok (λ e. Plain e) _ _ _ _ (c .before .open-error .ensures) (c .if1 .left))
+returns-5 : tie.Need-returns-5
+unfolding tapeOpen judge
+returns-5 c = sym (search picking depth 12)
 
 pub open-tape-spec : {M : Type 1} → statement M
-open-tape-spec = tie.close (tie.spec sound-requires open-error-requires returns returns-2)
+open-tape-spec =
+    tie.close (tie.spec returns returns-2 returns-3 sound-requires returns-4 returns-5)

@@ -1,33 +1,55 @@
-use Rattle.replies.specs.declared.Reply.the-variants as Reply
-use Rattle.tape_service.proofs.Answering.{told-part}
+use Rattle.tape_service.proofs.Leaving.{refused}
 use Rattle.session.specs.TapeService.{tapeRead}
-use Rattle.session.proofs.Serving.{told-then, told-other, told-error}
+use Rattle.session.specs.Judge.{judge}
+use mathlib.Core.Path.{sym}
+use Rattle.xdr.proofs.Tests.{picking}
 use borrow.Author.Needs.{needs}
 use Rattle.tape_service.proofs.read.Statement.{statement}
 use Rattle.tape_service.proofs.read.Tie as tie
 use Rattle.tape_service.proofs.read.Reads as reads
 use Rattle.tape_service.proofs.read.Lts as lts
 use Rattle.cartridge.proofs.read.Reads as read-reads
+use Rattle.session.proofs.types.Mover.holds_tape.Reads as holds-tape-reads
+use Rattle.tape_service.proofs.is_refusal.Reads as is-refusal-reads
 use Rattle.tape_service.proofs.moved_to.Reads as moved-to-reads
-use Rattle.tape_service.proofs.tape_error.Reads as tape-error-reads
-
-tape-error-requires : tie.Need-tape-error-requires
-tape-error-requires c κs = search needs
 
 returns : tie.Need-returns
-unfolding tapeRead
-returns c = told-other _ _ _ _ (c .before .tape-error .ensures) _ _ (c .if1 .taken) (told-error (λ e. Reply.Read e 0 0) _ _ _ (c .before .tape-error .ensures))
+unfolding tapeRead judge
+returns c = refused (search picking depth 8)
+
+holds-tape-requires : tie.Need-holds-tape-requires
+holds-tape-requires c κs = search needs
+
+returns-2 : tie.Need-returns-2
+unfolding tapeRead judge
+returns-2 c = refused (search picking depth 8)
 
 read-requires : tie.Need-read-requires
 read-requires c κs = search needs
 
+is-refusal-requires : tie.Need-is-refusal-requires
+is-refusal-requires c κs = search needs
+
+returns-3 : tie.Need-returns-3
+unfolding tapeRead judge
+returns-3 c = rw (← (c .before .before .read .ensures)) (refused (search picking depth 14))
+
 moved-to-requires : tie.Need-moved-to-requires
 moved-to-requires c κs = search needs
 
-returns-2 : tie.Need-returns-2
-unfolding tapeRead
-returns-2 c = told-then _ _ _ _ (c .before .before .before .tape-error .ensures) _ _ (c .before .before .if1 .left) (told-part (c .before .before .before .before .before .args .t) _ _ _ (c .before .read .result) (c .before .read .ensures) (c .moved-to .ensures))
+returns-4 : tie.Need-returns-4
+unfolding tapeRead judge
+returns-4 c = rw (← (c .before .before .before .read .ensures), c .moved-to .ensures) (sym (search picking depth 14))
 
 pub read-spec : {M : Type 1} → statement M
 read-spec =
-    tie.close (tie.spec tape-error-requires returns read-requires moved-to-requires returns-2)
+    tie.close
+    (tie.spec
+    returns
+    holds-tape-requires
+    returns-2
+    read-requires
+    is-refusal-requires
+    returns-3
+    moved-to-requires
+    returns-4)

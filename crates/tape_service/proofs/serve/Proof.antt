@@ -1,6 +1,8 @@
-use native.Mathlib.Omega.{arith}
-use Rattle.session.specs.TapeService.{deviceStep, TapeTexts}
+-- Each arm: what its function ensures is the definition's clause for that request.
+use Rattle.requests.specs.Within.{textsWithin}
 use Rattle.session.proofs.Serving.{text-is}
+use Rattle.session.specs.TapeService.{deviceStep}
+use native.Mathlib.Omega.{arith}
 use borrow.Author.Needs.{needs}
 use Rattle.tape_service.proofs.serve.Statement.{statement}
 use Rattle.tape_service.proofs.serve.Tie as tie
@@ -18,7 +20,7 @@ enum-known-q : tie.Need-enum-known-q
 enum-known-q c = search needs
 
 is-tape-requires : tie.Need-is-tape-requires
-unfolding TapeTexts
+unfolding textsWithin
 is-tape-requires c κs = rw (c .before .q .given .1) at (c .before .before .before .before .before .pre)
 
 open-tape-requires : tie.Need-open-tape-requires
@@ -46,7 +48,7 @@ enum-known-q-3 : tie.Need-enum-known-q-3
 enum-known-q-3 c = search needs
 
 add-end : tie.Need-add-end
-unfolding TapeTexts
+unfolding textsWithin
 add-end c = let h = rw (c .before .before .q3 .given .1) at (c .before .before .before .before .before .before .pre) in omega arith
 
 sub-write : tie.Need-sub-write
@@ -56,7 +58,7 @@ part-write-start : tie.Need-part-write-start
 part-write-start c = search needs
 
 part-write-end : tie.Need-part-write-end
-unfolding TapeTexts
+unfolding textsWithin
 part-write-end c = let h = rw (c .before .before .before .q3 .given .1) at (c .before .before .before .before .before .before .before .pre) in omega arith
 
 write-requires : tie.Need-write-requires

@@ -1,3 +1,4 @@
+-- Each return is the rule that applies there, found by its tests; rules (6) and (7) by what the write gave.
 use lib.Seq.{length-take-le}
 use lib.ListN.{length-take}
 use native.Mathlib.Omega.{arith}
@@ -10,7 +11,7 @@ use Rattle.to_tape.proofs.fill_tape.Statement.{statement}
 use Rattle.to_tape.proofs.fill_tape.Tie as tie
 use Rattle.to_tape.proofs.fill_tape.Reads as reads
 use Rattle.to_tape.proofs.fill_tape.Lts as lts
-use Rattle.cartridge.proofs.lesser.Reads as lesser-reads
+use Rattle.xdr.proofs.lesser_len.Reads as lesser-len-reads
 use Rattle.moves.proofs.no_move.Reads as no-move-reads
 use Rattle.moves.proofs.pause_at.Reads as pause-at-reads
 use Rattle.moves.proofs.take_record.Reads as take-record-reads
@@ -23,8 +24,11 @@ add-end c = search needs
 cast-size : tie.Need-cast-size
 cast-size c = search needs
 
-lesser-requires : tie.Need-lesser-requires
-lesser-requires c κs = search needs
+lesser-len-requires : tie.Need-lesser-len-requires
+lesser-len-requires c κs = search needs
+
+is-scant-requires : tie.Need-is-scant-requires
+is-scant-requires c κs = search needs
 
 pause-at-requires : tie.Need-pause-at-requires
 pause-at-requires c κs = search needs
@@ -32,9 +36,6 @@ pause-at-requires c κs = search needs
 returns : tie.Need-returns
 unfolding filling
 returns c = search telling depth 15
-
-is-scant-requires : tie.Need-is-scant-requires
-is-scant-requires c κs = search needs
 
 no-move-requires : tie.Need-no-move-requires
 no-move-requires c κs = search needs
@@ -75,10 +76,10 @@ fill-tape-spec =
     (tie.spec
     add-end
     cast-size
-    lesser-requires
+    lesser-len-requires
+    is-scant-requires
     pause-at-requires
     returns
-    is-scant-requires
     no-move-requires
     returns-2
     slice-aggregate-write-filled

@@ -1,16 +1,16 @@
 use Rattle.xdr.proofs.Tests.{picking}
-use Rattle.moves.specs.Moves.{ending}
+use Rattle.moves.specs.Moves.{streamEnds}
 use Rattle.to_tape.proofs.is_ending.Statement.{statement}
 use Rattle.to_tape.proofs.is_ending.Tie as tie
 use Rattle.to_tape.proofs.is_ending.Reads as reads
 use Rattle.to_tape.proofs.is_ending.Lts as lts
 
 returns : tie.Need-returns
-unfolding ending
+unfolding streamEnds
 returns c = search picking depth 10
 
 returns-2 : tie.Need-returns-2
-unfolding ending
+unfolding streamEnds
 returns-2 c = search picking depth 10
 
 pub is-ending-spec : {M : Type 1} → statement M

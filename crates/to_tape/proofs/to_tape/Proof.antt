@@ -1,3 +1,4 @@
+-- Each return is the rule that applies there, found by its tests; past them the mover runs and the tape has no fault.
 use Rattle.moves.specs.Moves.{toTape}
 use Rattle.cartridge.proofs.Telling.{telling}
 use Rattle.to_tape.proofs.Laws.{fillable}

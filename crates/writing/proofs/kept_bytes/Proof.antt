@@ -1,3 +1,4 @@
+-- The bytes kept end where the entry at the position begins, or with those in use at the end, by a law for each.
 use borrow.Author.Needs.{needs}
 use native.Mathlib.Omega.{arith}
 use Rattle.writing.proofs.Laws.{keeps-cut, keeps-end}
@@ -5,22 +6,18 @@ use Rattle.writing.proofs.kept_bytes.Statement.{statement}
 use Rattle.writing.proofs.kept_bytes.Tie as tie
 use Rattle.writing.proofs.kept_bytes.Reads as reads
 use Rattle.writing.proofs.kept_bytes.Lts as lts
-use Rattle.image.proofs.field.Reads as field-reads
+use Rattle.image.proofs.count.Reads as count-reads
+use Rattle.image.proofs.entry_start.Reads as entry-start-reads
+use Rattle.image.proofs.used_bytes.Reads as used-bytes-reads
 
-field-requires : tie.Need-field-requires
-field-requires c κs = search needs
+count-requires : tie.Need-count-requires
+count-requires c κs = search needs
 
-mul-field : tie.Need-mul-field
-mul-field c = search needs
+entry-start-requires : tie.Need-entry-start-requires
+entry-start-requires c κs = search needs
 
-add-field : tie.Need-add-field
-add-field c = search needs
-
-field-requires-2 : tie.Need-field-requires-2
-field-requires-2 c κs = search needs
-
-field-requires-3 : tie.Need-field-requires-3
-field-requires-3 c κs = search needs
+used-bytes-requires : tie.Need-used-bytes-requires
+used-bytes-requires c κs = search needs
 
 returns : tie.Need-returns
 returns c = keeps-cut _ _ _ (c .before .before .before .before .pre) (omega arith) (cc)
@@ -32,10 +29,8 @@ pub kept-bytes-spec : {M : Type 1} → statement M
 kept-bytes-spec =
     tie.close
     (tie.spec
-    field-requires
-    mul-field
-    add-field
-    field-requires-2
-    field-requires-3
+    count-requires
+    entry-start-requires
+    used-bytes-requires
     returns
     returns-2)

@@ -1,31 +1,29 @@
+-- Without room nothing is written; with it, the entry, the part and the zeros are one record written, by laws on writes.
 use native.Mathlib.Omega.{arith}
 use denote.Ref.{now}
 use Rattle.xdr.proofs.Tests.{no}
 use Rattle.writing.specs.Writing.{Room}
-use Rattle.writing.proofs.Laws.{room-facts, room-holds, filled-refused, filled-done}
-use Rattle.writing.proofs.Entries.{filled-is}
+use Rattle.writing.proofs.Laws.{room-facts, room-holds, filled-refused, filled-done, filled-is}
 use borrow.Author.Needs.{needs}
 use Rattle.writing.proofs.write_filled.Statement.{statement}
 use Rattle.writing.proofs.write_filled.Tie as tie
 use Rattle.writing.proofs.write_filled.Reads as reads
 use Rattle.writing.proofs.write_filled.Lts as lts
-use Rattle.image.proofs.field.Reads as field-reads
+use Rattle.image.proofs.body_at.Reads as body-at-reads
+use Rattle.image.proofs.capacity.Reads as capacity-reads
+use Rattle.image.proofs.put_entry.Reads as put-entry-reads
 use Rattle.writing.proofs.kept_bytes.Reads as kept-bytes-reads
-use Rattle.writing.proofs.put_entry.Reads as put-entry-reads
 use Rattle.xdr.proofs.copy_blocks.Reads as copy-blocks-reads
 use Rattle.xdr.proofs.zero_fill.Reads as zero-fill-reads
 
-field-requires : tie.Need-field-requires
-field-requires c κs = search needs
+capacity-requires : tie.Need-capacity-requires
+capacity-requires c κs = search needs
 
 kept-bytes-requires : tie.Need-kept-bytes-requires
 kept-bytes-requires c κs = search needs
 
-mul-body : tie.Need-mul-body
-mul-body c = search needs
-
-add-body : tie.Need-add-body
-add-body c = search needs
+body-at-requires : tie.Need-body-at-requires
+body-at-requires c κs = search needs
 
 same-length : tie.Need-same-length
 same-length c = search needs
@@ -71,7 +69,7 @@ same-length-3 c = search needs
 
 returns-3 : tie.Need-returns-3
 returns-3 c =
-    let a = c .before .before .before .before .before .before .before .before .before .before .before .before .before .before .before .before .before .before .before .before .args in
+    let a = c .before .before .before .before .before .before .before .before .before .before .before .before .before .before .before .before .before .before .before .before .before .before .args in
     let r : Room (now (a .image)) (a .position) (a .size) = search needs in
     filled-done _ _ _ _ _ (room-holds _ _ _ r)
     (cc (filled-is (now (a .image)) (a .position) (now (a .part)) (a .size) (omega arith)))
@@ -80,10 +78,9 @@ pub write-filled-spec : {M : Type 1} → statement M
 write-filled-spec =
     tie.close
     (tie.spec
-    field-requires
+    capacity-requires
     kept-bytes-requires
-    mul-body
-    add-body
+    body-at-requires
     same-length
     returns
     sub-if2

@@ -1,3 +1,4 @@
+-- What is left to write is invariant; each turn writes one mark, by a law.
 use mathlib.Core.Path.{sym, _∙_}
 use native.Mathlib.Omega.{arith}
 use borrow.Author.Needs.{needs}
@@ -7,7 +8,7 @@ use Rattle.writing.proofs.write_marks.Tie as tie
 use Rattle.writing.proofs.write_marks.Reads as reads
 use Rattle.writing.proofs.write_marks.Lts as lts
 use Rattle.writing.proofs.kept_bytes.Reads as kept-bytes-reads
-use Rattle.writing.proofs.put_entry.Reads as put-entry-reads
+use Rattle.image.proofs.put_entry.Reads as put-entry-reads
 
 abbrev Inv-loop : tie.InvT-loop
 Inv-loop image₀ position times keep at₀ left₀ image at left = Marking image₀ position times keep image at left

@@ -6,7 +6,7 @@ use Rattle.examples.proofs.line.put_body.Statement.{statement}
 use Rattle.examples.proofs.line.put_body.Tie as tie
 use Rattle.examples.proofs.line.put_body.Reads as reads
 use Rattle.examples.proofs.line.put_body.Lts as lts
-use Rattle.cartridge.proofs.lesser.Reads as lesser-reads
+use Rattle.xdr.proofs.lesser_len.Reads as lesser-len-reads
 use Rattle.examples.proofs.line.put.Reads as put-reads
 use Rattle.examples.proofs.line.put_number.Reads as put-number-reads
 use Rattle.xdr.proofs.read_word.Reads as read-word-reads
@@ -17,8 +17,8 @@ Inv-loop s end stop at₀ t5 t6 at = 28 ≤ at
 abbrev μ-loop : tie.MeasureT-loop
 μ-loop s end stop at₀ t5 t6 at = stop - at
 
-lesser-requires : tie.Need-lesser-requires Inv-loop μ-loop
-lesser-requires c κs = search needs
+lesser-len-requires : tie.Need-lesser-len-requires Inv-loop μ-loop
+lesser-len-requires c κs = search needs
 
 loop-holds : tie.Need-loop-holds Inv-loop μ-loop
 loop-holds c = search needs
@@ -62,7 +62,7 @@ put-body-spec =
     (tie.spec
     Inv-loop
     μ-loop
-    lesser-requires
+    lesser-len-requires
     loop-holds
     sub-if1
     slice-aggregate-put-number

@@ -1,10 +1,11 @@
 use borrow.Author.Needs.{needs}
-use Rattle.reply_vectors.proofs.Ready.{ready}
+use Rattle.replies.specs.Fit.{Sendable}
 use Rattle.reply_vectors.proofs.sending.put_reply.Statement.{statement}
 use Rattle.reply_vectors.proofs.sending.put_reply.Tie as tie
 
 write-reply-requires : tie.Need-write-reply-requires
-write-reply-requires c κs = (search needs, ready _ _ (c .before .before .pre))
+unfolding Sendable
+write-reply-requires c κs = (search needs, c .before .before .pre)
 
 returns : tie.Need-returns
 returns c = search needs

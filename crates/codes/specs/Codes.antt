@@ -1,0 +1,123 @@
+-- Numbers of 004 and of paper 01 by name, for every crate. An abbrev unfolds wherever it stands, so that no proof sees a name.
+use Prim.Native.Nat.{ℕ}
+use mathlib.Core.List.{List, [], _∷_}
+use mathlib.Core.Path.{_≡_}
+
+-- ---- refusals and outcomes, as 004 names them
+abbrev pub notSupported : ℕ
+notSupported = 1
+
+abbrev pub deviceOpened : ℕ
+deviceOpened = 3
+
+abbrev pub notAuthorized : ℕ
+notAuthorized = 4
+
+abbrev pub permissionDenied : ℕ
+permissionDenied = 5
+
+abbrev pub notOpen : ℕ
+notOpen = 6
+
+abbrev pub ioError : ℕ
+ioError = 7
+
+abbrev pub illegalArguments : ℕ
+illegalArguments = 9
+
+abbrev pub atMark : ℕ
+atMark = 12
+
+abbrev pub atEnd : ℕ
+atEnd = 13
+
+abbrev pub badFile : ℕ
+badFile = 15
+
+abbrev pub noDevice : ℕ
+noDevice = 16
+
+abbrev pub undecodable : ℕ
+undecodable = 18
+
+abbrev pub illegalState : ℕ
+illegalState = 19
+
+abbrev pub otherNotListening : ℕ
+otherNotListening = 23
+
+abbrev pub readInProgress : ℕ
+readInProgress = 25
+
+abbrev pub precondition : ℕ
+precondition = 26
+
+-- ---- refusals of a call: nothing is written or changed
+abbrev pub shortOutput : ℕ
+shortOutput = 1001
+
+abbrev pub brokenSession : ℕ
+brokenSession = 1002
+
+-- ---- MTIO's operations: "0 FSF, 1 BSF, 2 FSR, 3 BSR, 4 REW, 5 write marks, 6 off"
+abbrev pub forwardFiles : ℕ
+forwardFiles = 0
+
+abbrev pub backFiles : ℕ
+backFiles = 1
+
+abbrev pub forwardRecords : ℕ
+forwardRecords = 2
+
+abbrev pub backRecords : ℕ
+backRecords = 3
+
+abbrev pub rewindTape : ℕ
+rewindTape = 4
+
+abbrev pub writeMarks : ℕ
+writeMarks = 5
+
+abbrev pub offLine : ℕ
+offLine = 6
+
+-- ---- limits
+-- "Length, without the mark, 24 to 36,864"
+abbrev pub largestMessage : ℕ
+largestMessage = 36864
+
+-- "length (0 is a mark, else 1 to 32,768)"
+abbrev pub longestRecord : ℕ
+longestRecord = 32768
+
+-- the pending sense has 18 bytes
+abbrev pub senseBytes : ℕ
+senseBytes = 18
+
+-- ---- what a client asks for
+-- "Address types other than LOCAL"
+abbrev pub localAddress : ℕ
+localAddress = 0
+
+-- the version that CONNECT open asks for
+abbrev pub versionFour : ℕ
+versionFour = 4
+
+-- ---- that the names stand for these numbers
+-- 004's errors, in its order
+abbrev pub errors : List ℕ
+errors =
+    notSupported ∷ deviceOpened ∷ notAuthorized ∷ permissionDenied ∷ notOpen ∷ ioError
+    ∷ illegalArguments ∷ atMark ∷ atEnd ∷ badFile ∷ noDevice ∷ undecodable
+    ∷ illegalState ∷ otherNotListening ∷ readInProgress ∷ precondition ∷ []
+
+-- 004's MTIO operations, in its order
+abbrev pub mtioOperations : List ℕ
+mtioOperations = forwardFiles ∷ backFiles ∷ forwardRecords ∷ backRecords ∷ rewindTape ∷ writeMarks ∷ offLine ∷ []
+
+pub record AsWritten : Type 0 where
+  pub errors-are : errors ≡ 1 ∷ 3 ∷ 4 ∷ 5 ∷ 6 ∷ 7 ∷ 9 ∷ 12 ∷ 13 ∷ 15 ∷ 16 ∷ 18 ∷ 19 ∷ 23 ∷ 25 ∷ 26 ∷ []
+  pub calls-are : shortOutput ∷ brokenSession ∷ [] ≡ 1001 ∷ 1002 ∷ []
+  pub operations-are : mtioOperations ≡ 0 ∷ 1 ∷ 2 ∷ 3 ∷ 4 ∷ 5 ∷ 6 ∷ []
+  pub limits-are : largestMessage ∷ longestRecord ∷ senseBytes ∷ [] ≡ 36864 ∷ 32768 ∷ 18 ∷ []
+  pub client-are : localAddress ∷ versionFour ∷ [] ≡ 0 ∷ 4 ∷ []

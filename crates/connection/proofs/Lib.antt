@@ -1,2 +1,0 @@
--- The law of a text login.
-pub mod Login

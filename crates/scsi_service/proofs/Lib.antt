@@ -1,2 +1,0 @@
--- The laws of execute CDB.
-pub mod Running
