@@ -1,3 +1,4 @@
+-- Too short an output is told with a closed session; else the notice is all that is sent.
 use Rattle.session.specs.Calls.{opening}
 use Rattle.xdr.proofs.Tests.{ltb-yes, ltb-no}
 use Rattle.answering.proofs.Calling.{call-if, call-else, unsent-as, announced}

@@ -1,3 +1,4 @@
+-- What the writer put at the output's start is the reply, and the session is the next one counted.
 use Rattle.answering.proofs.Calling.{finished}
 use borrow.Author.Needs.{needs}
 use Rattle.answering.proofs.finish.Statement.{statement}

@@ -1,3 +1,4 @@
+-- Two notices one after the other: what the first left is what the second goes on from.
 use native.Mathlib.Omega.{arith}
 use borrow.Author.Needs.{needs}
 use Rattle.answering.proofs.halts.Statement.{statement}

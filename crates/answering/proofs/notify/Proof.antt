@@ -1,3 +1,4 @@
+-- With no reason nothing is written; with one the notice stands behind what was sent.
 use native.Mathlib.Omega.{arith}
 use Rattle.answering.proofs.Calling.{not-noticed, also-noticed}
 use borrow.Author.Needs.{needs}

@@ -1,3 +1,4 @@
+-- Nothing is sent, and what is passed on is as it was.
 use mathlib.Core.Path.{refl}
 use Rattle.answering.proofs.Calling.{unsent}
 use borrow.Author.Needs.{needs}

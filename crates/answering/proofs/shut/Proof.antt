@@ -1,3 +1,4 @@
+-- Nothing is sent, and the session is the closed one.
 use Rattle.answering.proofs.Calling.{unsent}
 use borrow.Author.Needs.{needs}
 use Rattle.answering.proofs.shut.Statement.{statement}

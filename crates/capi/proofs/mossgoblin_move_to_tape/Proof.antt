@@ -1,3 +1,4 @@
+-- The contract is that of the call below.
 use borrow.Author.Needs.{needs}
 use Rattle.capi.proofs.mossgoblin_move_to_tape.Statement.{statement}
 use Rattle.capi.proofs.mossgoblin_move_to_tape.Tie as tie

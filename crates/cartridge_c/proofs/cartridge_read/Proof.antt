@@ -1,3 +1,4 @@
+-- The bytes copied are those of the part that the operation tells; a buffer too short is refused first.
 use native.Mathlib.Omega.{arith}
 use borrow.Author.Needs.{needs}
 use Rattle.cartridge_c.proofs.Laws.{read-within, handed-none, handed-all}

@@ -1,3 +1,4 @@
+-- Each arm is its clause of the definition.
 use mathlib.Core.Path.{refl}
 use Rattle.session.specs.Answer.{isClose}
 use borrow.Author.Needs.{needs}

@@ -1,3 +1,4 @@
+-- Stopped by the guard, nothing happens; else the method's end is announced.
 use denote.Ref.{now}
 use mathlib.Core.Path.{refl, sym, _∙_}
 use native.Mathlib.Omega.{arith}

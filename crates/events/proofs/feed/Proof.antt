@@ -1,3 +1,4 @@
+-- The move by its definition, put into the report.
 use denote.Ref.{now}
 use mathlib.Core.Path.{refl, sym, _∙_}
 use native.Mathlib.Omega.{arith}

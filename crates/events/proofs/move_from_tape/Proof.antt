@@ -1,3 +1,4 @@
+-- Stopped by the guard, nothing moves; else the bytes are handed over.
 use denote.Ref.{now}
 use mathlib.Core.Path.{refl, sym, _∙_}
 use native.Mathlib.Omega.{arith}

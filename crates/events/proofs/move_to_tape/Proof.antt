@@ -1,3 +1,4 @@
+-- Stopped by the guard, nothing moves; else the stream is fed.
 use denote.Ref.{now}
 use mathlib.Core.Path.{refl, sym, _∙_}
 use native.Mathlib.Omega.{arith}

@@ -1,3 +1,4 @@
+-- What was announced, with the count of the move.
 use mathlib.Core.Path.{refl}
 use native.Mathlib.Omega.{arith}
 use borrow.Author.Needs.{needs}

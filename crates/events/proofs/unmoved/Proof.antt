@@ -1,3 +1,4 @@
+-- Nothing is sent and nothing moves.
 use Rattle.answering.proofs.Calling.{unsent}
 use mathlib.Core.Path.{refl}
 use borrow.Author.Needs.{needs}

@@ -1,3 +1,4 @@
+-- Each arm is its clause of the definition.
 use Rattle.session.specs.Joint.{jointStep}
 use borrow.Author.Needs.{needs}
 use Rattle.joint_service.proofs.serve.Statement.{statement}

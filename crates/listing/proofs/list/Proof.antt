@@ -1,3 +1,4 @@
+-- The table lies within a sound image, so that each entry can be read.
 use borrow.Author.Needs.{needs}
 use Rattle.image.proofs.Laws.{sound-facts}
 use Rattle.listing.proofs.list.Statement.{statement}

@@ -1,3 +1,4 @@
+-- Each arm is its clause of the definition.
 use Rattle.session.specs.MoverService.{moverStep}
 use borrow.Author.Needs.{needs}
 use Rattle.mover_service.proofs.serve.Statement.{statement}

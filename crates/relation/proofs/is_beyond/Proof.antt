@@ -1,3 +1,4 @@
+-- A difference above the length is a sum below what was moved.
 use Prim.Native.Nat.{_+_}
 use mathlib.Core.Path.{sym}
 use native.Mathlib.Omega.{arith}

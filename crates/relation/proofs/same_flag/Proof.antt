@@ -1,3 +1,4 @@
+-- By the two cases of the first flag.
 use mathlib.Core.Path.{refl}
 use Rattle.session.specs.Relation.{sameFlag}
 use Rattle.relation.proofs.same_flag.Statement.{statement}

@@ -1,3 +1,4 @@
+-- The body is written behind the header's place, and the header then knows its length.
 use native.Mathlib.Omega.{arith}
 use mathlib.Core.Path.{refl}
 use Rattle.replies.proofs.Laws.{reply-sent, body-small}

@@ -1,3 +1,4 @@
+-- The part of the body that is lent holds the text's bytes.
 use denote.Ref.{now}
 use Rattle.session.proofs.Serving.{named}
 use Rattle.session.specs.ScsiService.{changer0}

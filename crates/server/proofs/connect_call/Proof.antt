@@ -1,3 +1,4 @@
+-- A close is told apart first; else what the connection came to is answered.
 use denote.Ref.{now}
 use native.Mathlib.Omega.{arith}
 use mathlib.Core.Path.{refl, sym, _∙_}

@@ -1,3 +1,4 @@
+-- Refused or accepted as the data step says, over the part of the record that is lent.
 use denote.Ref.{now}
 use native.Mathlib.Omega.{arith}
 use mathlib.Core.Path.{refl, sym, ap, _∙_}

@@ -1,3 +1,4 @@
+-- The request is the record's own; locked it is refused with 4, else it is at its service.
 use denote.Ref.{now}
 use native.Mathlib.Omega.{arith}
 use mathlib.Core.Path.{refl, sym, _∙_}

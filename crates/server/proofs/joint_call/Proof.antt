@@ -1,3 +1,4 @@
+-- Refused or accepted as the joint step says, with the notices of what halted.
 use denote.Ref.{now}
 use native.Mathlib.Omega.{arith}
 use mathlib.Core.Path.{refl, sym, ap, _∙_}

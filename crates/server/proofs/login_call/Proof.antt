@@ -1,3 +1,4 @@
+-- Refused or accepted as the connection's outcome says.
 use denote.Ref.{now}
 use native.Mathlib.Omega.{arith}
 use mathlib.Core.Path.{refl, sym, ap}

@@ -1,3 +1,4 @@
+-- Refused or accepted as the mover's step says, as the service's own outcome.
 use denote.Ref.{now}
 use native.Mathlib.Omega.{arith}
 use mathlib.Core.Path.{refl, sym, ap, _∙_}

@@ -1,3 +1,4 @@
+-- Stopped by the guard nothing happens; else the record is what its frame was found to be.
 use denote.Ref.{now}
 use native.Mathlib.Omega.{arith}
 use mathlib.Core.Path.{sym, _∙_}

@@ -1,3 +1,4 @@
+-- Each arm is its clause of `outcome`.
 use denote.Ref.{now}
 use native.Mathlib.Omega.{arith}
 use mathlib.Core.Path.{refl}

@@ -1,3 +1,4 @@
+-- Refused, the image is as it was; accepted, it is the one that the step says.
 use denote.Ref.{now}
 use native.Mathlib.Omega.{arith}
 use mathlib.Core.Path.{refl, sym}

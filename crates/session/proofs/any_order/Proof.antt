@@ -1,3 +1,4 @@
+-- By the law of proofs/Order.antt.
 use Rattle.session.proofs.Order.{any-order}
 use Rattle.session.proofs.any_order.Statement.{statement}
 use Rattle.session.proofs.any_order.Tie as tie

@@ -1,3 +1,4 @@
+-- By the laws of proofs/Calls.antt.
 use Rattle.session.proofs.Calls.{calls-keep}
 use Rattle.session.proofs.calls_keep.Statement.{statement}
 use Rattle.session.proofs.calls_keep.Tie as tie

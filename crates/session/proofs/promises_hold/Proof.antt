@@ -1,3 +1,4 @@
+-- By the laws of proofs/Windows.antt.
 use Rattle.session.proofs.Windows.{promises}
 use Rattle.session.proofs.promises_hold.Statement.{statement}
 use Rattle.session.proofs.promises_hold.Tie as tie

@@ -1,3 +1,4 @@
+-- Each test that applies is the list's; where none does the tape is closed.
 use Rattle.tape_service.proofs.Leaving.{refused}
 use Rattle.session.specs.TapeService.{tapeClose}
 use Rattle.session.specs.Judge.{judge}

@@ -1,3 +1,4 @@
+-- Each test that applies is the list's; where none does the state is the cartridge's.
 use Rattle.tape_service.proofs.Leaving.{refused}
 use Rattle.session.specs.TapeService.{tapeState}
 use Rattle.session.specs.Judge.{judge}

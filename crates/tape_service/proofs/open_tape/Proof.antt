@@ -1,3 +1,4 @@
+-- Each test that applies is the list's; where none does the tape is open.
 use Rattle.tape_service.proofs.Leaving.{refused}
 use Rattle.session.specs.TapeService.{tapeOpen}
 use Rattle.session.specs.Judge.{judge}

@@ -1,3 +1,4 @@
+-- Each test that applies is the list's, the cartridge's own number last; where none does the bytes are its part.
 use Rattle.tape_service.proofs.Leaving.{refused}
 use Rattle.session.specs.TapeService.{tapeRead}
 use Rattle.session.specs.Judge.{judge}

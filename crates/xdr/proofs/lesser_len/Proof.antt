@@ -1,3 +1,4 @@
+-- By the test: the one that is taken is the least.
 use native.Mathlib.Omega.{arith}
 use Rattle.xdr.proofs.Tests.{picking}
 use Rattle.xdr.specs.Choose.{least}

@@ -1,3 +1,4 @@
+-- Each test that fails is one of the definition's; where none does the place is found.
 use Rattle.xdr_opaque.proofs.Laws.{opaque-short, opaque-cut, opaque-whole}
 use native.Mathlib.Omega.{arith}
 use borrow.Author.Needs.{needs}

@@ -1,3 +1,4 @@
+-- The record fits its buffer, by the length of the body.
 use native.Mathlib.Omega.{arith}
 use mathlib.Core.Path.{sym}
 use lib.Seq.{length-take-le}

@@ -1,3 +1,4 @@
+-- The output is as long as a writer asks for.
 use borrow.Author.Needs.{needs}
 use Rattle.replies.specs.Fit.{Sendable}
 use Rattle.reply_vectors.proofs.sending.put_reply.Statement.{statement}

@@ -1,3 +1,4 @@
+-- What is left up to the top is less than the length exactly where the sum is above the top.
 use Prim.Native.Nat.{ℕ, _+_, _-_, _≤_}
 use mathlib.Core.Bool.{Bool, true, false}
 use mathlib.Core.Path.{_≡_, refl, sym}
