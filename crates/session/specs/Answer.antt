@@ -72,7 +72,7 @@ guarded s room idle x =
     (choose (s .closed) (idle 0)
     x))
 
--- a reply to the record r, whose bytes of a read lie in `seen`; k has the session with its next parts
+-- a reply to the record r, whose bytes of a read lie in `shown`; k has the session with its next parts
 abbrev pub replying : List ℕ → ℕ → Reply → List ℕ → Kept → Answered
 replying r time reply shown k =
     record {
