@@ -133,7 +133,8 @@ fn garbage_is_survived() {
         }
         let _ = socket.write_all(&bytes);
     }
-    host.client().login();
+    // The last of them may not have ended yet, and a full host turns a client away.
+    host.client_soon().login();
 }
 
 #[test]

@@ -71,6 +71,28 @@ impl Host {
     pub fn client(&self) -> Client {
         Client::connect(&self.address)
     }
+
+    /// A client of a host that may still be full: it is turned away until one of the others has ended.
+    pub fn client_soon(&self) -> Client {
+        soon(|| {
+            let mut client = self.client();
+            let first = client.receive().ok()?;
+            client.notices.push_back(first);
+            Some(client)
+        })
+        .expect("every connection is turned away")
+    }
+}
+
+/// What is there within ten seconds, however busy the machine is.
+fn soon<T>(mut ask: impl FnMut() -> Option<T>) -> Option<T> {
+    for _ in 0..500 {
+        if let Some(x) = ask() {
+            return Some(x);
+        }
+        std::thread::sleep(Duration::from_millis(20));
+    }
+    None
 }
 
 impl Drop for Host {
@@ -202,12 +224,8 @@ impl Client {
 
     /// Opens the tape that another has just left; the host may not have noticed yet.
     pub fn tape_open_soon(&mut self, mode: u32) {
-        for _ in 0..20 {
-            if word(&self.call(0x300, &[text("tape0"), words(&[mode])].concat()).body, 0) == 0 {
-                return;
-            }
-        }
-        panic!("the tape is not free");
+        let body = [text("tape0"), words(&[mode])].concat();
+        soon(|| (word(&self.call(0x300, &body).body, 0) == 0).then_some(())).expect("the tape is not free");
     }
 
     pub fn tape_close(&mut self) {
