@@ -94,10 +94,18 @@ longestRecord = 32768
 abbrev pub senseBytes : ℕ
 senseBytes = 18
 
+-- "At most 64 environment pairs and 64 names in a start request"
+abbrev pub mostListed : ℕ
+mostListed = 64
+
 -- ---- what a client asks for
 -- "Address types other than LOCAL"
 abbrev pub localAddress : ℕ
 localAddress = 0
+
+-- "Auth type 1 (text)"
+abbrev pub textAuth : ℕ
+textAuth = 1
 
 -- the version that CONNECT open asks for
 abbrev pub versionFour : ℕ
@@ -119,5 +127,5 @@ pub record AsWritten : Type 0 where
   pub errors-are : errors ≡ 1 ∷ 3 ∷ 4 ∷ 5 ∷ 6 ∷ 7 ∷ 9 ∷ 12 ∷ 13 ∷ 15 ∷ 16 ∷ 18 ∷ 19 ∷ 23 ∷ 25 ∷ 26 ∷ []
   pub calls-are : shortOutput ∷ brokenSession ∷ [] ≡ 1001 ∷ 1002 ∷ []
   pub operations-are : mtioOperations ≡ 0 ∷ 1 ∷ 2 ∷ 3 ∷ 4 ∷ 5 ∷ 6 ∷ []
-  pub limits-are : largestMessage ∷ longestRecord ∷ senseBytes ∷ [] ≡ 36864 ∷ 32768 ∷ 18 ∷ []
-  pub client-are : localAddress ∷ versionFour ∷ [] ≡ 0 ∷ 4 ∷ []
+  pub limits-are : largestMessage ∷ longestRecord ∷ senseBytes ∷ mostListed ∷ [] ≡ 36864 ∷ 32768 ∷ 18 ∷ 64 ∷ []
+  pub client-are : localAddress ∷ textAuth ∷ versionFour ∷ [] ≡ 0 ∷ 1 ∷ 4 ∷ []

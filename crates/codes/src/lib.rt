@@ -63,8 +63,14 @@ pub const LONGEST_RECORD: usize = 32768;
 // The bytes of the pending sense.
 pub const SENSE_BYTES: u32 = 18;
 
+// The most pairs of an environment, and the most names of a recover.
+pub const MOST_LISTED: u32 = 64;
+
 // The address type LOCAL.
 pub const LOCAL_ADDRESS: u32 = 0;
+
+// The auth type of a login by text.
+pub const TEXT_AUTH: u32 = 1;
 
 // The version that CONNECT open asks for.
 pub const VERSION_FOUR: u32 = 4;

@@ -6,11 +6,11 @@ ghost use Rattle.requests.specs.declared.Request.the-variants as Request;
 ghost use Rattle.session.specs.Connection.{Account, connectOpen, matches, clientAuth, connectStep, configStep};
 ghost use Rattle.session.specs.Answer.{needsLogin, isLocked, isClose};
 ghost use Rattle.connection.specs.Done.{outcomeOf};
+use layouts::Text;
 use replies::Reply;
 use requests::ConfigRequest;
 use requests::ConnectRequest;
 use requests::Request;
-use requests::Text;
 use session::types::Login;
 
 // A refusal, or a reply and what the connection knows after it.

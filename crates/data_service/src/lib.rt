@@ -5,10 +5,10 @@ ghost use Rattle.requests.specs.Within.{bytesAt, Within, textsWithin};
 ghost use Rattle.requests.specs.declared.Request.the-variants as Request;
 ghost use Rattle.session.specs.DataService.{dump, dataState, dataListen, dataStart, dataStop, dataStep};
 ghost use Rattle.data_service.specs.Done.{outcomeOf};
+use layouts::Text;
 use replies::DataView;
 use replies::Reply;
 use requests::DataRequest;
-use requests::Text;
 use session::types::Data;
 
 // A refusal, or a reply and the data end after it.

@@ -1,6 +1,6 @@
 // The parts of a line.
+use layouts::Text;
 use libc::STDOUT_FILENO;
-use requests::Text;
 
 pub fn put(text: &[u8]) {
     io::write_all(STDOUT_FILENO, text);

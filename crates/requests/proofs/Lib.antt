@@ -1,5 +1,5 @@
--- `Laws` says which case of each definition of specs/Bodies.antt holds, by plain facts; `Within` that the texts of a decoded request
--- lie within its body; `RoundTrip` that a request that was written is read back. They serve the crates above too.
+-- `Within` says that the texts of a decoded request lie within its body, `RoundTrip` that a request that was written is read back. They
+-- serve the crates above too.
 pub mod Laws
 pub mod Within
 pub mod RoundTrip

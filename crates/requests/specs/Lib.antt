@@ -1,3 +1,4 @@
 pub mod Bodies
 pub mod Within
 pub mod RoundTrip
+pub mod Rows

@@ -2,11 +2,11 @@
 ghost use mathlib.Core.Path.{_≡_};
 ghost use Rattle.requests.specs.Bodies.{connectBody, configBody, scsiBody, tapeBody, dataBody, moverBody, jointBody};
 ghost use Rattle.requests.specs.Within.{Decoded};
-ghost use Rattle.requests.specs.RoundTrip.{RequestsBack};
+ghost use Rattle.requests.specs.RoundTrip.{RequestsBack, OneSpelling};
+ghost use Rattle.requests.specs.Rows.{RowsHold};
 
 mod fields; // fields.rt: what the bodies of several messages share
 mod messages; // messages.rt: a decoder for each message with arguments
-mod names; // names.rt: the names of a recover
 
 use fields::bare;
 use frame::ConfigKind;
@@ -17,12 +17,7 @@ use frame::Message;
 use frame::MoverKind;
 use frame::ScsiKind;
 use frame::TapeKind;
-
-// A text or opaque data in the body: where it starts, and how long it is.
-pub struct Text {
-    pub start: usize,
-    pub len: usize,
-}
+use layouts::Text;
 
 pub enum ConnectRequest {
     Open(u32),
@@ -197,4 +192,14 @@ pub fn decode(m: Message, body: &[u8]) -> Request
 // No work: its contract is that a request that was written is read back, so that the crate is proved only with it.
 pub fn requests_round_trip()
     ensures { λ r. ⌜ RequestsBack ⌝ }
+{}
+
+// No work: its contract is that a body that decodes, fields to their end, has no second spelling.
+pub fn requests_one_spelling()
+    ensures { λ r. ⌜ OneSpelling ⌝ }
+{}
+
+// No work: its contract is one body for each message, and bodies that are none, computed.
+pub fn rows_hold()
+    ensures { λ r. ⌜ RowsHold ⌝ }
 {}

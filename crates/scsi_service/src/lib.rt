@@ -5,9 +5,9 @@ ghost use Rattle.requests.specs.Within.{bytesAt, Within, textsWithin};
 ghost use Rattle.requests.specs.declared.Request.the-variants as Request;
 ghost use Rattle.session.specs.ScsiService.{changer0, withSense, scsiOpen, scsiClear, scsiState, senseLength, scsiCdb, scsiStep};
 ghost use Rattle.scsi_service.specs.Done.{outcomeOf};
+use layouts::Text;
 use replies::Reply;
 use requests::ScsiRequest;
-use requests::Text;
 use session::types::Changer;
 
 // The most bytes of a CDB.

@@ -20,7 +20,7 @@ use Rattle.frame.specs.declared.Message.the-variants as Message
 use Rattle.requests.specs.Bodies.{decoded}
 use Rattle.requests.specs.Within.{bytesAt}
 use Rattle.requests.specs.declared.ConnectRequest.the-variants as ConnectRequest
-use Rattle.requests.specs.declared.Text.{Text}
+use Rattle.layouts.specs.declared.Text.{Text}
 use Rattle.requests.specs.declared.TapeRequest.{TapeRequest}
 use Rattle.requests.specs.declared.TapeRequest.the-variants as TapeRequest
 use Rattle.requests.specs.declared.Request.{Request}

@@ -6,7 +6,7 @@ use mathlib.Core.Path.{_≡_, ap, _∙_}
 use native.Mathlib.Omega.{arith}
 use lib.ListN.{take, drop}
 use Rattle.xdr.specs.Xdr.{sameBytes}
-use Rattle.requests.specs.declared.Text.{Text}
+use Rattle.layouts.specs.declared.Text.{Text}
 use Rattle.requests.specs.Within.{bytesAt}
 
 -- the part of a body that is lent for a text

@@ -15,7 +15,7 @@ use Rattle.requests.specs.declared.TapeRequest.{TapeRequest}
 use Rattle.requests.specs.declared.TapeRequest.the-variants as TapeRequest
 use Rattle.requests.specs.declared.Request.{Request}
 use Rattle.requests.specs.declared.Request.the-variants as Request
-use Rattle.requests.specs.declared.Text.{Text}
+use Rattle.layouts.specs.declared.Text.{Text}
 use Rattle.replies.specs.declared.Reply.the-variants as Reply
 use Rattle.replies.specs.declared.Notice.the-variants as Notice
 use Rattle.replies.specs.Replies.{numberOf, noticeBytes}

@@ -7,9 +7,9 @@ ghost use Rattle.requests.specs.Within.{bytesAt, Within, textsWithin};
 ghost use Rattle.requests.specs.declared.Request.the-variants as Request;
 ghost use Rattle.session.specs.TapeService.{movedTo, tape0, isRefusal, protects, tapeOpen, tapeClose, tapeState, tapeMtio, tapeWrite, tapeRead, deviceStep};
 ghost use Rattle.tape_service.specs.Done.{Tells};
+use layouts::Text;
 use replies::Reply;
 use requests::TapeRequest;
-use requests::Text;
 use session::types::Mover;
 use session::types::Tape;
 

@@ -2,35 +2,37 @@
 -- after another. Assumes nothing.
 use Prim.Native.Nat.{ℕ, zero, suc, _+_, _-_, _≤_, _<_}
 use mathlib.Core.Bool.{Bool, true, false}
-use mathlib.Core.Path.{_≡_, refl, sym}
-use mathlib.Core.List.{List, _++_}
+use mathlib.Core.Path.{_≡_, refl, sym, _∙_}
+use mathlib.Core.List.{List, [], _∷_, _++_}
 use native.Mathlib.Omega.{arith}
-use native.Mathlib.Nat.{not-suc-le-zero}
-use lib.Dec.{leb}
-use lib.ListN.{length, replicate, length-append, length-replicate}
-use borrow.Author.Tests.{le-leb, lt-leb, leb-true, leb-false}
+use native.Mathlib.Numerals.{add-one}
+use lib.Dec.{eqb, leb}
+use lib.ListN.{length, drop, getD, replicate, length-append, length-replicate, drop-of-length-le}
+use lib.Seq.{drop-cons}
+use borrow.Author.Tests.{le-leb, lt-leb, leb-true, leb-false, eq-eqb, ne-eqb, eqb-true}
 use Rattle.xdr.specs.Choose.{choose}
 use Rattle.xdr.specs.Xdr.{be32, word, overlay}
 use Rattle.xdr.proofs.Laws.{more, length-be32}
-use Rattle.xdr_opaque.specs.Opaque.{wordAt, filled, opaqueAt, afterOpaque, andThen, pairAt, timesAt, countedAt}
+use Rattle.xdr_opaque.specs.Opaque.{wordAt, allZero, between, filled, opaqueAt}
 use Rattle.xdr_opaque.specs.Put.{Put, fill, opaque}
 use Rattle.xdr_opaque.specs.declared.Opaque.the-variants.{At, Bad}
-use Rattle.xdr_opaque.specs.declared.After.{After}
-use Rattle.xdr_opaque.specs.declared.After.the-variants.{Next, Short}
 use Rattle.xdr_opaque.specs.declared.Word.the-variants as Word
 
 -- what a choice that gave opaque data says
-record Chosen (b : Bool) (s n x s′ n′ x′ : ℕ) : Type 0 where
+record Chosen (a b d : Bool) (s n x s′ n′ x′ : ℕ) : Type 0 where
+  first : a ≡ true
   test : b ≡ true
+  zero : d ≡ true
   start : s ≡ s′
   len : n ≡ n′
   next : x ≡ x′
 
-chosen : (a b : Bool) (s n x s′ n′ x′ : ℕ) → At s n x ≡ choose a (choose b (At s′ n′ x′) Bad) Bad → Chosen b s n x s′ n′ x′
+chosen : (a b d : Bool) (s n x s′ n′ x′ : ℕ) → At s n x ≡ choose a (choose b (choose d (At s′ n′ x′) Bad) Bad) Bad → Chosen a b d s n x s′ n′ x′
 unfolding choose
-chosen true true s n x s′ n′ x′ e = record { test = refl; start = cc; len = cc; next = cc }
-chosen true false s n x s′ n′ x′ e = let z : _≡_ {A = ℕ} 0 1 = cc in absurd (omega arith)
-chosen false b s n x s′ n′ x′ e = let z : _≡_ {A = ℕ} 0 1 = cc in absurd (omega arith)
+chosen true true true s n x s′ n′ x′ e = record { first = refl; test = refl; zero = refl; start = cc; len = cc; next = cc }
+chosen true true false s n x s′ n′ x′ e = let z : _≡_ {A = ℕ} 0 1 = cc in absurd (omega arith)
+chosen true false d s n x s′ n′ x′ e = let z : _≡_ {A = ℕ} 0 1 = cc in absurd (omega arith)
+chosen false b d s n x s′ n′ x′ e = let z : _≡_ {A = ℕ} 0 1 = cc in absurd (omega arith)
 
 -- what a choice that gave a word says
 word-chosen : (a : Bool) (v v′ : ℕ) → Word.Value v ≡ choose a (Word.Value v′) Word.Short → (a ≡ true) × (v ≡ v′)
@@ -42,6 +44,50 @@ none-chosen : (a : Bool) (v : ℕ) → Word.Short ≡ choose a (Word.Value v) Wo
 unfolding choose
 none-chosen true v e = let z : _≡_ {A = ℕ} 0 1 = cc in absurd (omega arith)
 none-chosen false v e = refl
+
+-- opaque data that was found at an offset: its length word, its end within the list, and its fill
+pub record Found (l : List ℕ) (at s n x : ℕ) : Type 0 where
+  pub start : s ≡ at + 4
+  pub len : n ≡ word l at
+  pub next : x ≡ at + 4 + filled n
+  pub within : x ≤ length l
+  pub zero : allZero (between (s + n) x l) ≡ true
+
+both : (a b : Bool) → choose a b false ≡ true → (a ≡ true) × (b ≡ true)
+unfolding choose
+both true b e = (refl, e)
+both false b e = let z : _≡_ {A = ℕ} 0 1 = cc in absurd (omega arith)
+
+-- ---- bytes that are all zero
+module _ (l : List ℕ) (i : ℕ) {z : Bool} (e : z ≡ allZero (drop i l)) where
+  pub zero-more : i < length l → getD l i 0 ≡ 0 → z ≡ allZero (drop (i + 1) l)
+  unfolding allZero choose
+  zero-more h k = let d : allZero (drop i l) ≡ allZero (drop (i + 1) l) = rw (add-one, drop-cons l i 0 h, eq-eqb (getD l i 0) 0 k) in e ∙ d
+
+  pub zero-not : i < length l → (getD l i 0 ≡ 0 → ⊥) → false ≡ z
+  unfolding allZero choose
+  zero-not h k = let d : allZero (drop i l) ≡ false = rw (drop-cons l i 0 h, ne-eqb (getD l i 0) 0 k) in sym (e ∙ d)
+
+  pub zero-none : length l ≤ i → true ≡ z
+  unfolding allZero
+  zero-none h = let d : allZero (drop i l) ≡ true = rw (drop-of-length-le l h) in sym (e ∙ d)
+
+pub zero-replicate : (n : ℕ) → allZero (replicate n 0) ≡ true
+unfolding allZero choose
+zero-replicate zero = refl
+zero-replicate (suc n) = zero-replicate n
+
+zero-first : (x : ℕ) (xs : List ℕ) → choose (eqb x 0) (allZero xs) false ≡ true → (eqb x 0 ≡ true) × (allZero xs ≡ true)
+unfolding choose
+zero-first x xs e = both (eqb x 0) (allZero xs) e
+
+pub zero-is : (xs : List ℕ) → allZero xs ≡ true → xs ≡ replicate (length xs) 0
+unfolding allZero
+zero-is [] e = refl
+zero-is (x ∷ xs) e =
+    let p = zero-first x xs e in
+    let h : x ≡ 0 = eqb-true x 0 (p .0) in
+    cc (zero-is xs (p .1))
 
 module _ (l : List ℕ) (at : ℕ) where
   -- a word that may be missing
@@ -71,61 +117,38 @@ module _ (l : List ℕ) (at : ℕ) where
   unfolding opaqueAt choose
   opaque-cut n e h k = rw (le-leb (at + 4) (length l) h, ← e, lt-leb (at + 4 + filled n) (length l) k)
 
-  pub opaque-whole : (n : ℕ) → n ≡ word l at → at + 4 + filled n ≤ length l → At (at + 4) n (at + 4 + filled n) ≡ opaqueAt l at
+  -- the fill that n bytes at an offset have
+  pub opaque-rubbish : (n : ℕ) → n ≡ word l at → at + 4 + filled n ≤ length l → allZero (between (at + 4 + n) (at + 4 + filled n) l) ≡ false → Bad ≡ opaqueAt l at
   unfolding opaqueAt choose
-  opaque-whole n e k =
+  opaque-rubbish n e k z =
       let h : at + 4 ≤ length l = omega arith in
-      rw (le-leb (at + 4) (length l) h, ← e, le-leb (at + 4 + filled n) (length l) k)
+      rw (le-leb (at + 4) (length l) h, ← e, le-leb (at + 4 + filled n) (length l) k, z)
+
+  pub opaque-whole : (n : ℕ) → n ≡ word l at → at + 4 + filled n ≤ length l → allZero (between (at + 4 + n) (at + 4 + filled n) l) ≡ true → At
+      (at + 4) n (at + 4 + filled n) ≡ opaqueAt l at
+  unfolding opaqueAt choose
+  opaque-whole n e k z =
+      let h : at + 4 ≤ length l = omega arith in
+      rw (le-leb (at + 4) (length l) h, ← e, le-leb (at + 4 + filled n) (length l) k, z)
+
+  -- where opaque data was found: its length word, its end, and its fill
+  opaque-choice : (s n x : ℕ) → At s n x ≡ opaqueAt l at
+      → Chosen (leb (at + 4) (length l)) (leb (at + 4 + filled (word l at)) (length l)) (allZero (between (at + 4 + word l at) (at + 4 + filled (word l at)) l)) s n x
+      (at + 4) (word l at) (at + 4 + filled (word l at))
+  unfolding opaqueAt
+  opaque-choice s n x e = chosen _ _ _ s n x (at + 4) (word l at) (at + 4 + filled (word l at)) e
+
+  pub opaque-read : (s n x : ℕ) → At s n x ≡ opaqueAt l at → Found l at s n x
+  opaque-read s n x e =
+      let w = opaque-choice s n x e in
+      let k : at + 4 + filled (word l at) ≤ length l = leb-true _ _ (w .test) in
+      record { start = w .start; len = w .len; next = omega (arith, w .len, w .next); within = omega (arith, w .next); zero = rw (w .next, w .start, w .len) (w .zero) }
 
   -- where opaque data was found, its bytes and its fill are within the list
   pub opaque-within : (s n x : ℕ) → At s n x ≡ opaqueAt l at → (s + n ≤ x) × (x ≤ length l)
-  unfolding opaqueAt
   opaque-within s n x e =
-      let w = chosen (leb (at + 4) (length l)) (leb (at + 4 + filled (word l at)) (length l)) s n x (at + 4) (word l at) (at + 4 + filled (word l at)) e in
-      let k : at + 4 + filled (word l at) ≤ length l = leb-true _ _ (w .test) in
-      (omega (arith, w .start, w .len, w .next), omega (arith, w .next))
-
-  -- a pair of strings
-  pub pair-first : Bad ≡ opaqueAt l at → Short ≡ pairAt l at
-  unfolding pairAt afterOpaque
-  pair-first e = rw (← e)
-
-  pub pair-second : (s n x : ℕ) → At s n x ≡ opaqueAt l at → Bad ≡ opaqueAt l x → Short ≡ pairAt l at
-  unfolding pairAt afterOpaque
-  pair-second s n x e f = rw (← e, ← f)
-
-  pub pair-whole : (s n x s′ n′ y : ℕ) → At s n x ≡ opaqueAt l at → At s′ n′ y ≡ opaqueAt l x → Next y ≡ pairAt l at
-  unfolding pairAt afterOpaque
-  pair-whole s n x s′ n′ y e f = rw (← e, ← f)
-
--- elements one after another, and counted lists of them, by any reader
-module _ (f : List ℕ → ℕ → After) (l : List ℕ) (at : ℕ) where
-  pub times-none : (n : ℕ) → n ≤ 0 → Next at ≡ timesAt f n l at
-  unfolding timesAt
-  times-none zero h = refl
-  times-none (suc n) h = absurd (not-suc-le-zero h)
-
-  pub times-short : (n : ℕ) → 0 < n → Short ≡ f l at → Short ≡ timesAt f n l at
-  unfolding timesAt andThen
-  times-short zero h e = absurd (not-suc-le-zero h)
-  times-short (suc n) h e = rw (← e)
-
-  pub times-more : (n x : ℕ) → 0 < n → Next x ≡ f l at → timesAt f n l at ≡ timesAt f (n - 1) l x
-  unfolding timesAt andThen
-  times-more zero x h e = absurd (not-suc-le-zero h)
-  times-more (suc n) x h e = let k : suc n - 1 ≡ n = omega arith in rw (k, ← e)
-
-  pub counted-short : (most : ℕ) → length l < at + 4 → Short ≡ countedAt f most l at
-  unfolding countedAt choose
-  counted-short most h = rw (lt-leb (at + 4) (length l) h)
-
-  pub counted-long : (most n : ℕ) → n ≡ word l at → at + 4 ≤ length l → most < n → Short ≡ countedAt f most l at
-  unfolding countedAt choose
-  counted-long most n e h k = rw (le-leb (at + 4) (length l) h, ← e, lt-leb n most k)
-
-  pub counted-whole : (most n : ℕ) → n ≡ word l at → at + 4 ≤ length l → n ≤ most → timesAt f n l (at + 4) ≡ countedAt f most l at
-  unfolding countedAt choose
-  counted-whole most n e h k = rw (le-leb (at + 4) (length l) h, ← e, le-leb n most k)
+      let w = opaque-read s n x e in
+      (omega (arith, w .start, w .next), w .within)
 
 -- a write, and a write where it ends, are one write
 pub then : {at next last : ℕ} {a b l m m′ : List ℕ} → Put at a l next m → Put next b m last m′ → Put at (a ++ b) l last m′

@@ -1,15 +1,13 @@
--- Reading XDR (RFC 4506): variable-length opaque data and strings, pairs of strings, counted lists of elements of any kind, and a word
--- that may be missing.
-use Prim.Native.Nat.{ℕ, zero, suc, _+_, _*_, _/_}
-use mathlib.Core.List.{List}
-use lib.ListN.{length}
-use lib.Dec.{leb}
+-- Reading XDR (RFC 4506): variable-length opaque data and strings, and a word that may be missing.
+use Prim.Native.Nat.{ℕ, _+_, _-_, _*_, _/_}
+use mathlib.Core.Bool.{Bool, true, false}
+use mathlib.Core.List.{List, [], _∷_}
+use lib.ListN.{length, take, drop}
+use lib.Dec.{eqb, leb}
 use Rattle.xdr.specs.Choose.{choose}
 use Rattle.xdr.specs.Xdr.{word}
 use Rattle.xdr_opaque.specs.declared.Opaque.{Opaque}
 use Rattle.xdr_opaque.specs.declared.Opaque.the-variants.{At, Bad}
-use Rattle.xdr_opaque.specs.declared.After.{After}
-use Rattle.xdr_opaque.specs.declared.After.the-variants.{Next, Short}
 use Rattle.xdr_opaque.specs.declared.Word.{Word}
 use Rattle.xdr_opaque.specs.declared.Word.the-variants as Word
 
@@ -21,39 +19,23 @@ wordAt l at = choose (leb (at + 4) (length l)) (Word.Value (word l at)) Word.Sho
 abbrev pub filled : ℕ → ℕ
 filled n = (n + 3) / 4 * 4
 
+-- each of the bytes is zero
+unfoldable pub allZero : List ℕ → Bool
+allZero [] = true
+allZero (x ∷ xs) = choose (eqb x 0) (allZero xs) false
+
+-- the part from one offset up to another
+abbrev pub between : ℕ → ℕ → List ℕ → List ℕ
+between a e l = take (e - a) (drop a l)
+
 -- the opaque data (4.10) or string (4.11) at an offset: a length word, that many bytes, and fill to whole words, all within the list.
--- The fill must be there; its value is not looked at.
+-- The fill is zero (4.10: "residual zero bytes").
 unfoldable pub opaqueAt : List ℕ → ℕ → Opaque
 opaqueAt l at =
     choose (leb (at + 4) (length l))
     (choose (leb (at + 4 + filled (word l at)) (length l))
+    (choose (allZero (between (at + 4 + word l at) (at + 4 + filled (word l at)) l))
     (At (at + 4) (word l at) (at + 4 + filled (word l at)))
     Bad)
+    Bad)
     Bad
-
--- what follows opaque data, where it is whole
-unfoldable pub afterOpaque : Opaque → (ℕ → After) → After
-afterOpaque (At start len next) f = f next
-afterOpaque Bad f = Short
-
--- what follows a part that was passed over
-unfoldable pub andThen : After → (ℕ → After) → After
-andThen (Next at) f = f at
-andThen Short f = Short
-
--- the offset after two strings (4.11), one after the other as the members of a structure stand (4.14)
-unfoldable pub pairAt : List ℕ → ℕ → After
-pairAt l at = afterOpaque (opaqueAt l at) (λ x. afterOpaque (opaqueAt l x) (λ y. Next y))
-
--- the offset after n elements of an array (4.13), each of which the reader f passes over
-unfoldable pub timesAt : (List ℕ → ℕ → After) → ℕ → List ℕ → ℕ → After
-timesAt f zero l at = Next at
-timesAt f (suc n) l at = andThen (f l at) (λ x. timesAt f n l x)
-
--- the offset after a variable-length array (4.13) of at most `most` elements: a count word, and that many elements.
--- A count above `most` is refused before any element is read.
-unfoldable pub countedAt : (List ℕ → ℕ → After) → ℕ → List ℕ → ℕ → After
-countedAt f most l at =
-    choose (leb (at + 4) (length l))
-    (choose (leb (word l at) most) (timesAt f (word l at) l (at + 4)) Short)
-    Short

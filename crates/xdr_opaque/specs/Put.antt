@@ -1,7 +1,7 @@
--- Writing XDR (RFC 4506): variable-length opaque data and strings, counted lists, and writes one after another.
+-- Writing XDR (RFC 4506): variable-length opaque data and strings, and writes one after another.
 use Prim.Native.Nat.{ℕ, _+_, _-_, _%_}
 use mathlib.Core.Path.{_≡_}
-use mathlib.Core.List.{List, [], _∷_, _++_, flatMap}
+use mathlib.Core.List.{List, [], _∷_, _++_}
 use lib.ListN.{length, replicate}
 use Rattle.xdr.specs.Xdr.{be32, overlay}
 
@@ -17,10 +17,6 @@ fill n = (4 - n % 4) % 4
 -- opaque data (4.10) or a string (4.11), as it is written: its length, its bytes, and fill of zeros
 unfoldable pub opaque : List ℕ → List ℕ
 opaque s = be32 (length s) ++ s ++ replicate (fill (length s)) 0
-
--- a variable-length array (4.13), as it is written: its count, and its elements, each by g
-unfoldable pub counted : {A : Type 0} → (A → List ℕ) → List A → List ℕ
-counted g xs = be32 (length xs) ++ flatMap g xs
 
 -- what holds of each element of a list
 abbrev pub Each : {A : Type 0} → (A → Type 0) → List A → Type 0

@@ -1,10 +1,9 @@
-// XDR (RFC 4506) in byte slices: variable-length opaque data and strings, counted lists of pairs of strings, and a word that
-// may be missing.
+// XDR (RFC 4506) in byte slices: variable-length opaque data and strings, and a word that may be missing.
 ghost use mathlib.Core.Path.{_≡_};
 ghost use Prim.Native.Nat.{_+_, _*_, _≤_, _<_};
 ghost use lib.ListN.{length, replicate};
 ghost use Rattle.xdr.specs.Xdr.{be32s};
-ghost use Rattle.xdr_opaque.specs.Opaque.{wordAt, opaqueAt, pairAt, timesAt, countedAt};
+ghost use Rattle.xdr_opaque.specs.Opaque.{wordAt, allZero, opaqueAt};
 ghost use Rattle.xdr_opaque.specs.Put.{Put, opaque};
 ghost use Rattle.xdr_opaque.specs.RoundTrip.{RoundTrip};
 
@@ -24,12 +23,6 @@ pub enum Opaque {
     Bad,
 }
 
-// The offset after what was passed over, or that it is cut short or too long.
-pub enum After {
-    Next(usize),
-    Short,
-}
-
 // The word at an offset, where there is one.
 pub fn word_at(s: &[u8], at: usize) -> Word
     ensures { λ r. ⌜ r ≡ wordAt (now (s .entry)) at ⌝ }
@@ -42,6 +35,20 @@ pub fn word_at(s: &[u8], at: usize) -> Word
         return Word::Short;
     }
     Word::Value(xdr::read_word(s, at))
+}
+
+// Every byte is zero.
+pub fn all_zero(s: &[u8]) -> bool
+    ensures { λ r. ⌜ r ≡ allZero (now (s .entry)) ⌝ }
+{
+    let mut i = 0;
+    while i < s.len() {
+        if s[i] != 0 {
+            return false;
+        }
+        i += 1;
+    }
+    true
 }
 
 // The opaque data or the string at an offset.
@@ -60,66 +67,16 @@ pub fn opaque_at(s: &[u8], at: usize) -> Opaque
     if s.len() - start < full {
         return Opaque::Bad;
     }
+    let end = start + n;
+    let next = start + full;
+    if !all_zero(&s[end..next]) {
+        return Opaque::Bad;
+    }
     Opaque::At {
         start,
         len: n,
-        next: start + full,
-    }
-}
-
-fn pair_at(s: &[u8], at: usize) -> After
-    ensures { λ r. ⌜ r ≡ pairAt (now (s .entry)) at ⌝ }
-{
-    let Opaque::At {
-        start: _,
-        len: _,
         next,
-    } = opaque_at(s, at)
-    else {
-        return After::Short;
-    };
-    let Opaque::At {
-        start: _,
-        len: _,
-        next: end,
-    } = opaque_at(s, next)
-    else {
-        return After::Short;
-    };
-    After::Next(end)
-}
-
-// Passes over count pairs of strings.
-pub fn pairs_at(s: &[u8], at: usize, count: usize) -> After
-    ensures { λ r. ⌜ r ≡ timesAt pairAt count (now (s .entry)) at ⌝ }
-{
-    let mut left = count;
-    let mut pos = at;
-    while 0 < left {
-        let After::Next(next) = pair_at(s, pos) else {
-            return After::Short;
-        };
-        pos = next;
-        left -= 1;
     }
-    After::Next(pos)
-}
-
-// Passes over a counted list of at most `most` pairs of strings.
-pub fn list_at(s: &[u8], at: usize, most: u32) -> After
-    ensures { λ r. ⌜ r ≡ countedAt pairAt most (now (s .entry)) at ⌝ }
-{
-    if s.len() < 4 {
-        return After::Short;
-    }
-    if s.len() - 4 < at {
-        return After::Short;
-    }
-    let n = xdr::read_word(s, at);
-    if most < n {
-        return After::Short;
-    }
-    pairs_at(s, at + 4, n as usize)
 }
 
 // Writes words at an offset; returns the offset after them.

@@ -3,7 +3,7 @@
 
 use crate::convert::session;
 use crate::model::State;
-use crate::model::requests::HANDLED;
+use crate::model::requests::{HANDLED, decode};
 use crate::proved::Session;
 use crate::script::Step;
 
@@ -80,6 +80,60 @@ fn bodies(message: u32) -> Vec<Vec<u8>> {
     all
 }
 
+/// A field of a body: words as they are, or a text.
+enum Field {
+    Words(&'static [u32]),
+    Text,
+}
+
+/// The messages with texts: their fields, with an environment of one pair and a list of one name.
+const TEXTS: [(u32, &[Field]); 7] = {
+    use Field::{Text, Words};
+    [
+        (0x901, &[Words(&[1]), Text, Text]),
+        (0x200, &[Text]),
+        (0x206, &[Words(&[0, 0, 18]), Text, Text]),
+        (0x300, &[Text, Words(&[1])]),
+        (0x304, &[Text]),
+        (0x401, &[Text, Words(&[1]), Text, Text]),
+        (0x402, &[Words(&[1]), Text, Text, Words(&[1]), Text, Text, Text, Text, Words(&[0, 1, 0, 2]), Text]),
+    ]
+};
+
+/// 02 No. 6: each text of each message, at each length modulo four, with its fill zero and with each byte of it set. The model must take the
+/// first and no other.
+fn fills() -> Vec<Step> {
+    let mut all = vec![];
+    for (message, fields) in TEXTS {
+        let texts = fields.iter().filter(|f| matches!(f, Field::Text)).count();
+        for (chosen, n) in (0..texts).flat_map(|i| (1..=4).map(move |n| (i, n))) {
+            let (mut body, mut fill, mut seen) = (vec![], 0..0, 0);
+            for field in fields {
+                match field {
+                    Field::Words(given) => body.extend(words(given)),
+                    Field::Text => {
+                        let n = if seen == chosen { n } else { 5 };
+                        body.extend(text(&vec![0x61; n]));
+                        if seen == chosen {
+                            fill = body.len() - (4 - n % 4) % 4..body.len();
+                        }
+                        seen += 1;
+                    }
+                }
+            }
+            assert!(decode(message, &body).is_some(), "{message:x} with zero fill");
+            all.push(request(message, &body));
+            for i in fill {
+                let mut bad = body.clone();
+                bad[i] = 1;
+                assert!(decode(message, &bad).is_none(), "{message:x} with byte {i} of its fill set");
+                all.push(request(message, &bad));
+            }
+        }
+    }
+    all
+}
+
 /// Record, mark, record, a record of another length; room for one entry more.
 fn images() -> [Vec<u8>; 3] {
     let mut sound = words(&[1, 5, 4, 11, 4, 0, 0, 4, 4, 4, 3, 8, 9, 9]);
@@ -126,6 +180,9 @@ pub fn all(mut each: impl FnMut(&[u8], &Session, &Step) -> bool) -> bool {
                     }
                 }
             }
+        }
+        if !fills().iter().all(|step| each(&sound, &rest(authorized), step)) {
+            return false;
         }
     }
 

@@ -118,13 +118,13 @@ impl Driver {
         self.words(message, &[(a >> 32) as u32, a as u32, (b >> 32) as u32, b as u32])
     }
 
-    /// Opaque data with fill of any value.
+    /// Opaque data with its fill, of which now and then a byte is not zero.
     fn opaque(&mut self, body: &mut Vec<u8>, bytes: &[u8]) {
         body.extend((bytes.len() as u32).to_be_bytes());
         body.extend(bytes);
-        let fill = self.r.next() as u8;
         while body.len() % 4 != 0 {
-            body.push(fill);
+            let rubbish = self.r.percent(1);
+            body.push(if rubbish { self.r.next() as u8 } else { 0 });
         }
     }
 

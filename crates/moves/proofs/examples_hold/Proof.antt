@@ -2,7 +2,7 @@
 use mathlib.Core.Path.{refl}
 use Rattle.xdr.specs.Choose.{choose, allOf, least}
 use Rattle.xdr.specs.Xdr.{be32, be32s, word, be64, hyper, overlay, sameBytes}
-use Rattle.xdr_opaque.specs.Opaque.{wordAt, opaqueAt, afterOpaque, andThen, pairAt, timesAt, countedAt}
+use Rattle.xdr_opaque.specs.Opaque.{wordAt, allZero, opaqueAt}
 use Rattle.xdr_opaque.specs.Put.{opaque}
 use Rattle.image.specs.Image.{headerOk, tableOk, isSound, faulty, withEntry}
 use Rattle.spacing.specs.Spacing.{aheadOf, passes, positionAfter, leftAfter, stops, walk, spacing}
@@ -10,7 +10,9 @@ use Rattle.writing.specs.Writing.{kept, roomFor, written, fillTo}
 use Rattle.cartridge.specs.Operations.{mtioStep}
 use Rattle.frame.specs.Frame.{wellFramed, recordBytes}
 use Rattle.frame.specs.Messages.{look, rowOf}
-use Rattle.requests.specs.Bodies.{onWord, onOpaque, onAfter, ending, sized, onAddress, decoded, connectBody, tapeBody, dataBody, moverBody, jointBody}
+use Rattle.layouts.specs.Layout as layout
+use Rattle.layouts.specs.Scans.{put, puts, summed, scanned}
+use Rattle.requests.specs.Bodies.{decoded, connectBody, tapeBody, dataBody, moverBody, jointBody}
 use Rattle.replies.specs.Replies.{opaques, bodyBytes, shapeOf, headerError, replyBytes}
 use Rattle.session.specs.Answer.{guarded, noticed, outcome, needsLogin, isLocked, verdict, isUnread, refusing, settled, isClose, judged, requested, answered}
 use Rattle.session.specs.Connection.{connectOpen, matches, clientAuth, connectStep}
@@ -32,9 +34,10 @@ use Rattle.moves.proofs.examples_hold.Lts as lts
 
 returns : tie.Need-returns
 unfolding
-    choose allOf be32 be32s word be64 hyper overlay sameBytes wordAt opaqueAt afterOpaque andThen pairAt timesAt countedAt opaque headerOk
+    choose allOf be32 be32s word be64 hyper overlay sameBytes wordAt allZero opaqueAt opaque headerOk
     tableOk isSound faulty aheadOf passes positionAfter leftAfter stops walk spacing kept roomFor withEntry written fillTo least mtioStep wellFramed
-    recordBytes look rowOf onWord onOpaque onAfter ending sized onAddress decoded connectBody tapeBody dataBody moverBody jointBody
+    recordBytes look rowOf layout.textOf layout.partAt layout.prepend layout.andPart layout.andGot layout.partsAt layout.timesAt
+    layout.single layout.counted layout.fieldAt layout.first layout.andRead layout.readAs put puts summed scanned decoded connectBody tapeBody dataBody moverBody jointBody
     opaques bodyBytes shapeOf headerError replyBytes guarded noticed outcome needsLogin isLocked verdict isUnread refusing settled isClose judged
     requested answered connectOpen matches clientAuth connectStep dump dataStart dataStep dataConnect jointStep judge onto offsetWrong
     moverListen moverContinue busy elsewhere setWindow setSize moverStep pastTop dataJoined moverJoined holdsTape unwritable dataWrong

@@ -24,12 +24,12 @@ impl<'a> Reader<'a> {
         Some((high as u64) << 32 | low as u64)
     }
 
-    /// "Fill after strings and opaque data is ignored when read": it must be there, of any value.
+    /// 02 No. 6: "Fill bytes that are not zero, after any string or opaque field we read, shall not decode."
     pub fn opaque(&mut self) -> Option<&'a [u8]> {
         let n = self.word()? as usize;
         let bytes = self.take(n)?;
-        self.take((4 - n % 4) % 4)?;
-        Some(bytes)
+        let fill = self.take((4 - n % 4) % 4)?;
+        fill.iter().all(|b| *b == 0).then_some(bytes)
     }
 
     /// "Bytes left over make error 18."
