@@ -16,6 +16,7 @@ use Rattle.requests.specs.declared.JointRequest.the-variants as JointRequest
 use Rattle.requests.specs.declared.Request.{Request}
 use Rattle.requests.specs.declared.Request.the-variants as Request
 use Rattle.replies.specs.declared.Reply.{Reply}
+use Rattle.replies.specs.declared.Reply.the-variants as Reply
 use Rattle.session.specs.declared.types.Data.{Data}
 use Rattle.session.specs.declared.types.Mover.{Mover}
 use Rattle.session.specs.declared.types.Tape.{Tape}
@@ -34,7 +35,8 @@ use Rattle.session.specs.Answer.{Done, tapePart, withData, withTape, withChange
 use Rattle.session.proofs.JudgeLaws.{judged-by, accepts, accepts-any, refusal-says, carried}
 use Rattle.session.proofs.Keeping.{clash}
 use Rattle.session.proofs.Calls.{noticed-holds}
-use Rattle.moves.specs.Sequence.{Seen, Sized, Windowed, MoverStopped, DataStopped, Nothing, partsRegister, registerOf, after, Fits, isHeard, moverAsked, dataAsked, asked}
+use Rattle.moves.specs.Sequence.{Seen, Sized, Windowed, Sought, MoverStopped, DataStopped, Began, Nothing, partsRegister, registerOf, after, Fits, isHeard}
+use Rattle.moves.specs.Sequence.{moverAsked, dataAsked, jointAsked, asked}
 
 -- ---- the mover and the data end: what is shown makes the next register, and fits the one before
 module _ (d : Data) (m : Mover) where
@@ -44,14 +46,14 @@ module _ (d : Data) (m : Mover) where
   MoverShown : Seen → Reply → Mover → Type 0
   MoverShown x _ n = Shown x d n
 
-  mover-shown : (t : Tape) (q : MoverRequest) → Accepts (MoverShown (moverAsked q)) (moverStep m t q)
+  mover-shown : (t : Tape) (q : MoverRequest) → Accepts (MoverShown (moverAsked (t .position) q)) (moverStep m t q)
   unfolding moverStep moverState moverListen moverContinue moverStop setWindow moverRead setSize moverAsked after MoverShown Shown
   mover-shown t MoverRequest.State = accepts (MoverShown Nothing) _ _ _ (λ _. (refl, tt))
   mover-shown t (MoverRequest.Listen mode address) = accepts (MoverShown Nothing) _ _ _ (λ _. (refl, tt))
-  mover-shown t MoverRequest.Continue = accepts (MoverShown Nothing) _ _ _ (λ _. (refl, tt))
+  mover-shown t MoverRequest.Continue = accepts (MoverShown (Began (t .position))) _ _ _ (λ _. (refl, tt))
   mover-shown t MoverRequest.Stop = accepts (MoverShown MoverStopped) _ _ _ (λ _. (refl, tt))
   mover-shown t (MoverRequest.Window offset length) = accepts (MoverShown (Windowed offset length)) _ _ _ (λ _. (refl, tt))
-  mover-shown t (MoverRequest.Read offset length) = accepts (MoverShown Nothing) _ _ _ (λ _. (refl, tt))
+  mover-shown t (MoverRequest.Read offset length) = accepts (MoverShown (Sought offset length)) _ _ _ (λ _. (refl, tt))
   mover-shown t (MoverRequest.Size size) = accepts (MoverShown (Sized size)) _ _ _ (λ _. (refl, tt))
 
   DataShown : Seen → Reply → Data → Type 0
@@ -65,18 +67,18 @@ module _ (d : Data) (m : Mover) where
   data-shown DataRequest.Stop body = accepts (DataShown DataStopped) _ _ _ (λ _. (refl, tt))
   data-shown (DataRequest.Listen address) body = accepts (DataShown Nothing) _ _ _ (λ _. (refl, tt))
 
-  EndsShown : Ends → Type 0
-  EndsShown e = Shown Nothing (e .source) (e .mover)
+  EndsShown : Seen → Reply → Ends → Type 0
+  EndsShown x _ e = Shown x (e .source) (e .mover)
 
-  joint-shown : (t : Tape) (q : JointRequest) → Accepts (λ _ e. EndsShown e) (jointStep d m t q)
-  unfolding jointStep dataAbort dataConnect moverAbort moverClose moverConnect dataAborted moverAborted after EndsShown Shown
+  joint-shown : (t : Tape) (q : JointRequest) → Accepts (EndsShown (jointAsked (t .position) q)) (jointStep d m t q)
+  unfolding jointStep dataAbort dataConnect moverAbort moverClose moverConnect dataAborted moverAborted jointAsked after EndsShown Shown
   joint-shown t JointRequest.DataAbort =
-      accepts (λ _ e. EndsShown e) _ _ _ (λ _. by-test EndsShown (dataJoined (d .state)) _ _ (λ _. (refl, tt)) (λ _. (refl, tt)))
-  joint-shown t (JointRequest.DataConnect address) = accepts (λ _ e. EndsShown e) _ _ _ (λ _. (refl, tt))
+      accepts (EndsShown Nothing) _ _ _ (λ _. by-test (EndsShown Nothing Reply.Plain) (dataJoined (d .state)) _ _ (λ _. (refl, tt)) (λ _. (refl, tt)))
+  joint-shown t (JointRequest.DataConnect address) = accepts (EndsShown (Began (t .position))) _ _ _ (λ _. (refl, tt))
   joint-shown t JointRequest.MoverAbort =
-      accepts (λ _ e. EndsShown e) _ _ _ (λ _. by-test EndsShown (moverJoined (m .state)) _ _ (λ _. (refl, tt)) (λ _. (refl, tt)))
-  joint-shown t JointRequest.MoverClose = accepts (λ _ e. EndsShown e) _ _ _ (λ _. (refl, tt))
-  joint-shown t (JointRequest.MoverConnect mode address) = accepts (λ _ e. EndsShown e) _ _ _ (λ _. (refl, tt))
+      accepts (EndsShown Nothing) _ _ _ (λ _. by-test (EndsShown Nothing Reply.Plain) (moverJoined (m .state)) _ _ (λ _. (refl, tt)) (λ _. (refl, tt)))
+  joint-shown t JointRequest.MoverClose = accepts (EndsShown Nothing) _ _ _ (λ _. (refl, tt))
+  joint-shown t (JointRequest.MoverConnect mode address) = accepts (EndsShown (Began (t .position))) _ _ _ (λ _. (refl, tt))
 
 -- ---- two values behind one guard
 guards-two : {A B : Type 0} (P : A → B → Type 0) (a b c : Bool) (i : ℕ → A) (j : ℕ → B) (x : A) (y : B) → ((code : ℕ) → P (i code) (j code)) → P x y
@@ -113,7 +115,7 @@ module _ (k : Kept) (l : Lent) (r : List ℕ) where
   unfolding DoneLeft
   aside put f o = carried (DoneLeft Nothing) put o (accepts-any (λ reply p. DoneLeft Nothing reply (put p)) (λ _ p. f p) o)
 
-  outcome-left : (q : Request) → Accepts (DoneLeft (asked q)) (outcome k l r q)
+  outcome-left : (q : Request) → Accepts (DoneLeft (asked k q)) (outcome k l r q)
   unfolding outcome asked tapeStep moverPartStep Left DoneLeft MoverShown DataShown EndsShown Shown after
   outcome-left Request.Unknown = refusal-says (DoneLeft Nothing) _
   outcome-left Request.Bad = refusal-says (DoneLeft Nothing) _
@@ -126,14 +128,16 @@ module _ (k : Kept) (l : Lent) (r : List ℕ) where
   outcome-left (Request.Data q) =
       carried (DoneLeft (dataAsked q)) (withData k) _ (data-shown (k .session .source) (k .session .mover) q (bodyOf r))
   outcome-left (Request.Mover q) =
-      carried (DoneLeft (moverAsked q)) (withTape k) _ (carried (λ reply p. DoneLeft (moverAsked q) reply (withTape k p)) (withMover (tapePart k)) _
+      let x = moverAsked (k .session .tape .position) q in
+      carried (DoneLeft x) (withTape k) _ (carried (λ reply p. DoneLeft x reply (withTape k p)) (withMover (tapePart k)) _
       (mover-shown (k .session .source) (k .session .mover) (k .session .tape) q))
   outcome-left (Request.Joint q) =
-      carried (DoneLeft Nothing) (withEnds k) _ (joint-shown (k .session .source) (k .session .mover) (k .session .tape) q)
+      carried (DoneLeft (jointAsked (k .session .tape .position) q)) (withEnds k) _
+      (joint-shown (k .session .source) (k .session .mover) (k .session .tape) q)
 
-  verdict-left : (q : Request) → Accepts (DoneLeft (asked q)) (verdict k l r q)
+  verdict-left : (q : Request) → Accepts (DoneLeft (asked k q)) (verdict k l r q)
   unfolding verdict
-  verdict-left q = judged-by (DoneLeft (asked q)) _ _ (λ _. outcome-left q)
+  verdict-left q = judged-by (DoneLeft (asked k q)) _ _ (λ _. outcome-left q)
 
   -- accepted, the register is what was shown makes of it; refused, it stays
   settled-left : (x : Seen) (q : Request) (o : Outcome Done) → Accepts (DoneLeft x) o → Left (choose (isAccepted o) x Nothing) (settled k (l .time) r q o .next)
@@ -144,7 +148,7 @@ module _ (k : Kept) (l : Lent) (r : List ℕ) where
       told (d .mwhy) _ _ (told (d .dwhy) _ _ h)
 
   -- a close shows nothing
-  close-shows : (q : Request) → isClose q ≡ true → asked q ≡ Nothing
+  close-shows : (q : Request) → isClose q ≡ true → asked k q ≡ Nothing
   unfolding isClose asked
   close-shows Request.Unknown e = refl
   close-shows Request.Bad e = refl
@@ -154,27 +158,27 @@ module _ (k : Kept) (l : Lent) (r : List ℕ) where
   close-shows (Request.Tape q) e = refl
   close-shows (Request.Data q) e = clash false refl e
   close-shows (Request.Mover q) e = clash false refl e
-  close-shows (Request.Joint q) e = refl
+  close-shows (Request.Joint q) e = clash false refl e
 
   close-left : (b : Bool) (x : Seen) → x ≡ Nothing → Left (choose b x Nothing) (closing k .next)
   unfolding Left after
   close-left b x e = rw e (by-test (λ (y : Seen). Left y (closing k .next)) b Nothing Nothing (λ _. (refl, tt)) (λ _. (refl, tt)))
 
-  judged-left : (q : Request) → Left (choose (isAccepted (verdict k l r q)) (asked q) Nothing) (judged k l r q .next)
+  judged-left : (q : Request) → Left (choose (isAccepted (verdict k l r q)) (asked k q) Nothing) (judged k l r q .next)
   unfolding judged
   judged-left q =
-      by-test (λ (a : Answered). Left (choose (isAccepted (verdict k l r q)) (asked q) Nothing) (a .next)) (isClose q) _ _
-      (λ e. close-left (isAccepted (verdict k l r q)) (asked q) (close-shows q e))
-      (λ _. settled-left (asked q) q (verdict k l r q) (verdict-left q))
+      by-test (λ (a : Answered). Left (choose (isAccepted (verdict k l r q)) (asked k q) Nothing) (a .next)) (isClose q) _ _
+      (λ e. close-left (isAccepted (verdict k l r q)) (asked k q) (close-shows q e))
+      (λ _. settled-left (asked k q) q (verdict k l r q) (verdict-left q))
 
   -- of a request that is heard or not
   HeardLeft : Seen → Answered → Bool → Type 0
   HeardLeft x a heard = Left (choose heard x Nothing) (a .next)
 
-  pub asked-left : let x = choose (isHeard k l r) (choose (isAccepted (verdict k l r (requestIn r))) (asked (requestIn r)) Nothing) Nothing in
+  pub asked-left : let x = choose (isHeard k l r) (choose (isAccepted (verdict k l r (requestIn r))) (asked k (requestIn r)) Nothing) Nothing in
       (registerOf (answered k l r .next .session) ≡ after (registerOf (k .session)) x) × Fits (registerOf (k .session)) x
   unfolding answered requested isHeard Left HeardLeft choose after
   asked-left =
-      let P = HeardLeft (choose (isAccepted (verdict k l r (requestIn r))) (asked (requestIn r)) Nothing) in
+      let P = HeardLeft (choose (isAccepted (verdict k l r (requestIn r))) (asked k (requestIn r)) Nothing) in
       by-two P (k .session) (l .room) _ _ _ _ (λ _. (refl, tt))
       (framed-two P (wellFramed r) (eqb (kindOf r) 0) _ _ _ (refl, tt) (refl, tt) (judged-left (requestIn r)))

@@ -15,7 +15,7 @@ use Rattle.session.specs.Parts.{wrapped}
 use Rattle.session.specs.MoverService.{recordNumber}
 use Rattle.session.specs.Relation.{keeps}
 use Rattle.session.specs.Answer.{Kept}
-use Rattle.moves.specs.Sequence.{Event, Asked, ToTape, FromTape, Ended, Inserted, step, runs, Seen, Sized, Windowed, MoverStopped, DataStopped, Paused, Wrote, Handed, Nothing}
+use Rattle.moves.specs.Sequence.{Event, Asked, ToTape, FromTape, Ended, Inserted, step, runs, Seen, Sized, Windowed, Sought, MoverStopped, DataStopped, Began, Paused, Wrote, Handed, Nothing}
 use Rattle.moves.specs.Sequence.{Register, registerOf, after, seen, Fits, Legitimate, moveShown, countOf}
 use Rattle.moves.specs.Counts.{trace, replay, movedBy, recordsIn, sum, IsMove, IsToTape, CountsOfMoves, CountsOfRecords, CountsHold}
 use Rattle.moves.proofs.Sequence.{stepped, legitimate}
@@ -30,23 +30,27 @@ replayed w h (e ∷ es) =
 -- ---- what is seen of a move
 abbrev Moves : Seen → Type 0
 Moves (Wrote n k) = Unit {0}
-Moves (Handed a k) = Unit {0}
+Moves (Handed k) = Unit {0}
 Moves Paused = Unit {0}
 Moves Nothing = Unit {0}
 Moves (Sized n) = ⊥
 Moves (Windowed o n) = ⊥
+Moves (Sought o n) = ⊥
 Moves MoverStopped = ⊥
 Moves DataStopped = ⊥
+Moves (Began position) = ⊥
 
 abbrev Writes : Seen → Type 0
 Writes (Wrote n k) = Unit {0}
 Writes Paused = Unit {0}
 Writes Nothing = Unit {0}
-Writes (Handed a k) = ⊥
+Writes (Handed k) = ⊥
 Writes (Sized n) = ⊥
 Writes (Windowed o n) = ⊥
+Writes (Sought o n) = ⊥
 Writes MoverStopped = ⊥
 Writes DataStopped = ⊥
+Writes (Began position) = ⊥
 
 by-shown : (P : Seen → Type 0) (m next : Mover) (n : ℕ) (what : Seen) → P what → P Paused → P Nothing → P (moveShown m next n what)
 unfolding moveShown
@@ -81,13 +85,15 @@ counts-after : (r : Register) (x : Seen) (j k : ℕ) → Moves x
     → (wrapped (after r x .moved + j) ≡ wrapped (r .moved + (movedBy x + j))) × (wrapped (after r x .processed + k) ≡ wrapped (r .processed + (countOf x + k)))
 unfolding after movedBy countOf
 counts-after r (Wrote n i) j k m = (wrap-more (r .moved) n j, wrap-more (r .processed) i k)
-counts-after r (Handed a i) j k m = (wrap-more (r .moved) i j, wrap-more (r .processed) i k)
+counts-after r (Handed i) j k m = (wrap-more (r .moved) i j, wrap-more (r .processed) i k)
 counts-after r Paused j k m = (wrap-none (r .moved) j, wrap-none (r .processed) k)
 counts-after r Nothing j k m = (wrap-none (r .moved) j, wrap-none (r .processed) k)
 counts-after r (Sized n) j k m = absurd m
 counts-after r (Windowed o n) j k m = absurd m
+counts-after r (Sought o n) j k m = absurd m
 counts-after r MoverStopped j k m = absurd m
 counts-after r DataStopped j k m = absurd m
+counts-after r (Began position) j k m = absurd m
 
 totalled : (w : Kept) → keeps (w .session) ≡ true → (es : List Event) → Each IsMove es → CountsOfMoves w es
 unfolding runs trace sum
@@ -119,11 +125,13 @@ one-record r (Wrote n k) i f l =
     record { size = refl; moved = u ∙ rw e (ap (λ (k : ℕ). r .moved + k) (sym (one-mul (r .size)))) }
 one-record r Paused i f l = record { size = refl; moved = sym (ap (λ (k : ℕ). r .moved + k) (zero-mul (r .size)) ∙ add-zero (r .moved)) }
 one-record r Nothing i f l = record { size = refl; moved = sym (ap (λ (k : ℕ). r .moved + k) (zero-mul (r .size)) ∙ add-zero (r .moved)) }
-one-record r (Handed a k) i f l = absurd i
+one-record r (Handed k) i f l = absurd i
 one-record r (Sized n) i f l = absurd i
 one-record r (Windowed o n) i f l = absurd i
+one-record r (Sought o n) i f l = absurd i
 one-record r MoverStopped i f l = absurd i
 one-record r DataStopped i f l = absurd i
+one-record r (Began position) i f l = absurd i
 
 number-of : (moved size k : ℕ) → (size ≡ 0 → ⊥) → recordNumber (moved + k * size) size ≡ (moved / size + k) % 4294967296
 unfolding recordNumber choose

@@ -28,7 +28,7 @@ use Rattle.moves.specs.declared.Move.{Move}
 use Rattle.moves.specs.declared.Found.{Found}
 use Rattle.moves.specs.Moves.{still, pauses, halts, takes, hands, idle, streamEnds, scant, writing, filling, toTape}
 use Rattle.moves.specs.Moves.{outside, ordinal, inRecord, seekFrom, amount, Handing, untouched, reading, onFound, sought, seeking, fromTape, methodEnd}
-use Rattle.moves.specs.Sequence.{Seen, Wrote, Handed, Paused, Nothing, partsRegister, after, Fits, moveShown, imageAfter, soughtEntry, destAfter, countOf}
+use Rattle.moves.specs.Sequence.{Seen, Wrote, Handed, Paused, Nothing, partsRegister, after, Fits, moveShown, imageAfter, entrySought, destAfter, countOf}
 
 -- the relation, on the parts that a move may change
 pub record PartsKept (d : Data) (m : Mover) (t : Tape) : Type 0 where
@@ -293,38 +293,40 @@ record-inside s q w n e h lt =
 
 -- what a move from tape comes to
 pub record FromTurn (d : Data) (m : Mover) (t : Tape) (l b : List ℕ) (st : Handing) : Type 0 where
-  pub turn : Turn d m (λ n. Handed (m .seek) n) (st .move)
-  pub dest-end : st .dest ≡ destAfter (moveShown m (st .move .mover) (st .move .count) (Handed (m .seek) (st .move .count))) (partsRegister d m) (m .origin) l b
+  pub turn : Turn d m (λ n. Handed n) (st .move)
+  pub dest-end : st .dest ≡ destAfter (moveShown m (st .move .mover) (st .move .count) (Handed (st .move .count))) (partsRegister d m) l b
   pub room : st .move .count ≤ length b
-  pub exact : (st .move .count ≡ 0 → ⊥) → entryLen l (soughtEntry m) ≡ m .size
+  pub below : (st .move .count ≡ 0 → ⊥) → entrySought (partsRegister d m) < count l
+  pub exact : (st .move .count ≡ 0 → ⊥) → entryLen l (entrySought (partsRegister d m)) ≡ m .size
+  pub stands : (st .move .count ≡ 0 → ⊥) → st .move .tape .position ≡ entrySought (partsRegister d m) + 1
   pub kept : PartsKept (st .move .source) (st .move .mover) (st .move .tape)
 
 module _ (d : Data) (m : Mover) (t : Tape) (l b : List ℕ) (k : PartsKept d m t) where
   still-from : FromTurn d m t l b (untouched b (still d m t))
   unfolding destAfter
-  still-from = record { turn = still-turn d m _ t; dest-end = rw (shown-still m (Handed (m .seek) 0)) refl; room = omega arith; exact = λ z. absurd (z refl); kept = k }
+  still-from = record { turn = still-turn d m _ t; dest-end = rw (shown-still m (Handed 0)) refl; room = omega arith; below = λ z. absurd (z refl); exact = λ z. absurd (z refl); stands = λ z. absurd (z refl); kept = k }
 
   halts-from : (dwhy mwhy : ℕ) → FromTurn d m t l b (untouched b (halts dwhy mwhy d m t))
   unfolding destAfter
   halts-from dwhy mwhy =
-      let e = shown-halt m (Handed (m .seek) 0) (moverHalts mwhy m) refl in
-      record { turn = halts-turn d m _ t dwhy mwhy; dest-end = rw e refl; room = omega arith; exact = λ z. absurd (z refl); kept = halts-keep d m t k dwhy mwhy }
+      let e = shown-halt m (Handed 0) (moverHalts mwhy m) refl in
+      record { turn = halts-turn d m _ t dwhy mwhy; dest-end = rw e refl; room = omega arith; below = λ z. absurd (z refl); exact = λ z. absurd (z refl); stands = λ z. absurd (z refl); kept = halts-keep d m t k dwhy mwhy }
 
   pauses-from : (u : Tape) (why : ℕ) → m .state ≡ 2 → FromTurn d m t l b (untouched b (pauses why d m u))
   unfolding destAfter
   pauses-from u why e =
-      record { turn = pauses-turn d m _ u why e; dest-end = rw (shown-pause m (Handed (m .seek) 0) why e) refl; room = omega arith; exact = λ z. absurd (z refl); kept = pauses-keep d m t k u why e }
+      record { turn = pauses-turn d m _ u why e; dest-end = rw (shown-pause m (Handed 0) why e) refl; room = omega arith; below = λ z. absurd (z refl); exact = λ z. absurd (z refl); stands = λ z. absurd (z refl); kept = pauses-keep d m t k u why e }
 
   module _ (r : Running 1 2 d m) (n i : ℕ) (some : 1 ≤ n) (asked : n ≤ m .left) (low : m .offset ≤ m .seek) (high : m .seek + n ≤ m .offset + m .length)
       (part : inRecord m + n ≤ m .size) (at : i ≡ m .origin + ordinal m) where
     hands-held : Held m t
     hands-held = facts d m t k .hold (active-holds (m .state) (r .active))
 
-    hands-turn : Turn d m (λ j. Handed (m .seek) j) (hands n i d m t)
+    hands-turn : Turn d m (λ j. Handed j) (hands n i d m t)
     unfolding after countOf
     hands-turn =
-        turn-by d m _ (hands n i d m t) (Handed (m .seek) n) (shown-moved m (Handed (m .seek) n) (moverHands n m) n some)
-        (record { window = hands-held .window; some = some; part = part; from = low; to = high }) refl refl
+        turn-by d m _ (hands n i d m t) (Handed n) (shown-moved m (Handed n) (moverHands n m) n some)
+        (record { window = hands-held .window; some = some; asked = asked; part = part; from = low; to = high }) refl refl
 
     hands-kept : MoverKept (moverHands n m) (movedTo (i + 1) t)
     hands-kept =
@@ -349,10 +351,10 @@ module _ (d : Data) (m : Mover) (t : Tape) (l b : List ℕ) (k : PartsKept d m t
     unfolding dataWrong
     hands-keep = record { source = k .source; mover = kept-mover _ _ hands-kept; joined = k .joined }
 
-  reading-from : (i : ℕ) → idle 1 2 d m ≡ false → (m .left ≡ 0 → ⊥) → (length b ≡ 0 → ⊥) → outside (m .seek) (m .offset) (m .length) ≡ false → i ≡ m .origin + ordinal m
+  reading-from : (i : ℕ) → idle 1 2 d m ≡ false → (m .left ≡ 0 → ⊥) → (length b ≡ 0 → ⊥) → outside (m .seek) (m .offset) (m .length) ≡ false → i ≡ m .origin + ordinal m → i < count l
       → FromTurn d m t l b (reading i d m t l b)
   unfolding reading destAfter outside amount
-  reading-from i h left room inside at =
+  reading-from i h left room inside at under =
       let g = running 1 2 d m h in
       let f = facts d m t k in
       let w = f .window (f .hold (active-holds (m .state) (g .active)) .window) in
@@ -375,16 +377,22 @@ module _ (d : Data) (m : Mover) (t : Tape) (l b : List ℕ) (k : PartsKept d m t
       by-test (FromTurn d m t l b) (not (eqb (entryLen l i) (m .size))) _ _ (λ _. halts-from 4 5)
       (λ e. record {
         turn = hands-turn g n i some n4 low high part at;
-        dest-end = rw (shown-moved m (Handed (m .seek) n) (moverHands n m) n some, at) refl;
+        dest-end = rw (shown-moved m (Handed n) (moverHands n m) n some, at) refl;
         room = least-right inner (length b);
+        below = λ _. rw (← at) under;
         exact = λ _. ap (entryLen l) (sym at) ∙ is e;
+        stands = λ _. ap (λ (j : ℕ). j + 1) at;
         kept = hands-keep g n i some n4 low high part at;
       })
 
   found-from : (f : Found) → idle 1 2 d m ≡ false → (m .left ≡ 0 → ⊥) → (length b ≡ 0 → ⊥) → outside (m .seek) (m .offset) (m .length) ≡ false → sought m l ≡ f
       → FromTurn d m t l b (onFound f d m t l b)
   unfolding onFound
-  found-from (Found.Target i) h left room inside e = reading-from i h left room inside (target-at l (count l - m .origin) (m .origin) (ordinal m) i e .0)
+  found-from (Found.Target i) h left room inside e =
+      let f = target-at l (count l - m .origin) (m .origin) (ordinal m) i e in
+      let a = f .0 in
+      let b = f .1 in
+      reading-from i h left room inside a (omega arith)
   found-from (Found.Mark j) h left room inside e = pauses-from (movedTo j t) 2 (running 1 2 d m h .active)
   found-from Found.End h left room inside e = pauses-from (movedTo (count l) t) 1 (running 1 2 d m h .active)
 

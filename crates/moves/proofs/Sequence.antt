@@ -123,18 +123,26 @@ module _ (w : Kept) (stream : List ℕ) (h : keeps (w .session) ≡ true) where
 record FromCall (w : Kept) (dest : List ℕ) (e : Moving) : Type 0 where
   fits : Fits (registerOf (w .session)) (fromTapeShown (w .session .mover) e)
   register : registerOf (e .answer .next .session) ≡ after (registerOf (w .session)) (fromTapeShown (w .session .mover) e)
-  leaves : FromTapeLeaves w dest e
+  leaves : FromTapeLeaves (registerOf (w .session)) w dest e
   kept : keeps (e .answer .next .session) ≡ true
 
 module _ (w : Kept) (dest : List ℕ) (h : keeps (w .session) ≡ true) where
   from-idle : (code : ℕ) → FromCall w dest (idling code w dest)
   unfolding after destAfter countOf
   from-idle code =
-      let e = shown-still (w .session .mover) (Handed (w .session .mover .seek) 0) in
+      let e = shown-still (w .session .mover) (Handed 0) in
       record {
         fits = rw e tt;
         register = rw e refl;
-        leaves = record { dest-end = rw e refl; handed = rw e refl; room = omega arith; exact = λ z. absurd (z refl); image = refl };
+        leaves = record {
+          dest-end = rw e refl;
+          handed = rw e refl;
+          room = omega arith;
+          below = λ z. absurd (z refl);
+          exact = λ z. absurd (z refl);
+          stands = λ z. absurd (z refl);
+          image = refl;
+        };
         kept = h;
       }
 
@@ -145,7 +153,15 @@ module _ (w : Kept) (dest : List ℕ) (h : keeps (w .session) ≡ true) where
       record {
         fits = rw (c .mover) (t .turn .fits);
         register = rw (c .source, c .mover) (t .turn .register);
-        leaves = record { dest-end = rw (c .mover) (t .dest-end); handed = rw (c .mover) (t .turn .taken); room = t .room; exact = t .exact; image = c .image-end };
+        leaves = record {
+          dest-end = rw (c .mover) (t .dest-end);
+          handed = rw (c .mover) (t .turn .taken);
+          room = t .room;
+          below = t .below;
+          exact = t .exact;
+          stands = λ z. rw (c .tape) (t .stands z);
+          image = c .image-end;
+        };
         kept = carried-kept (st .move) (w .image) a c (t .kept);
       }
 
@@ -178,7 +194,7 @@ end-call w h l ok =
 pub record Stepped (w : Kept) (e : Event) : Type 0 where
   pub fits : Fits (registerOf (w .session)) (seen e w)
   pub register : registerOf (step e w .session) ≡ after (registerOf (w .session)) (seen e w)
-  pub leaves : Leaves w e
+  pub leaves : Leaves (registerOf (w .session)) w e
   pub kept : keeps (step e w .session) ≡ true
   pub sound : isSound (w .image) ≡ true → Sounds e → isSound (step e w .image) ≡ true
 

@@ -10,7 +10,7 @@ use Rattle.session.specs.Parts.{wrapped}
 use Rattle.session.specs.MoverService.{recordNumber}
 use Rattle.session.specs.Relation.{keeps}
 use Rattle.session.specs.Answer.{Kept}
-use Rattle.moves.specs.Sequence.{Event, Asked, ToTape, FromTape, Ended, Inserted, step, runs, Seen, Sized, Windowed, MoverStopped, DataStopped, Paused, Wrote, Handed, Nothing, Register, registerOf, after, seen, countOf}
+use Rattle.moves.specs.Sequence.{Event, Asked, ToTape, FromTape, Ended, Inserted, step, runs, Seen, Sized, Windowed, Sought, MoverStopped, DataStopped, Began, Paused, Wrote, Handed, Nothing, Register, registerOf, after, seen, countOf}
 
 -- what is seen of a list of calls, and the register that is replayed from it
 unfoldable pub trace : Kept → List Event → List Seen
@@ -24,21 +24,25 @@ replay r (x ∷ xs) = replay (after r x) xs
 -- whole records to tape, bytes from tape
 unfoldable pub movedBy : Seen → ℕ
 movedBy (Wrote n k) = n
-movedBy (Handed a k) = k
+movedBy (Handed k) = k
 movedBy (Sized n) = 0
 movedBy (Windowed o n) = 0
+movedBy (Sought o n) = 0
 movedBy MoverStopped = 0
 movedBy DataStopped = 0
+movedBy (Began position) = 0
 movedBy Paused = 0
 movedBy Nothing = 0
 
 unfoldable pub recordsIn : Seen → ℕ
 recordsIn (Wrote n k) = 1
-recordsIn (Handed a k) = 0
+recordsIn (Handed k) = 0
 recordsIn (Sized n) = 0
 recordsIn (Windowed o n) = 0
+recordsIn (Sought o n) = 0
 recordsIn MoverStopped = 0
 recordsIn DataStopped = 0
+recordsIn (Began position) = 0
 recordsIn Paused = 0
 recordsIn Nothing = 0
 
