@@ -17,6 +17,7 @@ use Rattle.requests.specs.declared.Request.{Request}
 use Rattle.requests.specs.declared.Request.the-variants as Request
 use Rattle.replies.specs.declared.Reply.{Reply}
 use Rattle.replies.specs.declared.Reply.the-variants as Reply
+use Rattle.replies.specs.declared.Notice.the-variants as Notice
 use Rattle.session.specs.declared.types.Data.{Data}
 use Rattle.session.specs.declared.types.Mover.{Mover}
 use Rattle.session.specs.declared.types.Tape.{Tape}
@@ -30,7 +31,7 @@ use Rattle.session.specs.MoverService.{moverState, moverListen, moverContinue, 
 use Rattle.session.specs.TapeService.{withLoaded, withMover, moverPartStep, tapeStep}
 use Rattle.session.specs.Joint.{dataConnect, moverConnect, dataAborted, dataAbort, moverAborted, moverAbort, moverClose, jointStep}
 use Rattle.session.specs.Relation.{keeps}
-use Rattle.session.specs.Answer.{Kept, Lent, Answered, guarded, answered, requested, judged, isClose, settled, verdict, outcome, closing}
+use Rattle.session.specs.Answer.{Kept, Lent, Answered, guarded, noticed, replying, answered, requested, judged, isClose, settled, verdict, outcome, closing}
 use Rattle.session.specs.Answer.{Done, tapePart, withData, withTape, withChanger, withLogin, withEnds, requestIn}
 use Rattle.session.proofs.JudgeLaws.{judged-by, accepts, accepts-any, refusal-says, carried}
 use Rattle.session.proofs.Keeping.{clash}
@@ -145,7 +146,8 @@ module _ (k : Kept) (l : Lent) (r : List ℕ) where
   settled-left x q (refuse e) h = (refl, tt)
   settled-left x q (accept reply d) h =
       let told = noticed-holds (Left x) (λ _ _ e. e) (λ _ e. e) (l .time) in
-      told (d .mwhy) _ _ (told (d .dwhy) _ _ h)
+      let a = replying r (l .time) reply (d .shown) (d .kept) in
+      told (d .mwhy) (Notice.MoverHalted (d .mwhy)) (noticed (l .time) (d .dwhy) (Notice.DataHalted (d .dwhy)) a) (told (d .dwhy) _ a h)
 
   -- a close shows nothing
   close-shows : (q : Request) → isClose q ≡ true → asked k q ≡ Nothing

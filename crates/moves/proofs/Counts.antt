@@ -15,7 +15,8 @@ use Rattle.session.specs.Parts.{wrapped}
 use Rattle.session.specs.MoverService.{recordNumber}
 use Rattle.session.specs.Relation.{keeps}
 use Rattle.session.specs.Answer.{Kept}
-use Rattle.moves.specs.Sequence.{Event, Asked, ToTape, FromTape, Ended, Inserted, step, runs, Seen, Sized, Windowed, Sought, MoverStopped, DataStopped, Began, Paused, Wrote, Handed, Nothing}
+use Rattle.moves.specs.Sequence.{Event, Asked, ToTape, FromTape, Ended, Inserted, step, runs}
+use Rattle.moves.specs.Sequence.{Seen, Sized, Windowed, Sought, MoverStopped, DataStopped, Began, Paused, Wrote, Handed, Nothing}
 use Rattle.moves.specs.Sequence.{Register, registerOf, after, seen, Fits, Legitimate, moveShown, countOf}
 use Rattle.moves.specs.Counts.{trace, replay, movedBy, recordsIn, sum, IsMove, IsToTape, CountsOfMoves, CountsOfRecords, CountsHold}
 use Rattle.moves.proofs.Sequence.{stepped, legitimate}

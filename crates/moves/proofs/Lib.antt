@@ -1,6 +1,7 @@
 -- `Asking` has what a request shows and leaves of the register, `Moving` what a move shows and leaves, `Sequence` what holds over any
--- sequence of calls, `Counts` what the counts are after it.
+-- sequence of calls, `Counts` what the counts are after it, `Cases` the computed cases.
 pub mod Asking
 pub mod Moving
 pub mod Sequence
 pub mod Counts
+pub mod Cases

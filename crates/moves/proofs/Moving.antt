@@ -28,7 +28,7 @@ use Rattle.moves.specs.declared.Move.{Move}
 use Rattle.moves.specs.declared.Found.{Found}
 use Rattle.moves.specs.Moves.{still, pauses, halts, takes, hands, idle, streamEnds, scant, writing, filling, toTape}
 use Rattle.moves.specs.Moves.{outside, ordinal, inRecord, seekFrom, amount, Handing, untouched, reading, onFound, sought, seeking, fromTape, methodEnd}
-use Rattle.moves.specs.Sequence.{Seen, Wrote, Handed, Paused, Nothing, partsRegister, after, Fits, moveShown, imageAfter, entrySought, destAfter, countOf}
+use Rattle.moves.specs.Sequence.{Seen, Wrote, Handed, Paused, Nothing, partsRegister, after, Fits, moveShown, imageAfter, HandedFrom, destAfter, countOf}
 
 -- the relation, on the parts that a move may change
 pub record PartsKept (d : Data) (m : Mover) (t : Tape) : Type 0 where
@@ -296,26 +296,24 @@ pub record FromTurn (d : Data) (m : Mover) (t : Tape) (l b : List ℕ) (st : Han
   pub turn : Turn d m (λ n. Handed n) (st .move)
   pub dest-end : st .dest ≡ destAfter (moveShown m (st .move .mover) (st .move .count) (Handed (st .move .count))) (partsRegister d m) l b
   pub room : st .move .count ≤ length b
-  pub below : (st .move .count ≡ 0 → ⊥) → entrySought (partsRegister d m) < count l
-  pub exact : (st .move .count ≡ 0 → ⊥) → entryLen l (entrySought (partsRegister d m)) ≡ m .size
-  pub stands : (st .move .count ≡ 0 → ⊥) → st .move .tape .position ≡ entrySought (partsRegister d m) + 1
+  pub source : (st .move .count ≡ 0 → ⊥) → HandedFrom (partsRegister d m) l (st .move .tape .position)
   pub kept : PartsKept (st .move .source) (st .move .mover) (st .move .tape)
 
 module _ (d : Data) (m : Mover) (t : Tape) (l b : List ℕ) (k : PartsKept d m t) where
   still-from : FromTurn d m t l b (untouched b (still d m t))
   unfolding destAfter
-  still-from = record { turn = still-turn d m _ t; dest-end = rw (shown-still m (Handed 0)) refl; room = omega arith; below = λ z. absurd (z refl); exact = λ z. absurd (z refl); stands = λ z. absurd (z refl); kept = k }
+  still-from = record { turn = still-turn d m _ t; dest-end = rw (shown-still m (Handed 0)) refl; room = omega arith; source = λ z. absurd (z refl); kept = k }
 
   halts-from : (dwhy mwhy : ℕ) → FromTurn d m t l b (untouched b (halts dwhy mwhy d m t))
   unfolding destAfter
   halts-from dwhy mwhy =
       let e = shown-halt m (Handed 0) (moverHalts mwhy m) refl in
-      record { turn = halts-turn d m _ t dwhy mwhy; dest-end = rw e refl; room = omega arith; below = λ z. absurd (z refl); exact = λ z. absurd (z refl); stands = λ z. absurd (z refl); kept = halts-keep d m t k dwhy mwhy }
+      record { turn = halts-turn d m _ t dwhy mwhy; dest-end = rw e refl; room = omega arith; source = λ z. absurd (z refl); kept = halts-keep d m t k dwhy mwhy }
 
   pauses-from : (u : Tape) (why : ℕ) → m .state ≡ 2 → FromTurn d m t l b (untouched b (pauses why d m u))
   unfolding destAfter
   pauses-from u why e =
-      record { turn = pauses-turn d m _ u why e; dest-end = rw (shown-pause m (Handed 0) why e) refl; room = omega arith; below = λ z. absurd (z refl); exact = λ z. absurd (z refl); stands = λ z. absurd (z refl); kept = pauses-keep d m t k u why e }
+      record { turn = pauses-turn d m _ u why e; dest-end = rw (shown-pause m (Handed 0) why e) refl; room = omega arith; source = λ z. absurd (z refl); kept = pauses-keep d m t k u why e }
 
   module _ (r : Running 1 2 d m) (n i : ℕ) (some : 1 ≤ n) (asked : n ≤ m .left) (low : m .offset ≤ m .seek) (high : m .seek + n ≤ m .offset + m .length)
       (part : inRecord m + n ≤ m .size) (at : i ≡ m .origin + ordinal m) where
@@ -379,9 +377,7 @@ module _ (d : Data) (m : Mover) (t : Tape) (l b : List ℕ) (k : PartsKept d m t
         turn = hands-turn g n i some n4 low high part at;
         dest-end = rw (shown-moved m (Handed n) (moverHands n m) n some, at) refl;
         room = least-right inner (length b);
-        below = λ _. rw (← at) under;
-        exact = λ _. ap (entryLen l) (sym at) ∙ is e;
-        stands = λ _. ap (λ (j : ℕ). j + 1) at;
+        source = λ _. record { below = rw (← at) under; exact = ap (entryLen l) (sym at) ∙ is e; stands = ap (λ (j : ℕ). j + 1) at };
         kept = hands-keep g n i some n4 low high part at;
       })
 

@@ -134,15 +134,7 @@ module _ (w : Kept) (dest : List ℕ) (h : keeps (w .session) ≡ true) where
       record {
         fits = rw e tt;
         register = rw e refl;
-        leaves = record {
-          dest-end = rw e refl;
-          handed = rw e refl;
-          room = omega arith;
-          below = λ z. absurd (z refl);
-          exact = λ z. absurd (z refl);
-          stands = λ z. absurd (z refl);
-          image = refl;
-        };
+        leaves = record { dest-end = rw e refl; handed = rw e refl; room = omega arith; source = λ z. absurd (z refl); image = refl };
         kept = h;
       }
 
@@ -157,9 +149,7 @@ module _ (w : Kept) (dest : List ℕ) (h : keeps (w .session) ≡ true) where
           dest-end = rw (c .mover) (t .dest-end);
           handed = rw (c .mover) (t .turn .taken);
           room = t .room;
-          below = t .below;
-          exact = t .exact;
-          stands = λ z. rw (c .tape) (t .stands z);
+          source = λ z. rw (c .tape) (t .source z);
           image = c .image-end;
         };
         kept = carried-kept (st .move) (w .image) a c (t .kept);

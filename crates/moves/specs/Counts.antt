@@ -10,7 +10,8 @@ use Rattle.session.specs.Parts.{wrapped}
 use Rattle.session.specs.MoverService.{recordNumber}
 use Rattle.session.specs.Relation.{keeps}
 use Rattle.session.specs.Answer.{Kept}
-use Rattle.moves.specs.Sequence.{Event, Asked, ToTape, FromTape, Ended, Inserted, step, runs, Seen, Sized, Windowed, Sought, MoverStopped, DataStopped, Began, Paused, Wrote, Handed, Nothing, Register, registerOf, after, seen, countOf}
+use Rattle.moves.specs.Sequence.{Event, Asked, ToTape, FromTape, Ended, Inserted, step, runs}
+use Rattle.moves.specs.Sequence.{Seen, Sized, Windowed, Sought, MoverStopped, DataStopped, Began, Paused, Wrote, Handed, Nothing, Register, registerOf, after, seen, countOf}
 
 -- what is seen of a list of calls, and the register that is replayed from it
 unfoldable pub trace : Kept → List Event → List Seen

@@ -281,14 +281,17 @@ pub record ToTapeLeaves (w : Kept) (stream : List ℕ) (e : Moving) : Type 0 whe
   pub taken : e .count ≡ countOf (toTapeShown (w .session .mover) e)
   pub there : e .count ≤ length stream
 
+-- what is handed over is of one of the n entries, a record that has the record size; and the tape stands after it
+pub record HandedFrom (r : Register) (l : List ℕ) (position : ℕ) : Type 0 where
+  pub below : entrySought r < count l
+  pub exact : entryLen l (entrySought r) ≡ r .size
+  pub stands : position ≡ entrySought r + 1
+
 pub record FromTapeLeaves (r : Register) (w : Kept) (dest : List ℕ) (e : Moving) : Type 0 where
   pub dest-end : e .dest ≡ destAfter (fromTapeShown (w .session .mover) e) r (w .image) dest
   pub handed : e .count ≡ countOf (fromTapeShown (w .session .mover) e)
   pub room : e .count ≤ length dest
-  -- what is handed over is of one of the n entries, a record that has the record size; and the tape stands after it
-  pub below : (e .count ≡ 0 → ⊥) → entrySought r < count (w .image)
-  pub exact : (e .count ≡ 0 → ⊥) → entryLen (w .image) (entrySought r) ≡ r .size
-  pub stands : (e .count ≡ 0 → ⊥) → e .answer .next .session .tape .position ≡ entrySought r + 1
+  pub source : (e .count ≡ 0 → ⊥) → HandedFrom r (w .image) (e .answer .next .session .tape .position)
   pub image : e .answer .next .image ≡ w .image
 
 abbrev pub Leaves : Register → Kept → Event → Type 0

@@ -6,6 +6,7 @@ ghost use Rattle.xdr.specs.Choose.{choose};
 ghost use Rattle.session.specs.Names.{dataSuccessful, dataInternalError, top};
 ghost use Rattle.moves.specs.Moves.{still, pauses, halts, takes, hands, idle, methodEnd};
 ghost use Rattle.moves.specs.Examples.{ExamplesHold};
+ghost use Rattle.moves.specs.RecoverCases.{RecoverCasesHold};
 ghost use Rattle.moves.specs.Sequence.{WindowHolds};
 ghost use Rattle.moves.specs.Keeping.{MovesKeep};
 ghost use Rattle.moves.specs.Counts.{CountsHold};
@@ -158,6 +159,11 @@ pub fn method_end(ok: bool, d: Data, m: Mover, t: Tape) -> Move
 // No work: its contract is the examples of paper 01, cases a to j in one statement.
 pub fn examples_hold()
     ensures { λ r. ⌜ ExamplesHold ⌝ }
+{}
+
+// No work: its contract is a second list of cases in one statement: recovers, and moves at marks, ends and faults.
+pub fn recover_cases_hold()
+    ensures { λ r. ⌜ RecoverCasesHold ⌝ }
 {}
 
 // No work: its contract is that no byte is moved outside the window in force, over any sequence of calls.
