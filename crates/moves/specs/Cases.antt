@@ -149,6 +149,64 @@ abbrev pub allWanted : List Case → List Final
 allWanted [] = []
 allWanted (c ∷ cs) = wanted c ∷ allWanted cs
 
+-- ---- 004's numbers, as paper 01 has them
+-- "Mover mode 0 goes to tape, 1 from tape"; a mover at rest has none, which is 2
+abbrev pub toTapeMode : ℕ
+toTapeMode = 0
+
+abbrev pub fromTapeMode : ℕ
+fromTapeMode = 1
+
+abbrev pub noMode : ℕ
+noMode = 2
+
+-- "PAUSED EOM 1", "PAUSED EOF 2", "PAUSED SEEK 3", "PAUSED EOW 5"
+abbrev pub eom : ℕ
+eom = 1
+
+abbrev pub eof : ℕ
+eof = 2
+
+abbrev pub seek : ℕ
+seek = 3
+
+abbrev pub eow : ℕ
+eow = 5
+
+-- why the mover halts: "CONNECT_CLOSED 1", "MEDIA_ERROR 5"
+abbrev pub connectClosed : ℕ
+connectClosed = 1
+
+abbrev pub mediaError : ℕ
+mediaError = 5
+
+-- why data halts: "SUCCESSFUL 1", "INTERNAL_ERROR 3", "CONNECT_ERROR 4"
+abbrev pub successful : ℕ
+successful = 1
+
+abbrev pub internalError : ℕ
+internalError = 3
+
+abbrev pub connectError : ℕ
+connectError = 4
+
+-- what the data end runs
+abbrev pub backupRuns : ℕ
+backupRuns = 1
+
+abbrev pub recoverRuns : ℕ
+recoverRuns = 2
+
+-- "MTIO ops: 0 FSF, .. 2 FSR, .. 4 REW"
+abbrev pub fsf : ℕ
+fsf = 0
+
+abbrev pub fsr : ℕ
+fsr = 2
+
+abbrev pub rew : ℕ
+rew = 4
+
 -- ---- lines of the cases
 -- a request that gets the error word e and no more
 abbrev pub says : ℕ → List ℕ → ℕ → Line
@@ -172,7 +230,7 @@ openTape mode = says 0x300 (5 ∷ 0x7461_7065 ∷ 0x3000_0000 ∷ mode ∷ []) 0
 abbrev pub mtio : ℕ → ℕ → ℕ → ℕ → Line
 mtio op n e residue = Ask 0x303 (op ∷ n ∷ []) (e ∷ residue ∷ []) []
 
--- mover listen at LOCAL, in mode 0 to tape or 1 from tape; the address told is LOCAL
+-- mover listen at LOCAL; the address told is LOCAL
 abbrev pub listen : ℕ → ℕ → Line
 listen mode e = Ask 0xA01 (mode ∷ 0 ∷ []) (e ∷ 0 ∷ []) []
 
@@ -181,86 +239,80 @@ abbrev pub connect : Line
 connect = says 0x40A (0 ∷ []) 0
 
 -- start backup by `dump` with no environment; start recover with no environment and no names, by `dump`
-abbrev pub backup : Line
-backup = says 0x401 (4 ∷ 0x6475_6D70 ∷ 0 ∷ []) 0
+abbrev pub startBackup : Line
+startBackup = says 0x401 (4 ∷ 0x6475_6D70 ∷ 0 ∷ []) 0
 
-abbrev pub recover : Line
-recover = says 0x402 (0 ∷ 0 ∷ 4 ∷ 0x6475_6D70 ∷ []) 0
+abbrev pub startRecover : Line
+startRecover = says 0x402 (0 ∷ 0 ∷ 4 ∷ 0x6475_6D70 ∷ []) 0
 
--- mover read, continue
+-- mover read, continue, stop; data stop
 abbrev pub read : ℕ → ℕ → Line
 read offset length = says 0xA06 (wide offset ++ wide length) 0
 
 abbrev pub continue : Line
 continue = says 0xA02 [] 0
 
--- mover get state: mode, state, pause and halt reason; record size and number, bytes moved; seek position, bytes left; window
-abbrev pub moverIs : ℕ → ℕ → ℕ → ℕ → ℕ → ℕ → ℕ → ℕ → ℕ → ℕ → ℕ → Line
-moverIs mode state pause halt size number moved seek left offset length =
-    Ask 0xA00 []
-    (0 ∷ mode ∷ state ∷ pause ∷ halt ∷ size ∷ number ∷ wide moved ++ (wide seek ++ (wide left ++ (wide offset ++ (wide length ++ (0 ∷ [])))))) []
+abbrev pub stopMover : Line
+stopMover = says 0xA04 [] 0
 
--- data get state: operation, state, halt reason, bytes processed; its two estimates are marked unsupported (3), all else is zero
-abbrev pub dataIs : ℕ → ℕ → ℕ → ℕ → Line
-dataIs operation state halt processed = Ask 0x400 [] (3 ∷ 0 ∷ operation ∷ state ∷ halt ∷ wide processed ++ replicate 8 0) []
+abbrev pub stopData : Line
+stopData = says 0x407 [] 0
+
+-- mover paused: reason and seek position; "data first, mover second" where both halt
+abbrev pub pauses : ℕ → ℕ → List Told
+pauses why at = tell 0x504 (why ∷ wide at) ∷ []
+
+abbrev pub halts : ℕ → ℕ → List Told
+halts dwhy mwhy = tell 0x501 (dwhy ∷ []) ∷ tell 0x503 (mwhy ∷ []) ∷ []
+
+-- mover close: its reply, then why each end halts
+abbrev pub closeMover : ℕ → ℕ → Line
+closeMover dwhy mwhy = Ask 0xA07 [] (0 ∷ []) (halts dwhy mwhy)
+
+-- the mover's state with its pause and halt reason: IDLE 0, ACTIVE 2, PAUSED 3, HALTED 4
+abbrev pub idle : List ℕ
+idle = 0 ∷ 0 ∷ 0 ∷ []
+
+abbrev pub active : List ℕ
+active = 2 ∷ 0 ∷ 0 ∷ []
+
+abbrev pub pausedFor : ℕ → List ℕ
+pausedFor why = 3 ∷ why ∷ 0 ∷ []
+
+abbrev pub haltedFor : ℕ → List ℕ
+haltedFor why = 4 ∷ 0 ∷ why ∷ []
+
+-- record size, record number and bytes moved; seek position and bytes left; window
+abbrev pub counts : ℕ → ℕ → ℕ → List ℕ
+counts size number moved = size ∷ number ∷ wide moved
+
+abbrev pub reads : ℕ → ℕ → List ℕ
+reads at left = wide at ++ wide left
+
+abbrev pub window : ℕ → ℕ → List ℕ
+window offset length = wide offset ++ wide length
+
+-- mover get state; the address is LOCAL
+abbrev pub moverIs : ℕ → List ℕ → List ℕ → List ℕ → List ℕ → Line
+moverIs mode state counted reading in-force = Ask 0xA00 [] (0 ∷ mode ∷ state ++ (counted ++ (reading ++ (in-force ++ (0 ∷ []))))) []
+
+-- the data end's state with its halt reason: IDLE 0, ACTIVE 1, HALTED 2
+abbrev pub dataIdle : List ℕ
+dataIdle = 0 ∷ 0 ∷ []
+
+abbrev pub dataActive : List ℕ
+dataActive = 1 ∷ 0 ∷ []
+
+abbrev pub dataHaltedFor : ℕ → List ℕ
+dataHaltedFor why = 2 ∷ why ∷ []
+
+-- data get state: what runs, state, bytes processed; its two estimates are marked unsupported (3), all else is zero
+abbrev pub dataIs : ℕ → List ℕ → ℕ → Line
+dataIs operation state processed = Ask 0x400 [] (3 ∷ 0 ∷ operation ∷ state ++ (wide processed ++ replicate 8 0)) []
 
 -- tape get state: file and block number
 abbrev pub tapeIs : ℕ → ℕ → Line
 tapeIs file block = Ask 0x302 [] (0 ∷ 0 ∷ 0 ∷ file ∷ 0 ∷ 0 ∷ block ∷ 0 ∷ 0 ∷ 0 ∷ 0 ∷ []) []
-
--- ---- 004's states and reasons, with paper 01's numbers
--- of the mover: ACTIVE, PAUSED, HALTED
-abbrev pub active : ℕ
-active = 2
-
-abbrev pub paused : ℕ
-paused = 3
-
-abbrev pub halted : ℕ
-halted = 4
-
--- "PAUSED EOM 1", "PAUSED EOF 2", "PAUSED SEEK 3", "PAUSED EOW 5"
-abbrev pub eom : ℕ
-eom = 1
-
-abbrev pub eof : ℕ
-eof = 2
-
-abbrev pub outOfWindow : ℕ
-outOfWindow = 3
-
-abbrev pub eow : ℕ
-eow = 5
-
--- "mover CONNECT_CLOSED 1", "MEDIA_ERROR 5"
-abbrev pub closed : ℕ
-closed = 1
-
-abbrev pub mediaError : ℕ
-mediaError = 5
-
--- of the data end: ACTIVE, HALTED; "SUCCESSFUL 1", "INTERNAL_ERROR 3", "CONNECT_ERROR 4"
-abbrev pub dataActive : ℕ
-dataActive = 1
-
-abbrev pub dataHalted : ℕ
-dataHalted = 2
-
-abbrev pub successful : ℕ
-successful = 1
-
-abbrev pub internalError : ℕ
-internalError = 3
-
-abbrev pub connectError : ℕ
-connectError = 4
-
--- mover paused: reason and seek position; "data first, mover second" where both halt
-abbrev pub pauses : ℕ → ℕ → List Told
-pauses why seek = tell 0x504 (why ∷ wide seek) ∷ []
-
-abbrev pub halts : ℕ → ℕ → List Told
-halts dwhy mwhy = tell 0x501 (dwhy ∷ []) ∷ tell 0x503 (mwhy ∷ []) ∷ []
 
 -- ---- streams and cartridges
 -- n bytes from i on, no two near ones alike

@@ -4,9 +4,9 @@ use mathlib.Core.Bool.{true, false}
 use mathlib.Core.List.{List, [], _∷_, _++_}
 use mathlib.Core.Path.{_≡_}
 use lib.ListN.{take, replicate}
-use Rattle.moves.specs.Cases.{Line, Ask, Feed, Case, allPlayed, allWanted}
-use Rattle.moves.specs.Cases.{login, setSize, setWindow, openTape, mtio, listen, connect, backup, continue, moverIs, dataIs}
-use Rattle.moves.specs.Cases.{active, paused, halted, eow, closed, dataActive, dataHalted, successful, pauses, halts, streamed, cartridge}
+use Rattle.moves.specs.Cases.{Line, Feed, Case, allPlayed, allWanted, toTapeMode, eow, connectClosed, successful, backupRuns, fsr}
+use Rattle.moves.specs.Cases.{login, setSize, setWindow, openTape, mtio, listen, connect, startBackup, continue, pauses, halts}
+use Rattle.moves.specs.Cases.{active, pausedFor, haltedFor, counts, reads, window, moverIs, dataActive, dataHaltedFor, dataIs, streamed, cartridge}
 
 -- "record size 1,024 where unsaid"
 abbrev pub prepared : List Line
@@ -24,28 +24,32 @@ asking lines = record { image = blank; stream = []; lines = prepared ++ lines; l
 abbrev pub windowCase : ℕ → ℕ → ℕ → Case
 windowCase offset length e = asking (setWindow offset length e ∷ [])
 
--- the state of the mover and of the data end in mode 0: state, pause and halt reason, record number, bytes moved, window; data's state, halt
--- reason and bytes processed
-abbrev pub backingUp : ℕ → ℕ → ℕ → ℕ → ℕ → ℕ → ℕ → ℕ → ℕ → ℕ → List Line
-backingUp state pause halt number moved offset length data-state data-halt processed =
-    moverIs 0 state pause halt 1024 number moved 0 0 offset length ∷ dataIs 1 data-state data-halt processed ∷ []
-
 -- g: "Window (0, 2048), stream of 3,000 bytes: two records, then EOW with nothing taken."
 abbrev pub linesG : List Line
 linesG =
     prepared
-    ++ (openTape 1 ∷ setWindow 0 2048 0 ∷ listen 0 0 ∷ connect ∷ backup
-    ∷ Feed 3000 false 1024 [] ∷ backingUp active 0 0 1 1024 0 2048 dataActive 0 1024
-    ++ (Feed 1976 false 1024 [] ∷ backingUp active 0 0 2 2048 0 2048 dataActive 0 2048
-    ++ (Feed 952 false 0 (pauses eow 0) ∷ backingUp paused eow 0 2 2048 0 0 dataActive 0 2048)))
+    ++ (openTape 1 ∷ setWindow 0 2048 0 ∷ listen toTapeMode 0 ∷ connect ∷ startBackup
+    ∷ Feed 3000 false 1024 []
+    ∷ moverIs toTapeMode active (counts 1024 1 1024) (reads 0 0) (window 0 2048) ∷ dataIs backupRuns dataActive 1024
+    ∷ Feed 1976 false 1024 []
+    ∷ moverIs toTapeMode active (counts 1024 2 2048) (reads 0 0) (window 0 2048) ∷ dataIs backupRuns dataActive 2048
+    ∷ Feed 952 false 0 (pauses eow 0)
+    ∷ moverIs toTapeMode (pausedFor eow) (counts 1024 2 2048) (reads 0 0) (window 0 0) ∷ dataIs backupRuns dataActive 2048 ∷ [])
 
 -- h: "Then (2048, 1024), continue, last 952 bytes: a record with 72 zeros; moved 3,072, processed 3,000."
 abbrev pub linesH : List Line
-linesH = linesG ++ (setWindow 2048 1024 0 ∷ continue ∷ Feed 952 true 952 [] ∷ backingUp active 0 0 3 3072 2048 1024 dataActive 0 3000)
+linesH =
+    linesG
+    ++ (setWindow 2048 1024 0 ∷ continue ∷ Feed 952 true 952 []
+    ∷ moverIs toTapeMode active (counts 1024 3 3072) (reads 0 0) (window 2048 1024) ∷ dataIs backupRuns dataActive 3000 ∷ [])
 
 -- i: "Then an empty last part: halted, not EOW."
 abbrev pub linesI : List Line
-linesI = linesH ++ (Feed 0 true 0 (halts successful closed) ∷ backingUp halted 0 closed 3 3072 2048 1024 dataHalted successful 3000)
+linesI =
+    linesH
+    ++ (Feed 0 true 0 (halts successful connectClosed)
+    ∷ moverIs toTapeMode (haltedFor connectClosed) (counts 1024 3 3072) (reads 0 0) (window 2048 1024)
+    ∷ dataIs backupRuns (dataHaltedFor successful) 3000 ∷ [])
 
 abbrev pub streaming : List Line → List ℕ → ℕ → Case
 streaming lines last position = record { image = blank; stream = streamed 3000 0; lines = lines; last = last; position = position }
@@ -66,7 +70,7 @@ cases =
     windowCase 0 4096 0
     ∷ windowCase 512 4096 9
     -- c. "Writable tape open; window, then the same record size again, then listen: 26."
-    ∷ asking (openTape 1 ∷ setWindow 0 4096 0 ∷ setSize 1024 ∷ listen 0 26 ∷ [])
+    ∷ asking (openTape 1 ∷ setWindow 0 4096 0 ∷ setSize 1024 ∷ listen toTapeMode 26 ∷ [])
     -- d. "(0, 0) and (0, 1536): 9."
     ∷ windowCase 0 0 9
     ∷ windowCase 0 1536 9
@@ -77,7 +81,7 @@ cases =
     ∷ streaming linesH threeRecords 3
     ∷ streaming linesI threeRecords 3
     -- j. "Entries record, mark, record; position 0; FSR 3: 12, position 2, residue 2."
-    ∷ record { image = marked; stream = []; lines = login ++ (openTape 1 ∷ mtio 2 3 12 2 ∷ []); last = marked; position = 2 }
+    ∷ record { image = marked; stream = []; lines = login ++ (openTape 1 ∷ mtio fsr 3 12 2 ∷ []); last = marked; position = 2 }
     ∷ []
 
 abbrev pub ExamplesHold : Type 0
