@@ -10,8 +10,9 @@ use Rattle.requests.specs.declared.JointRequest.{JointRequest}
 use Rattle.session.specs.declared.types.Data.{Data}
 use Rattle.session.specs.declared.types.Mover.{Mover}
 use Rattle.session.specs.declared.types.Tape.{Tape}
+use Rattle.session.specs.Names.{moverIdle, noMode}
 use Rattle.session.specs.Judge.{Accepts}
-use Rattle.session.specs.Parts.{dataJoined, moverJoined, restMover, moverPauses}
+use Rattle.session.specs.Parts.{dataJoined, moverJoined, moverPauses}
 use Rattle.session.specs.DataService.{dataStep}
 use Rattle.session.specs.MoverService.{moverStop, setSize}
 use Rattle.session.specs.TapeService.{TapePart, tapeStep, moverPartStep}
@@ -46,12 +47,22 @@ pub record RelationKept : Type 0 where
   pub joint : (d : Data) (m : Mover) (t : Tape) → dataWrong d ≡ false → moverWrong m t ≡ false
       → sameFlag (dataJoined (d .state)) (moverJoined (m .state)) ≡ true → (q : JointRequest) → Accepts (λ _ next. JointKeeps t next) (jointStep d m t q)
 
+-- "Stop: HALTED to IDLE, all variables of its own end reset but the record size."
+pub record Stopped (m next : Mover) : Type 0 where
+  pub idle : next .state ≡ moverIdle
+  pub size : next .size ≡ m .size
+  pub mode : next .mode ≡ noMode
+  pub window : (next .offset ≡ 0) × (next .length ≡ 0)
+  pub moved : next .moved ≡ 0
+  pub reads : (next .seek ≡ 0) × (next .left ≡ 0) × (next .origin ≡ 0)
+  pub reasons : (next .pause ≡ 0) × (next .halt ≡ 0)
+
 -- no window outlives a change of record size or a pause; stop keeps the record size and resets the rest; a window in force is a
 -- multiple of the record size in offset and length, and ends at 2^64 - 1 at the most
 pub record WindowRules : Type 0 where
   pub resized : (m : Mover) (size : ℕ) → Accepts (λ _ next. (next .length ≡ 0) × (next .offset ≡ 0) × (next .size ≡ size)) (setSize m size)
   pub paused : (why : ℕ) (m : Mover) → (moverPauses why m .length ≡ 0) × (moverPauses why m .offset ≡ 0)
-  pub stopped : (m : Mover) → Accepts (λ _ next. next ≡ restMover (m .size)) (moverStop m)
+  pub stopped : (m : Mover) → Accepts (λ _ next. Stopped m next) (moverStop m)
   pub legal : (m : Mover) (t : Tape) → moverWrong m t ≡ false → (m .length ≡ 0 → ⊥) → Legal (m .size) (m .offset) (m .length)
 
 pub record Promises : Type 0 where
