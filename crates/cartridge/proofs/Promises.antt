@@ -11,20 +11,20 @@ use borrow.Author.Tests.{ltb-false, eqb-true, eqb-false, eq-eqb, ne-eqb, lt-ltb,
 use Rattle.codes.specs.Codes.{longestRecord}
 use Rattle.xdr.specs.Choose.{choose, least}
 use Rattle.xdr.proofs.Tests.{by-test, least-take}
-use Rattle.image.specs.Image.{capacity, count, entryLen, entryStart, entryBytes, bodyAt, faulty}
+use Rattle.image.specs.Image.{capacity, count, used, entryAt, entryLen, entryStart, entryBytes, bodyAt, faulty}
 use Rattle.image.specs.Sound.{Sound, Placed}
 use Rattle.image.proofs.Laws.{placed, no-fault}
 use Rattle.spacing.specs.declared.Spaced.{Spaced}
-use Rattle.spacing.specs.Spacing.{ended, spacing}
-use Rattle.spacing.proofs.Laws.{spaced-within, spaced-error}
+use Rattle.spacing.specs.Spacing.{ended, spacing, goesForward, PassedMark, endOf}
+use Rattle.spacing.proofs.Laws.{spaced-within, spaced-error, spaced-stands}
 use Rattle.writing.specs.Writing.{Room, roomFor, kept, written, withMarks}
 use Rattle.writing.proofs.Laws.{room-facts}
-use Rattle.writing.proofs.Theorems.{written-placed, written-count, written-len, written-start, written-capacity, written-there, same-bytes, marks-placed}
+use Rattle.writing.proofs.Theorems.{written-placed, written-length, written-count, written-used, written-len, written-start, written-capacity, written-there, same-bytes, past-table, past-body, marks-placed, marks-used, marks-past}
 use Rattle.cartridge.specs.declared.Wrote.{Wrote}
 use Rattle.cartridge.specs.declared.Part.{Part}
 use Rattle.cartridge.specs.Step.{Step, keeping}
 use Rattle.cartridge.specs.Operations.{wrote, part, writeStep, readPart, entryPart, markStep, mtioStep}
-use Rattle.cartridge.specs.Promises.{bytesOf, StaySound, Refused, Stand, Leave, ReadBack, FirstBytes, Promises}
+use Rattle.cartridge.specs.Promises.{bytesOf, StaySound, Refused, Stand, Leave, PastEnd, ReadBack, FirstBytes, Promises}
 
 -- ---- a sound image stays sound
 Kept : Step Wrote → Type 0
@@ -162,6 +162,144 @@ module _ (l : List ℕ) (p : ℕ) where
       (λ _. by-test ReadStands (eqb p (count l)) _ _ (λ _ _. refl)
       (λ _. by-test ReadStands (eqb (entryLen l p) 0) _ _ (λ _ o. absurd (o .1 refl)) (λ _ o. absurd (o .0 refl))))))
 
+-- ---- where an outcome of the tape leaves it
+module _ (l : List ℕ) (p : ℕ) where
+  ReadMark : Part → Type 0
+  ReadMark r = r .error ≡ 12 → (r .position ≡ p + 1) × (entryLen l p ≡ 0)
+
+  read-mark : (times : ℕ) → ReadMark (readPart l p times)
+  unfolding readPart entryPart ReadMark
+  read-mark times =
+      by-test ReadMark (ltb longestRecord times) _ _ (λ _ h. absurd (omega arith))
+      (λ _. by-test ReadMark (faulty l p) _ _ (λ _ h. absurd (omega arith))
+      (λ _. by-test ReadMark (eqb times 0) _ _ (λ _ h. absurd (omega arith))
+      (λ _. by-test ReadMark (eqb p (count l)) _ _ (λ _ h. absurd (omega arith))
+      (λ _. by-test ReadMark (eqb (entryLen l p) 0) _ _ (λ e _. (refl, eqb-true (entryLen l p) 0 e)) (λ _ h. absurd (omega arith))))))
+
+  ReadEnd : Part → Type 0
+  ReadEnd r = r .error ≡ 13 → (r .position ≡ p) × (p ≡ count l)
+
+  read-end : (times : ℕ) → ReadEnd (readPart l p times)
+  unfolding readPart entryPart ReadEnd
+  read-end times =
+      by-test ReadEnd (ltb longestRecord times) _ _ (λ _ h. absurd (omega arith))
+      (λ _. by-test ReadEnd (faulty l p) _ _ (λ _ h. absurd (omega arith))
+      (λ _. by-test ReadEnd (eqb times 0) _ _ (λ _ h. absurd (omega arith))
+      (λ _. by-test ReadEnd (eqb p (count l)) _ _ (λ e _. (refl, eqb-true p (count l) e))
+      (λ _. by-test ReadEnd (eqb (entryLen l p) 0) _ _ (λ _ h. absurd (omega arith)) (λ _ h. absurd (omega arith))))))
+
+  WriteMark : Step Wrote → Type 0
+  WriteMark s = s .gives .error ≡ 12 → ⊥
+
+  write-mark : (b : List ℕ) → WriteMark (writeStep l p b)
+  unfolding writeStep WriteMark
+  write-mark b =
+      by-test WriteMark (ltb longestRecord (length b)) _ _ (λ _ h. omega arith)
+      (λ _. by-test WriteMark (faulty l p) _ _ (λ _ h. omega arith)
+      (λ _. by-test WriteMark (eqb (length b) 0) _ _ (λ _ h. omega arith)
+      (λ _. by-test WriteMark (roomFor l p (length b)) _ _ (λ _ h. omega arith) (λ _ h. omega arith))))
+
+  WriteEnd : Step Wrote → Type 0
+  WriteEnd s = s .gives .error ≡ 13 → s .gives .position ≡ p
+
+  write-end : (b : List ℕ) → WriteEnd (writeStep l p b)
+  unfolding writeStep WriteEnd
+  write-end b =
+      by-test WriteEnd (ltb longestRecord (length b)) _ _ (λ _ _. refl)
+      (λ _. by-test WriteEnd (faulty l p) _ _ (λ _ _. refl)
+      (λ _. by-test WriteEnd (eqb (length b) 0) _ _ (λ _ _. refl)
+      (λ _. by-test WriteEnd (roomFor l p (length b)) _ _ (λ _ h. absurd (omega arith)) (λ _ _. refl))))
+
+  MtioMark : ℕ → Step Spaced → Type 0
+  MtioMark op s = s .gives .error ≡ 12 → PassedMark (goesForward op) l p (s .gives .position)
+
+  mark-unmarked : (op times : ℕ) → MtioMark op (markStep l p times)
+  unfolding markStep MtioMark
+  mark-unmarked op times = by-test (MtioMark op) (ltb (capacity l) (p + times)) _ _ (λ _ h. absurd (omega arith)) (λ _ h. absurd (omega arith))
+
+  mtio-mark : (op times : ℕ) → MtioMark op (mtioStep l op p times)
+  unfolding mtioStep MtioMark
+  mtio-mark op times =
+      by-test (MtioMark op) (ltb 6 op) _ _ (λ _ h. absurd (omega arith))
+      (λ _. by-test (MtioMark op) (eqb op 6) _ _ (λ _ h. absurd (omega arith))
+      (λ _. by-test (MtioMark op) (faulty l p) _ _ (λ _ h. absurd (omega arith))
+      (λ f. by-test (MtioMark op) (eqb op 5) _ _ (λ _. mark-unmarked op times)
+      (λ _. by-test (MtioMark op) (eqb op 4) _ _ (λ _ h. absurd (omega arith)) (λ _. spaced-stands l op p times (placed l p f .within) .mark)))))
+
+  MtioEnd : ℕ → Step Spaced → Type 0
+  MtioEnd op s = s .gives .error ≡ 13 → s .gives .position ≡ choose (eqb op 5) p (endOf (goesForward op) (count l))
+
+  mark-end : (op times : ℕ) → eqb op 5 ≡ true → MtioEnd op (markStep l p times)
+  unfolding markStep MtioEnd choose
+  mark-end op times e = by-test (MtioEnd op) (ltb (capacity l) (p + times)) _ _ (λ _ h. rw e) (λ _ h. absurd (omega arith))
+
+  space-end : (op times : ℕ) → p ≤ count l → eqb op 5 ≡ false → MtioEnd op (keeping l (spacing l op p times))
+  unfolding MtioEnd choose
+  space-end op times h e g = rw e (spaced-stands l op p times h .end g)
+
+  mtio-end : (op times : ℕ) → MtioEnd op (mtioStep l op p times)
+  unfolding mtioStep MtioEnd
+  mtio-end op times =
+      by-test (MtioEnd op) (ltb 6 op) _ _ (λ _ h. absurd (omega arith))
+      (λ _. by-test (MtioEnd op) (eqb op 6) _ _ (λ _ h. absurd (omega arith))
+      (λ _. by-test (MtioEnd op) (faulty l p) _ _ (λ _ h. absurd (omega arith))
+      (λ f. by-test (MtioEnd op) (eqb op 5) _ _ (λ e. mark-end op times e)
+      (λ e. by-test (MtioEnd op) (eqb op 4) _ _ (λ _ h. absurd (omega arith)) (λ _. space-end op times (placed l p f .within) e)))))
+
+-- ---- what is past the end stays
+module _ (l : List ℕ) where
+  same-past : PastEnd l l
+  same-past = record { size = refl; table = λ i _ _. refl; body = λ i _. refl }
+
+  WritePast : Step Wrote → Type 0
+  WritePast s = PastEnd l (s .image)
+
+  written-past : (p : ℕ) (b : List ℕ) → Placed l p → length b ≤ longestRecord → Room l p (length b) → PastEnd l (written l p b)
+  written-past p b at small room =
+      let c = written-count l p b at small room in
+      let u = written-used l p b at small room in
+      record {
+        size = written-length l p b at small room;
+        table = λ i h k. past-table l p b at small room i (omega arith) k;
+        body = λ i h. past-body l p b at small room i (omega arith);
+      }
+
+  write-past : (p : ℕ) (b : List ℕ) → WritePast (writeStep l p b)
+  unfolding writeStep WritePast
+  write-past p b =
+      by-test WritePast (ltb longestRecord (length b)) _ _ (λ _. same-past)
+      (λ s. by-test WritePast (faulty l p) _ _ (λ _. same-past)
+      (λ f. by-test WritePast (eqb (length b) 0) _ _ (λ _. same-past)
+      (λ _. by-test WritePast (roomFor l p (length b)) _ _
+      (λ r. written-past p b (placed l p f) (ltb-false longestRecord (length b) s) (room-facts l p (length b) r)) (λ _. same-past))))
+
+  MtioPast : Step Spaced → Type 0
+  MtioPast s = PastEnd l (s .image)
+
+  mark-past : (p times : ℕ) → Placed l p → MtioPast (markStep l p times)
+  unfolding markStep MtioPast
+  mark-past p times at =
+      by-test MtioPast (ltb (capacity l) (p + times)) _ _ (λ _. same-past)
+      (λ h.
+      let fits = ltb-false (capacity l) (p + times) h in
+      let r = marks-past times l p at fits in
+      let n = marks-placed times l p at fits .within in
+      let u = marks-used times l p at fits in
+      record {
+        size = r .size;
+        table = λ i a c. r .table i (omega arith) c;
+        body = λ i a. r .body i (omega arith);
+      })
+
+  mtio-past : (op p times : ℕ) → MtioPast (mtioStep l op p times)
+  unfolding mtioStep MtioPast
+  mtio-past op p times =
+      by-test MtioPast (ltb 6 op) _ _ (λ _. same-past)
+      (λ _. by-test MtioPast (eqb op 6) _ _ (λ _. same-past)
+      (λ _. by-test MtioPast (faulty l p) _ _ (λ _. same-past)
+      (λ f. by-test MtioPast (eqb op 5) _ _ (λ _. mark-past p times (placed l p f))
+      (λ _. by-test MtioPast (eqb op 4) _ _ (λ _. same-past) (λ _. same-past)))))
+
 -- ---- what a read hands out
 module _ (l : List ℕ) (p times : ℕ) (some : 0 < times) where
   First : Part → Type 0
@@ -225,12 +363,23 @@ module _ (l : List ℕ) (p : ℕ) (b : List ℕ) (at : Placed l p) (some : 0 < l
       (λ _ h. absurd (omega arith)))))
 
 pub promises : Promises
-unfolding Kept Spaces InTape Writes Moves Same WriteStands MtioStands ReadStands First Returned
+unfolding Kept Spaces InTape Writes Moves Same WriteStands MtioStands ReadStands ReadMark ReadEnd WriteMark WriteEnd MtioMark MtioEnd WritePast MtioPast First Returned
 promises =
     record {
       sound = λ l p at. record { write = write-kept l p at; mtio = mtio-kept l p at; read = read-kept l p at };
       leave = λ l p. record { write = write-leaves l p; mtio = λ op times. mtio-leaves l op p times; spacing = λ op times. spacing-leaves l op p times };
       stand = λ l p. record { write = write-stands l p; mtio = mtio-stands l p; read = read-stands l p };
+      outcomes =
+          λ l p.
+          record {
+            read-mark = read-mark l p;
+            read-end = read-end l p;
+            write-mark = write-mark l p;
+            write-end = write-end l p;
+            mtio-mark = mtio-mark l p;
+            mtio-end = mtio-end l p;
+          };
+      past = λ l p. record { write = write-past l p; mtio = λ op times. mtio-past l op p times };
       first = λ l p times some. read-first l p times some;
       back = λ l p b at some e. let r = write-back l p b at some e in record { error = r .error; bytes = r .bytes; before = r .before };
     }

@@ -2,10 +2,13 @@
 use Prim.Native.Nat.{ℕ, _+_, _≤_, _<_}
 use mathlib.Core.List.{List}
 use mathlib.Core.Path.{_≡_}
-use lib.ListN.{length, take, drop}
+use lib.ListN.{length, take, drop, getD}
+use lib.Dec.{eqb}
 use Rattle.codes.specs.Codes.{atMark, atEnd, writeMarks}
-use Rattle.image.specs.Image.{entryBytes, entryLen}
+use Rattle.xdr.specs.Choose.{choose}
+use Rattle.image.specs.Image.{count, used, entryAt, entryBytes, entryLen, bodyAt}
 use Rattle.image.specs.Sound.{Placed}
+use Rattle.spacing.specs.Spacing.{goesForward, PassedMark, endOf}
 use Rattle.cartridge.specs.Step.{Step}
 use Rattle.cartridge.specs.Operations.{writeStep, readPart, mtioStep, part}
 
@@ -45,9 +48,32 @@ pub record ReadBack (l : List ℕ) (p : ℕ) (b : List ℕ) : Type 0 where
 abbrev pub FirstBytes : List ℕ → ℕ → Type 0
 FirstBytes l p = (times : ℕ) → 0 < times → readPart l p times .error ≡ 0 → bytesOf l p times ≡ take times (entryBytes l p)
 
+-- "12, 13: tape outcomes": the image stays (`Leave`), and the tape stands after the mark that was passed, at the end that was met, or, where marks or
+-- a record find no room, where it was
+pub record Outcomes (l : List ℕ) (p : ℕ) : Type 0 where
+  pub read-mark : (times : ℕ) → readPart l p times .error ≡ atMark → (readPart l p times .position ≡ p + 1) × (entryLen l p ≡ 0)
+  pub read-end : (times : ℕ) → readPart l p times .error ≡ atEnd → (readPart l p times .position ≡ p) × (p ≡ count l)
+  pub write-mark : (b : List ℕ) → writeStep l p b .gives .error ≡ atMark → ⊥
+  pub write-end : (b : List ℕ) → writeStep l p b .gives .error ≡ atEnd → writeStep l p b .gives .position ≡ p
+  pub mtio-mark : (op times : ℕ) → mtioStep l op p times .gives .error ≡ atMark → PassedMark (goesForward op) l p (mtioStep l op p times .gives .position)
+  pub mtio-end : (op times : ℕ) → mtioStep l op p times .gives .error ≡ atEnd
+      → mtioStep l op p times .gives .position ≡ choose (eqb op writeMarks) p (endOf (goesForward op) (count l))
+
+-- "Old entries and bytes past the end stay": of the table those at and past the new n, of the body those past the new used
+pub record PastEnd (l m : List ℕ) : Type 0 where
+  pub size : length m ≡ length l
+  pub table : (i : ℕ) → entryAt l (count m) ≤ i → i < bodyAt l → getD m i 0 ≡ getD l i 0
+  pub body : (i : ℕ) → bodyAt l + used m ≤ i → getD m i 0 ≡ getD l i 0
+
+pub record Past (l : List ℕ) (p : ℕ) : Type 0 where
+  pub write : (b : List ℕ) → PastEnd l (writeStep l p b .image)
+  pub mtio : (op times : ℕ) → PastEnd l (mtioStep l op p times .image)
+
 pub record Promises : Type 0 where
   pub sound : (l : List ℕ) (p : ℕ) → Placed l p → StaySound l p
   pub leave : (l : List ℕ) (p : ℕ) → Leave l p
   pub stand : (l : List ℕ) (p : ℕ) → Stand l p
+  pub outcomes : (l : List ℕ) (p : ℕ) → Outcomes l p
+  pub past : (l : List ℕ) (p : ℕ) → Past l p
   pub first : (l : List ℕ) (p : ℕ) → FirstBytes l p
   pub back : (l : List ℕ) (p : ℕ) (b : List ℕ) → Placed l p → 0 < length b → writeStep l p b .gives .error ≡ 0 → ReadBack l p b

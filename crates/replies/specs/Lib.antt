@@ -3,3 +3,4 @@ pub mod Fit
 pub mod Writers
 pub mod RoundTrip
 pub mod Refusals
+pub mod Numbers

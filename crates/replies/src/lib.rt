@@ -12,6 +12,7 @@ ghost use Rattle.replies.specs.Fit.{Sendable, AnswersFit};
 ghost use Rattle.replies.specs.Writers.{PutUpTo, headerWords};
 ghost use Rattle.replies.specs.RoundTrip.{RepliesBack};
 ghost use Rattle.replies.specs.Refusals.{RefusalsAsLong};
+ghost use Rattle.replies.specs.Numbers.{NumbersTold};
 
 // What get state tells of the data end.
 #[repr(C)]
@@ -367,4 +368,9 @@ pub fn replies_round_trip()
 // The same, of a refusal being as long as its message's accepted reply with nothing told.
 pub fn refusals_as_long()
     ensures { λ r. ⌜ RefusalsAsLong ⌝ }
+{}
+
+// The same, of the error word of what is sent being the reply's number, and of a refusal's other fields being zero or empty.
+pub fn numbers_told()
+    ensures { λ r. ⌜ NumbersTold ⌝ }
 {}

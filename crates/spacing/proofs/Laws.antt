@@ -5,13 +5,13 @@ use mathlib.Core.Bool.{Bool, true, false}
 use mathlib.Core.Path.{_≡_, refl, sym, _∙_}
 use native.Mathlib.Omega.{arith}
 use lib.Dec.{eqb}
-use borrow.Author.Tests.{eq-eqb, ne-eqb}
+use borrow.Author.Tests.{eq-eqb, ne-eqb, eqb-true}
 use Rattle.xdr.specs.Choose.{choose}
 use Rattle.xdr.proofs.Tests.{by-test}
 use Rattle.image.specs.Image.{count, entryLen}
 use Rattle.image.specs.Sound.{Placed}
 use Rattle.spacing.specs.declared.Spaced.{Spaced}
-use Rattle.spacing.specs.Spacing.{ended, walk, spacing, aheadOf, passes, positionAfter, leftAfter, stops, goesForward, countsMarks}
+use Rattle.spacing.specs.Spacing.{ended, walk, spacing, aheadOf, passes, positionAfter, leftAfter, stops, goesForward, countsMarks, PassedMark, endOf}
 
 -- a step stays within the table
 module _ (n i rest : ℕ) (some : rest ≡ 0 → ⊥) where
@@ -113,3 +113,58 @@ module _ (f marks : Bool) (l : List ℕ) where
 pub spaced-error : (l : List ℕ) (op p times : ℕ) → Other (spacing l op p times .error) → ⊥
 unfolding spacing
 spaced-error l op p times = no-other (goesForward op) (countsMarks op) l _ p times
+
+-- ---- where a walk leaves the tape that ends with 12 or 13
+-- a step more before
+mark-step-before : (f : Bool) (l : List ℕ) (n i k q : ℕ) → i ≤ n → suc k ≡ aheadOf f n i → PassedMark f l (positionAfter f i) q → PassedMark f l i q
+unfolding aheadOf positionAfter
+mark-step-before true l n i k q h e m = (let z = m .0 in omega arith, m .1)
+mark-step-before false l n i k q h e m = (let z = m .0 in omega arith, m .1)
+
+mark-here : (f : Bool) (l : List ℕ) (n i k : ℕ) → i ≤ n → suc k ≡ aheadOf f n i → entryLen l (passes f i) ≡ 0 → PassedMark f l i (positionAfter f i)
+unfolding aheadOf positionAfter passes
+mark-here true l n i k h e m = (omega arith, let z : i + 1 - 1 ≡ i = omega arith in rw z m)
+mark-here false l n i k h e m = (omega arith, m)
+
+end-here : (f : Bool) (n i : ℕ) → i ≤ n → 0 ≡ aheadOf f n i → i ≡ endOf f n
+unfolding aheadOf
+end-here true n i h e = omega arith
+end-here false n i h e = omega arith
+
+stops-mark : (marks mark : Bool) → stops marks mark ≡ true → mark ≡ true
+unfolding stops
+stops-mark true mark h = absurd (let z : _≡_ {A = ℕ} 0 1 = cc in omega arith)
+stops-mark false mark h = h
+
+module _ (f marks : Bool) (l : List ℕ) (n : ℕ) where
+  -- where the walk that began at i stands, by its error
+  pub record Stands (i : ℕ) (s : Spaced) : Type 0 where
+    pub mark : s .error ≡ 12 → PassedMark f l i (s .position)
+    pub end : s .error ≡ 13 → s .position ≡ endOf f n
+
+  stands-done : (i j : ℕ) → Stands i (ended 0 j 0)
+  stands-done i j = record { mark = λ e. absurd (omega arith); end = λ e. absurd (omega arith) }
+
+  stands : (k i left : ℕ) → i ≤ n → k ≡ aheadOf f n i → Stands i (walk f marks l k i left)
+  unfolding walk
+  stands zero i left h e =
+      by-test (Stands i) (eqb left 0) (ended 0 i 0) (ended 13 i left) (λ _. stands-done i i)
+      (λ _. record { mark = λ z. absurd (omega arith); end = λ _. end-here f n i h e })
+  stands (suc k) i left h e =
+      let mark = eqb (entryLen l (passes f i)) 0 in
+      let some : suc k ≡ 0 → ⊥ = λ z. omega arith in
+      let step = after-within n i (suc k) some f h e in
+      let pred : suc k - 1 ≡ k = omega arith in
+      let ahead : k ≡ aheadOf f n (positionAfter f i) = sym pred ∙ after-ahead n i (suc k) some f h e in
+      let rest = stands k (positionAfter f i) (leftAfter marks mark left) step ahead in
+      by-test (Stands i) (eqb left 0) (ended 0 i 0) _ (λ _. stands-done i i)
+      (λ _. by-test (Stands i) (stops marks mark) (ended 12 (positionAfter f i) left) _
+      (λ s. record {
+        mark = λ _. mark-here f l n i k h e (eqb-true (entryLen l (passes f i)) 0 (stops-mark marks mark s));
+        end = λ z. absurd (omega arith);
+      })
+      (λ _. record { mark = λ z. mark-step-before f l n i k _ h e (rest .mark z); end = rest .end }))
+
+pub spaced-stands : (l : List ℕ) (op p times : ℕ) → p ≤ count l → Stands (goesForward op) (countsMarks op) l (count l) p (spacing l op p times)
+unfolding spacing
+spaced-stands l op p times h = stands (goesForward op) (countsMarks op) l (count l) _ p times h refl

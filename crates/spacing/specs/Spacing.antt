@@ -1,6 +1,7 @@
 -- Spacing over the table of entries (paper 01, "The cartridge", MTIO ops 0 to 4).
-use Prim.Native.Nat.{ℕ, zero, suc, _+_, _-_, _*_, _%_}
+use Prim.Native.Nat.{ℕ, zero, suc, _+_, _-_, _*_, _%_, _<_}
 use mathlib.Core.List.{List}
+use mathlib.Core.Path.{_≡_}
 use mathlib.Core.Bool.{Bool, true, false}
 use lib.Dec.{eqb, ltb}
 use Rattle.codes.specs.Codes.{atMark, atEnd, forwardRecords}
@@ -57,3 +58,14 @@ walk forward marks l (suc k) i left =
 -- ops 0 to 3 from position p, `times` the request's count
 unfoldable pub spacing : List ℕ → ℕ → ℕ → ℕ → Spaced
 spacing l op p times = walk (goesForward op) (countsMarks op) l (aheadOf (goesForward op) (count l) p) p times
+
+-- ---- where a walk from p forward or back leaves the tape, at q
+-- 12: a mark was passed: forward it is the entry before q, back the entry at q
+abbrev pub PassedMark : Bool → List ℕ → ℕ → ℕ → Type 0
+PassedMark true l p q = (p < q) × (entryLen l (q - 1) ≡ 0)
+PassedMark false l p q = (q < p) × (entryLen l q ≡ 0)
+
+-- 13: the end of n entries that it goes to
+abbrev pub endOf : Bool → ℕ → ℕ
+endOf true n = n
+endOf false n = 0

@@ -9,8 +9,8 @@ use borrow.Author.Count.{below-more}
 use Rattle.codes.specs.Codes.{longestRecord}
 use Rattle.xdr.specs.Xdr.{word, overlay}
 use Rattle.xdr.proofs.Laws.{length-overlay}
-use Rattle.xdr.proofs.Places.{byte-before, part-back, part-same}
-use Rattle.image.specs.Image.{capacity, count, used, entryLen, entryStart, entryBytes, bodyAt, bodyLen, Table, withEntry}
+use Rattle.xdr.proofs.Places.{byte-before, byte-after, part-back, part-same}
+use Rattle.image.specs.Image.{capacity, count, used, entryAt, entryLen, entryStart, entryBytes, bodyAt, bodyLen, Table, withEntry}
 use Rattle.image.specs.Sound.{Header, Entry, Sound, Placed, sumBefore}
 use Rattle.image.proofs.Laws.{entry-there, sum-next, sum-mono, sum-same}
 use Rattle.image.proofs.Writes.{entry-length, entry-first, entry-capacity, entry-count, entry-used, entry-len, entry-start, before-len, before-start, entry-byte}
@@ -162,6 +162,19 @@ module _ (l : List ℕ) (p : ℕ) (b : List ℕ) (at : Placed l p) (small : leng
       rw (same-len i h, same-start i h, written-capacity)
       (part-same (bodyAt l + entryStart l i) (entryLen l i) l (written l p b) written-length (λ j a c. same-byte j (omega arith) (omega arith)))
 
+  -- ---- what is past the new end stays: the table's bytes from the next entry on, and the body's after the record
+  pub past-table : (i : ℕ) → entryAt l (p + 1) ≤ i → i < bodyAt l → getD (written l p b) i 0 ≡ getD l i 0
+  unfolding written
+  past-table i h k =
+      byte-before (bodyAt l + kept l p) b cut front-fits i (omega arith) ∙ entry-byte l p (kept l p) (length b) there bytes i h
+
+  pub past-body : (i : ℕ) → bodyAt l + (kept l p + length b) ≤ i → getD (written l p b) i 0 ≡ getD l i 0
+  unfolding written
+  past-body i h =
+      let s = room .slot in
+      byte-after (bodyAt l + kept l p) b cut front-fits i (omega arith)
+      ∙ entry-byte l p (kept l p) (length b) there bytes i (omega arith)
+
 -- ---- marks
 -- while marks are written: `left` are to go, from position `at` on
 pub record Marking (l₀ : List ℕ) (p n keep : ℕ) (l : List ℕ) (at left : ℕ) : Type 0 where
@@ -221,3 +234,52 @@ marks-placed (suc k) l p f h =
     let cap = written-capacity l p [] f small room in
     let g : p + suc k ≡ p + 1 + k = omega arith in
     rw g (marks-placed k (written l p []) (p + 1) (written-placed l p [] f small room) (omega arith))
+
+-- ---- what is past the end after marks stays
+pub record Past (l m : List ℕ) (n u : ℕ) : Type 0 where
+  pub size : length m ≡ length l
+  pub places : capacity m ≡ capacity l
+  pub table : (i : ℕ) → entryAt l n ≤ i → i < bodyAt l → getD m i 0 ≡ getD l i 0
+  pub body : (i : ℕ) → bodyAt l + u ≤ i → getD m i 0 ≡ getD l i 0
+
+module _ (l : List ℕ) (p : ℕ) (f : Placed l p) (h : p < capacity l) where
+  none-small : length {A = ℕ} [] ≤ longestRecord
+  none-small = omega arith
+
+  -- the bytes that are kept before the next mark are the same
+  mark-kept : kept (written l p []) (p + 1) ≡ kept l p
+  mark-kept =
+      let room = mark-room l p f h in
+      let c = written-count l p [] f none-small room in
+      let u = written-used l p [] f none-small room in
+      let k = kept-end (written l p []) (p + 1) (omega arith) in
+      omega arith
+
+pub marks-used : (k : ℕ) (l : List ℕ) (p : ℕ) → Placed l p → p + k ≤ capacity l → kept l p ≤ used (withMarks l p k)
+unfolding withMarks
+marks-used zero l p f h = kept-used l p f
+marks-used (suc k) l p f h =
+    let z : p < capacity l = omega arith in
+    let room = mark-room l p f z in
+    let cap = written-capacity l p [] f (none-small l p f z) room in
+    let e = mark-kept l p f z in
+    let r = marks-used k (written l p []) (p + 1) (written-placed l p [] f (none-small l p f z) room) (omega arith) in
+    omega arith
+
+pub marks-past : (k : ℕ) (l : List ℕ) (p : ℕ) → Placed l p → p + k ≤ capacity l → Past l (withMarks l p k) (p + k) (kept l p)
+unfolding withMarks
+marks-past zero l p f h = record { size = refl; places = refl; table = λ i _ _. refl; body = λ i _. refl }
+marks-past (suc k) l p f h =
+    let z : p < capacity l = omega arith in
+    let small = none-small l p f z in
+    let room = mark-room l p f z in
+    let cap = written-capacity l p [] f small room in
+    let len = written-length l p [] f small room in
+    let e = mark-kept l p f z in
+    let r = marks-past k (written l p []) (p + 1) (written-placed l p [] f small room) (omega arith) in
+    record {
+      size = r .size ∙ len;
+      places = r .places ∙ cap;
+      table = λ i a c. r .table i (omega arith) (omega arith) ∙ past-table l p [] f small room i (omega arith) c;
+      body = λ i a. r .body i (omega arith) ∙ past-body l p [] f small room i (omega arith);
+    }
