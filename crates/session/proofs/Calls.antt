@@ -74,12 +74,17 @@ module _ (Q : Kept → Type 0) (sends : (k : Kept) (first : Bool) → Q k → Q 
     settled-holds q (refuse e) a = sends k false h
     settled-holds q (accept reply d) a = noticed-holds (l .time) (d .mwhy) _ _ (noticed-holds (l .time) (d .dwhy) _ _ (sends (d .kept) false a))
 
-    pub judged-holds : (q : Request) → Accepts Accepted (outcome k l r q) → Next (judged k l r q)
-    unfolding judged verdict
-    judged-holds q a = by-test Next (isClose q) _ _ (λ _. shuts k h) (λ _. settled-holds q _ (judged-by Accepted _ _ (λ _. a)))
+    judged-holds : (q : Request) → Accepts Accepted (verdict k l r q) → Next (judged k l r q)
+    unfolding judged
+    judged-holds q a = by-test Next (isClose q) _ _ (λ _. shuts k h) (λ _. settled-holds q _ a)
 
+    pub call-judged : Accepts Accepted (verdict k l r (requestIn r)) → Next (answered k l r)
+    call-judged a = by-call Next k l r (λ _. h) (shuts k h) (judged-holds (requestIn r) a)
+
+    -- the login test aside
     pub call-holds : Accepts Accepted (outcome k l r (requestIn r)) → Next (answered k l r)
-    call-holds a = by-call Next k l r (λ _. h) (shuts k h) (judged-holds (requestIn r) a)
+    unfolding verdict
+    call-holds a = call-judged (judged-by Accepted _ _ (λ _. a))
 
 -- ---- the relation, as facts
 pub record Fair (s : Session) : Type 0 where
@@ -339,7 +344,7 @@ module _ (k : Kept) (l : Lent) (r : List ℕ) where
   known q e f h v = rw f at (requests e h (ap (verdict k l r) f ∙ v))
 
   -- what needs no login is judged by its service
-  verdict-free : (q : Request) → needsLogin q ≡ false → verdict k l r q ≡ outcome k l r q
+  pub verdict-free : (q : Request) → needsLogin q ≡ false → verdict k l r q ≡ outcome k l r q
   unfolding verdict isLocked judge choose
   verdict-free q f = rw (verdict, isLocked, f, open-to-all (k .session .login .authorized))
 

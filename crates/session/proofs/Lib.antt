@@ -12,3 +12,4 @@ pub mod Guarding
 pub mod Calls
 pub mod Owning
 pub mod Order
+pub mod Leaving

@@ -12,3 +12,4 @@ pub mod Promises
 pub mod Answer
 pub mod Order
 pub mod Calls
+pub mod Leaving

@@ -6,6 +6,7 @@ ghost use Rattle.session.specs.Parts.{restData, dataTo, dataStarts, data
 ghost use Rattle.session.specs.Promises.{Promises};
 ghost use Rattle.session.specs.Order.{AnyOrder};
 ghost use Rattle.session.specs.Calls.{CallsKeep};
+ghost use Rattle.session.specs.Leaving.{CallsLeave};
 
 pub mod types;
 
@@ -506,4 +507,9 @@ pub fn any_order()
 // No work: its contract is what every request call keeps, and what a refused call leaves.
 pub fn calls_keep()
     ensures { λ r. ⌜ CallsKeep ⌝ }
+{}
+
+// No work: its contract is what every number of a reply leaves, who becomes authorized, and what writes to the cartridge.
+pub fn calls_leave()
+    ensures { λ r. ⌜ CallsLeave ⌝ }
 {}
