@@ -12,4 +12,5 @@ pub mod Guarding
 pub mod Calls
 pub mod Owning
 pub mod Order
+pub mod Services
 pub mod Leaving

@@ -5,7 +5,7 @@ use mathlib.Core.Path.{_≡_}
 use mathlib.Core.Bool.{Bool, true, false}
 use mathlib.Core.List.{List, [], _∷_, _++_}
 use lib.ListN.{take, drop}
-use lib.Dec.{eqb}
+use lib.Dec.{eqb, leb}
 use Rattle.codes.specs.Codes.{brokenSession}
 use Rattle.xdr.specs.Choose.{choose}
 use Rattle.xdr_opaque.specs.Put.{Each}
@@ -47,6 +47,30 @@ serviceOf Message.Unknown n = rangeOf n
 
 abbrev pub routeOf : List ℕ → Service
 routeOf r = serviceOf (messageOf (messageWord r)) (messageWord r)
+
+-- The same by the numbers of 004 alone, for `ServicesAre`. Joint are data abort and data connect; mover abort, mover close and mover connect
+abbrev pub jointNumbers : List ℕ
+jointNumbers = 0x403 ∷ 0x40A ∷ 0xA03 ∷ 0xA07 ∷ 0xA09 ∷ []
+
+unfoldable pub isOneOf : List ℕ → ℕ → Bool
+isOneOf [] n = false
+isOneOf (k ∷ ks) n = choose (eqb n k) true (isOneOf ks n)
+
+unfoldable pub within : ℕ → ℕ → ℕ → Bool
+within low high n = choose (leb low n) (leb n high) false
+
+unfoldable pub serviceBy : ℕ → Service
+serviceBy n =
+    choose (isOneOf jointNumbers n) JointService
+    (choose (within 0x400 0x4FF n) DataService
+    (choose (within 0x300 0x3FF n) TapeService
+    (choose (within 0xA00 0xAFF n) TapeService
+    (choose (within 0x200 0x2FF n) ScsiService
+    ControlService))))
+
+-- only those five are set aside: every other number of the three ranges, handled or not, is its service's, and no number else is
+abbrev pub ServicesAre : Type 0
+ServicesAre = (n : ℕ) → serviceOf (messageOf n) n ≡ serviceBy n
 
 unfoldable pub serviceNumber : Service → ℕ
 serviceNumber DataService = 0

@@ -4,7 +4,7 @@ ghost use mathlib.Core.Path.{_≡_};
 ghost use Prim.Native.Nat.{_+_, _≤_};
 ghost use Rattle.session.specs.Parts.{restData, dataTo, dataStarts, dataHalts, restMover, moverListens, moverRuns, moverPauses, moverHalts, moverWindow, moverSize, moverSeeks, dataFed, moverRecords, moverHands, newSession, withParts, afterMessage, shut, pastTop, toldIn, dataJoined, moverJoined, holdsTape, unwritable};
 ghost use Rattle.session.specs.Promises.{Promises};
-ghost use Rattle.session.specs.Order.{AnyOrder};
+ghost use Rattle.session.specs.Order.{AnyOrder, ServicesAre};
 ghost use Rattle.session.specs.Calls.{CallsKeep};
 ghost use Rattle.session.specs.Leaving.{CallsLeave};
 
@@ -502,6 +502,11 @@ pub fn promises_hold()
 // No work: its contract is that the requests of the three services may be merged in any order.
 pub fn any_order()
     ensures { λ r. ⌜ AnyOrder ⌝ }
+{}
+
+// No work: its contract is which message numbers are joint and which are whose, so that any_order speaks of all the others.
+pub fn services_are()
+    ensures { λ r. ⌜ ServicesAre ⌝ }
 {}
 
 // No work: its contract is what every request call keeps, and what a refused call leaves.

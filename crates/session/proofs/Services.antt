@@ -1,0 +1,112 @@
+-- Which service a message number belongs to: by the table of messages, row by row, and by the ranges. Assumes nothing.
+use Prim.Native.Nat.{ℕ, _+_, _*_, _/_, _≤_, _<_}
+use mathlib.Core.Bool.{Bool, true, false}
+use mathlib.Core.List.{List, [], _∷_}
+use mathlib.Core.Path.{_≡_, refl, sym, ap, _∙_}
+use native.Mathlib.Omega.{arith}
+use lib.Dec.{eqb, leb}
+use borrow.Author.Tests.{eqb-true, eqb-false, eq-eqb, ne-eqb, le-leb, lt-leb, leb-true}
+use Rattle.xdr.specs.Choose.{choose}
+use Rattle.xdr.proofs.Tests.{by-test}
+use Rattle.frame.specs.Messages.{Line, is, look, table, rowOf, messageOf}
+use Rattle.frame.specs.declared.Row.{Row}
+use Rattle.session.specs.Order.{Service, DataService, TapeService, ScsiService, JointService, ControlService, rangeOf, serviceOf, jointNumbers, isOneOf, within, serviceBy, ServicesAre}
+
+-- ---- a range by its bounds is a range by its high byte
+module _ (n k : ℕ) where
+  in-range : (b : Bool) → eqb (n / 256) k ≡ b → within (k * 256) (k * 256 + 255) n ≡ b
+  unfolding within choose
+  in-range true h =
+      let z : n / 256 ≡ k = eqb-true (n / 256) k h in
+      let low : k * 256 ≤ n = omega arith in
+      let high : n ≤ k * 256 + 255 = omega arith in
+      rw (le-leb (k * 256) n low, le-leb n (k * 256 + 255) high)
+  in-range false h =
+      let z : n / 256 ≡ k → ⊥ = eqb-false (n / 256) k h in
+      by-test (λ (b : Bool). b ≡ false) (leb (k * 256) n) _ _ (λ e. beyond z (leb-true (k * 256) n e)) (λ _. refl)
+    where
+      beyond : (n / 256 ≡ k → ⊥) → k * 256 ≤ n → leb n (k * 256 + 255) ≡ false
+      beyond z low = lt-leb n (k * 256 + 255) (omega arith)
+
+  range-is : within (k * 256) (k * 256 + 255) n ≡ eqb (n / 256) k
+  range-is = in-range (eqb (n / 256) k) refl
+
+-- ---- the table: every row that is not joint belongs to its range
+abbrev RightLine : Line → Type 0
+RightLine (is k m b a) = isOneOf jointNumbers k ≡ false → serviceOf m k ≡ rangeOf k
+
+abbrev RightLines : List Line → Type 0
+RightLines [] = Unit
+RightLines (x ∷ t) = RightLine x × RightLines t
+
+joint-line : {A : Type 0} → true ≡ false → A
+joint-line h = absurd (let z : _≡_ {A = ℕ} 0 1 = cc in omega arith)
+
+table-right : RightLines table
+unfolding isOneOf serviceOf rangeOf choose
+table-right =
+    (λ _. refl,
+    (λ _. refl,
+    (λ _. refl,
+    (λ _. refl,
+    (λ _. refl,
+    (λ _. refl,
+    (λ _. refl,
+    (λ _. refl,
+    (λ _. refl,
+    (λ _. refl,
+    (λ _. refl,
+    (λ _. refl,
+    (λ _. refl,
+    (λ _. refl,
+    (λ _. refl,
+    (λ _. refl,
+    (λ _. refl,
+    (λ _. refl,
+    (λ _. refl,
+    (joint-line,
+    (λ _. refl,
+    (λ _. refl,
+    (joint-line,
+    (λ _. refl,
+    (λ _. refl,
+    (λ _. refl,
+    (joint-line,
+    (λ _. refl,
+    (λ _. refl,
+    (λ _. refl,
+    (joint-line,
+    (λ _. refl,
+    (joint-line,
+    tt)))))))))))))))))))))))))))))))))
+
+looked : (t : List Line) → RightLines t → (n : ℕ) → isOneOf jointNumbers n ≡ false → serviceOf (look t n .kind) n ≡ rangeOf n
+unfolding look serviceOf
+looked [] h n j = refl
+looked (is k m b a ∷ t) h n j =
+    by-test (λ (r : Row). serviceOf (r .kind) n ≡ rangeOf n) (eqb n k) _ _
+    (λ e. let z = eqb-true n k e in rw z (h .0 (rw z at j))) (λ _. looked t (h .1) n j)
+
+-- the joint ones
+one-of : (P : ℕ → Type 0) (a b c d e : ℕ) → P a → P b → P c → P d → P e → (n : ℕ) → isOneOf (a ∷ b ∷ c ∷ d ∷ e ∷ []) n ≡ true → P n
+unfolding isOneOf
+one-of P a b c d e pa pb pc pd pe n =
+    let Q : Bool → Type 0 = λ (x : Bool). x ≡ true → P n in
+    by-test Q (eqb n a) _ _ (λ h _. rw (eqb-true n a h) pa)
+    (λ _. by-test Q (eqb n b) _ _ (λ h _. rw (eqb-true n b h) pb)
+    (λ _. by-test Q (eqb n c) _ _ (λ h _. rw (eqb-true n c h) pc)
+    (λ _. by-test Q (eqb n d) _ _ (λ h _. rw (eqb-true n d h) pd)
+    (λ _. by-test Q (eqb n e) _ _ (λ h _. rw (eqb-true n e h) pe) (λ _ h. joint-line (sym h))))))
+
+joint-is : (n : ℕ) → isOneOf jointNumbers n ≡ true → serviceOf (messageOf n) n ≡ JointService
+unfolding rowOf look serviceOf choose
+joint-is = one-of (λ (n : ℕ). serviceOf (messageOf n) n ≡ JointService) _ _ _ _ _ refl refl refl refl refl
+
+ranged : (n : ℕ) → rangeOf n ≡ choose (within 0x400 0x4FF n) DataService (choose (within 0x300 0x3FF n) TapeService (choose (within 0xA00 0xAFF n) TapeService (choose (within 0x200 0x2FF n) ScsiService ControlService)))
+unfolding rangeOf
+ranged n = rw (range-is n 4, range-is n 3, range-is n 10, range-is n 2)
+
+pub services-are : ServicesAre
+unfolding serviceBy rowOf
+services-are n =
+    by-test (λ (s : Service). serviceOf (messageOf n) n ≡ s) (isOneOf jointNumbers n) _ _ (joint-is n) (λ j. looked table table-right n j ∙ ranged n)
