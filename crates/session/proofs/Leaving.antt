@@ -1,5 +1,5 @@
 -- What each number leaves, who becomes authorized, and what writes to the cartridge: from what every request comes to. Assumes nothing.
-use Prim.Native.Nat.{ℕ, _+_, _%_, _≤_, _<_}
+use Prim.Native.Nat.{ℕ, _+_, _%_, _^_, _≤_, _<_}
 use mathlib.Core.Bool.{Bool, true, false, not}
 use mathlib.Core.List.{List, [], _∷_, _++_}
 use mathlib.Core.Path.{_≡_, refl, sym, ap, _∙_}
@@ -7,7 +7,7 @@ use native.Mathlib.Omega.{arith}
 use lib.ListN.{length}
 use lib.Dec.{eqb, ltb}
 use borrow.Author.Tests.{ne-eqb, eqb-true, eqb-false}
-use Rattle.codes.specs.Codes.{longestRecord, notAuthorized, illegalArguments, illegalState}
+use Rattle.codes.specs.Codes.{errors, longestRecord, notAuthorized, illegalArguments, illegalState}
 use Rattle.xdr.specs.Choose.{choose}
 use Rattle.xdr.specs.Xdr.{be32, sameBytes}
 use Rattle.xdr.proofs.Tests.{by-test, yes}
@@ -38,7 +38,7 @@ use Rattle.replies.specs.declared.Reply.the-variants as Reply
 use Rattle.replies.specs.declared.Notice.{Notice}
 use Rattle.replies.specs.declared.Notice.the-variants as Notice
 use Rattle.replies.specs.Replies.{numberOf, headerError, replyBytes}
-use Rattle.replies.specs.Numbers.{bodyIn, bare}
+use Rattle.replies.specs.Numbers.{placeOf, numberIn, bodyIn, bare}
 use Rattle.replies.proofs.Numbers as numbers
 use Rattle.session.specs.declared.types.Tape.{Tape}
 use Rattle.session.specs.declared.types.Session.{Session}
@@ -48,22 +48,59 @@ use Rattle.session.specs.TapeService.{Loaded, movedTo, isRefusal, protec
 use Rattle.session.specs.Connection.{Account, matches, connectOpen, clientAuth, connectStep, configStep}
 use Rattle.session.specs.Answer.{Kept, Lent, held, Answered, answered, judged, isClose, settled, verdict, needsLogin, isLocked, outcome, refusing, isUnread}
 use Rattle.session.specs.Answer.{noticed, halting, closing, replying, Done, tapePart, withData, withTape, withChanger, withLogin, withEnds, requestIn}
-use Rattle.session.specs.Order.{Call, run}
-use Rattle.session.specs.Calls.{Heard, isRun, isDone}
+use Rattle.session.specs.Order.{isOneOf, Call, run}
+use Rattle.session.specs.Calls.{Heard, isRun, isDone, isNumber}
 use Rattle.session.specs.Leaving.{Leaving, AtMark, mark-read, mark-spaced, AtEnd, end-read, end-written, end-spaced, OtherFields, no-body, zero-words, residue-word, InHeader, unknown-message, bad-body, beforeLogin, Replied, Closes, LogsIn, Among, here, later, authorized, LoginHolds, MayWrite, Touched, untouched, wrote, marked, CallsLeave}
 use Rattle.session.proofs.JudgeLaws.{judged-by, accepts, accepts-any, accepts-map, refusal-says, carried}
-use Rattle.session.proofs.Numbers.{number-right, refusal-right}
+use Rattle.session.proofs.Numbers.{number-right, refusal-right, refusal-facts}
+use Rattle.session.proofs.Services.{one-of}
 use Rattle.session.proofs.Calls.{heard, call-judged, call-holds, verdict-free}
 
 -- ---- numbers
--- a refusal by its test, and as facts
-refusal-facts : (e : ℕ) → isRefusal e ≡ true → Refused e
-unfolding isRefusal choose
-refusal-facts e h = (
-  λ z. let w = rw z at h in absurd (let z : _≡_ {A = ℕ} 0 1 = cc in omega arith),
-  λ z. let w = rw z at h in absurd (let z : _≡_ {A = ℕ} 0 1 = cc in omega arith),
-  λ z. let w = rw z at h in absurd (let z : _≡_ {A = ℕ} 0 1 = cc in omega arith),
-)
+both : (a b : Bool) → choose a b false ≡ true → (a ≡ true) × (b ≡ true)
+unfolding choose
+both true b h = (refl, h)
+both false b h = absurd (let z : _≡_ {A = ℕ} 0 1 = cc in omega arith)
+
+number-facts : (e : ℕ) → isNumber e ≡ true → (isOneOf errors e ≡ true) × (isRefusal e ≡ true)
+unfolding isNumber
+number-facts e h = both (isOneOf errors e) (isRefusal e) h
+
+small-number : (e : ℕ) → isNumber e ≡ true → e < 2 ^ 32
+small-number e h =
+    let z : (n : ℕ) → n < 27 → n < 2 ^ 32 = λ n s. omega arith in
+    z e (one-of (λ (n : ℕ). n < 27) errors (
+      omega arith,
+      (
+        omega arith,
+        (
+          omega arith,
+          (
+            omega arith,
+            (
+              omega arith,
+              (
+                omega arith,
+                (
+                  omega arith,
+                  (
+                    omega arith,
+                    (omega arith, (omega arith, (omega arith, (omega arith, (omega arith, (omega arith, (omega arith, (omega arith, tt)))))))),
+                  ),
+                ),
+              ),
+            ),
+          ),
+        ),
+      ),
+    ) e (number-facts e h .0))
+
+small-outcome : (e : ℕ) → isRefusal e ≡ false → e < 2 ^ 32
+unfolding isRefusal
+small-outcome e =
+    let P : Bool → Type 0 = λ (b : Bool). b ≡ false → e < 2 ^ 32 in
+    by-test P (eqb e 0) _ _ (λ h _. let z = eqb-true e 0 h in omega arith)
+    (λ _. by-test P (eqb e 12) _ _ (λ h _. let z = eqb-true e 12 h in omega arith) (λ _ h. let z = eqb-true e 13 (yes h) in omega arith))
 
 facts-refusal : (e : ℕ) → isRefusal e ≡ false → Refused e → ⊥
 unfolding isRefusal choose
@@ -141,6 +178,7 @@ moved-leaves P k n m =
 module _ (k : Kept) where
   pub record Good (q : Request) (reply : Reply) (d : Done) : Type 0 where
     pub fair : Refused (numberOf reply) → ⊥
+    pub small : numberOf reply < 2 ^ 32
     pub bodied : headerError reply ≡ 0
     pub counter : d .kept .session .sequence ≡ k .session .sequence
     pub fields : (s t m c : ℕ) → (numberOf reply ≡ 0 → ⊥) → OtherFields (numberOf reply) (bodyIn (replyBytes s t m c reply (d .shown)))
@@ -152,6 +190,7 @@ module _ (k : Kept) where
   zero-good q reply d c z =
       record {
         fair = λ f. f .0 z;
+        small = omega arith;
         bodied = unheaded reply z;
         counter = c;
         fields = λ _ _ _ _ n. absurd (n z);
@@ -182,6 +221,7 @@ module _ (k : Kept) where
       let leave = cartridge.promises .leave tape from .mtio op times in
       record {
         fair = facts-refusal _ h;
+        small = small-outcome _ h;
         bodied = refl;
         counter = refl;
         fields = λ q t m c n. residue-word (s .gives .residue) (facts-refusal _ h) (numbers.numbers-told .spaced q t m c _ _ _);
@@ -210,6 +250,7 @@ module _ (k : Kept) where
       let leave = cartridge.promises .leave tape from .write (bytesAt body bytes) in
       record {
         fair = facts-refusal _ h;
+        small = small-outcome _ h;
         bodied = refl;
         counter = refl;
         fields = λ q t m c n. zero-words 0 1 (rw (unwritten tape from (bytesAt body bytes) n) (numbers.numbers-told .wrote q t m c _ _));
@@ -232,6 +273,7 @@ module _ (k : Kept) where
       let o = cartridge.promises .outcomes tape from in
       record {
         fair = facts-refusal _ h;
+        small = small-outcome _ h;
         bodied = refl;
         counter = refl;
         fields = λ q t m c n. zero-words 0 1 (rw (unread tape from times n) (numbers.numbers-told .read q t m c _ _ _));
@@ -363,13 +405,15 @@ module _ (k : Kept) (l : Lent) (r : List ℕ) where
       }
 
   -- a refusal in the header, and one in the body
-  header-replied : (q : Request) (e : ℕ) → Refused e → Tells q e → InHeader q e → Replied k l r q (replying r (l .time) (Reply.Header e) [] k)
+  header-replied : (q : Request) (e : ℕ) → isNumber e ≡ true → Tells q e → InHeader q e → Replied k l r q (replying r (l .time) (Reply.Header e) [] k)
   unfolding numberOf headerError
-  header-replied q e f t i =
+  header-replied q e n t i =
+      let f = refusal-facts e (number-facts e n .1) in
       record {
         reply = Reply.Header e;
         shown = [];
         sent = refl;
+        told = numbers.numbers-told .told _ _ _ _ (Reply.Header e) [] (small-number e n);
         header = λ _. i;
         fields = λ _. no-body (numbers.numbers-told .headed _ _ _ _ e []);
         quiet = λ _. refl;
@@ -379,13 +423,15 @@ module _ (k : Kept) (l : Lent) (r : List ℕ) where
         stranger = t;
       }
 
-  body-replied : (q : Request) (b e a : ℕ) → Refused e → Tells q e → Replied k l r q (replying r (l .time) (Reply.Refused b e a) [] k)
+  body-replied : (q : Request) (b e a : ℕ) → isNumber e ≡ true → Tells q e → Replied k l r q (replying r (l .time) (Reply.Refused b e a) [] k)
   unfolding numberOf headerError
-  body-replied q b e a f t =
+  body-replied q b e a n t =
+      let f = refusal-facts e (number-facts e n .1) in
       record {
         reply = Reply.Refused b e a;
         shown = [];
         sent = refl;
+        told = numbers.numbers-told .told _ _ _ _ (Reply.Refused b e a) [] (small-number e n);
         header = λ n. absurd (n refl);
         fields = λ _. zero-words b a (numbers.numbers-told .refused _ _ _ _ b e a []);
         quiet = λ _. refl;
@@ -404,7 +450,7 @@ module _ (k : Kept) (l : Lent) (r : List ℕ) where
   unfolding needsLogin outcome
   bad-is e v = let w = sym (verdict-free k l r Request.Bad refl) ∙ v in let z : 18 ≡ e = cc in rw (← z) bad-body
 
-  refused-replied : (q : Request) (e : ℕ) → verdict k l r q ≡ refuse e → Refused e → Tells q e → Replied k l r q (replying r (l .time) (refusing q r e) [] k)
+  refused-replied : (q : Request) (e : ℕ) → verdict k l r q ≡ refuse e → isNumber e ≡ true → Tells q e → Replied k l r q (replying r (l .time) (refusing q r e) [] k)
   unfolding refusing isUnread choose
   refused-replied Request.Unknown e v f t = header-replied Request.Unknown e f t (unknown-is e v)
   refused-replied Request.Bad e v f t = header-replied Request.Bad e f t (bad-is e v)
@@ -440,6 +486,7 @@ module _ (k : Kept) (l : Lent) (r : List ℕ) where
         reply = reply;
         shown = d .shown;
         sent = same ∙ ap (λ (s : ℕ). replyBytes s (l .time) (messageWord r) (sequenceOf r) reply (d .shown)) (g .counter);
+        told = ap (numberIn (placeOf reply)) same ∙ numbers.numbers-told .told _ _ _ _ reply (d .shown) (g .small);
         header = λ n. absurd (n (g .bodied));
         fields = λ n. rw same (g .fields _ _ _ _ n);
         quiet = λ n. ap (λ (x : Answered). x .notices) (alone n);
@@ -449,10 +496,10 @@ module _ (k : Kept) (l : Lent) (r : List ℕ) where
         stranger = t;
       }
 
-  settled-replied : (q : Request) (o : Outcome Done) → verdict k l r q ≡ o → Accepts (Good k q) o → Refuses (λ e. isRefusal e ≡ true) o → Tells q (toldBy o)
+  settled-replied : (q : Request) (o : Outcome Done) → verdict k l r q ≡ o → Accepts (Good k q) o → Refuses (λ e. isNumber e ≡ true) o → Tells q (toldBy o)
       → Replied k l r q (settled k (l .time) r q o)
   unfolding settled Accepts Refuses
-  settled-replied q (refuse e) v g f t = refused-replied q e v (refusal-facts e f) t
+  settled-replied q (refuse e) v g f t = refused-replied q e v f t
   settled-replied q (accept reply d) v g f t = accepted-replied q reply d g t
 
   judged-replied : (q : Request) → isClose q ≡ false → Replied k l r q (judged k l r q)
@@ -498,11 +545,6 @@ module _ (k : Kept) (l : Lent) (r : List ℕ) where
   closes h e = rw (heard k l r h, e) closing-closes
 
 -- ---- who becomes authorized
-both : (a b : Bool) → choose a b false ≡ true → (a ≡ true) × (b ≡ true)
-unfolding choose
-both true b h = (refl, h)
-both false b h = absurd (let z : _≡_ {A = ℕ} 0 1 = cc in omega arith)
-
 module _ (k : Kept) (l : Lent) (r : List ℕ) where
   abbrev this : Call
   this = record { ask = record { request = r }; lent = l }

@@ -1,12 +1,24 @@
--- The reply of an accepted request has the number 0, or an outcome of the tape. Assumes nothing.
-use Prim.Native.Nat.{ℕ}
+-- The reply of an accepted request has the number 0, or an outcome of the tape, and a refusal's is one of the table's. Assumes nothing.
+use Prim.Native.Nat.{ℕ, _+_}
 use mathlib.Core.Bool.{Bool, true, not}
 use mathlib.Core.List.{List, [], _∷_}
 use mathlib.Core.Path.{_≡_, refl, ap}
-use lib.ListN.{getD}
-use lib.Dec.{eqb}
+use native.Mathlib.Omega.{arith}
+use lib.ListN.{length, getD}
+use lib.Dec.{eqb, ltb}
 use Rattle.xdr.specs.Choose.{choose}
 use Rattle.xdr.proofs.Tests.{by-test}
+use Rattle.image.specs.Image.{capacity, count, entryLen, faulty}
+use Rattle.spacing.specs.declared.Spaced.{Spaced}
+use Rattle.spacing.specs.Spacing.{spacing}
+use Rattle.spacing.proofs.Laws.{spaced-error}
+use Rattle.writing.specs.Writing.{roomFor}
+use Rattle.cartridge.specs.declared.Wrote.{Wrote}
+use Rattle.cartridge.specs.declared.Part.{Part}
+use Rattle.cartridge.specs.declared.Standing.{Standing}
+use Rattle.cartridge.specs.Step.{Step, keeping}
+use Rattle.cartridge.specs.Operations.{writeStep, readPart, entryPart, markStep, mtioStep, standingAt}
+use Rattle.cartridge.specs.Promises.{Refused}
 use Rattle.requests.specs.Within.{bytesAt}
 use Rattle.requests.specs.declared.ConnectRequest.{ConnectRequest}
 use Rattle.requests.specs.declared.ConnectRequest.the-variants as ConnectRequest
@@ -31,7 +43,7 @@ use Rattle.session.specs.declared.types.Mover.{Mover}
 use Rattle.session.specs.declared.types.Tape.{Tape}
 use Rattle.session.specs.declared.types.Changer.{Changer}
 use Rattle.session.specs.declared.types.Login.{Login}
-use Rattle.codes.specs.Codes.{deviceOpened, permissionDenied, notOpen, illegalArguments, badFile, noDevice, illegalState}
+use Rattle.codes.specs.Codes.{longestRecord, deviceOpened, permissionDenied, notOpen, illegalArguments, badFile, noDevice, illegalState}
 use Rattle.session.specs.Judge.{test, refuse, accept, judge, Accepts, Refuses}
 use Rattle.session.specs.DataService.{dataState, dataListen, dataStart, dataStop, dataStep}
 use Rattle.session.specs.MoverService.{moverState, moverListen, moverContinue, moverStop, setWindow, moverRead, setSize, moverStep}
@@ -40,8 +52,9 @@ use Rattle.session.specs.ScsiService.{scsiOpen, scsiClear, scsiState, ru
 use Rattle.session.specs.Joint.{dataConnect, moverConnect, dataAbort, moverAbort, moverClose, jointStep}
 use Rattle.session.specs.Connection.{Account, connectOpen, clientAuth, connectStep, configStep}
 use Rattle.session.specs.Answer.{Kept, Lent, Done, outcome, verdict, tapePart, withData, withTape, withChanger, withLogin, withEnds}
-use Rattle.session.specs.Calls.{isRun, isDone}
-use Rattle.session.proofs.JudgeLaws.{judged-by, accepts, refusal-says, carried, refuses-behind, refuses-own, accepts-all, refuses-after, refuses-onto, numbersRight}
+use Rattle.session.specs.Order.{isOneOf}
+use Rattle.session.specs.Calls.{isRun, isDone, isNumber}
+use Rattle.session.proofs.JudgeLaws.{judged-by, accepts, refusal-says, carried, refuses-behind, accepts-all, refuses-after, refuses-onto, numbersRight}
 
 abbrev Zero : {A : Type 0} → Reply → A → Type 0
 Zero r _ = eqb (numberOf r) 0 ≡ true
@@ -130,35 +143,35 @@ module _ (k : Kept) (l : Lent) (r : List ℕ) where
   unfolding verdict Right
   number-right q = judged-by (Right q) _ _ (λ _. outcome-number q)
 
--- ---- a refusal's number: of each request every test's is one, and the tape's own is where it is given
+-- ---- a refusal's number: of each request every test's is one of the table's, and the tape's own is where it is given
 abbrev Refusal : ℕ → Type 0
-Refusal e = isRefusal e ≡ true
+Refusal e = isNumber e ≡ true
 
 data-refuses : (d : Data) (q : DataRequest) (body : List ℕ) → Refuses Refusal (dataStep d q body)
-unfolding dataStep dataState dataListen dataStart dataStop isRefusal choose
-data-refuses d DataRequest.State body = accepts-all isRefusal _ _ _ refl
-data-refuses d (DataRequest.Backup name) body = accepts-all isRefusal _ _ _ refl
-data-refuses d (DataRequest.Recover name) body = accepts-all isRefusal _ _ _ refl
-data-refuses d DataRequest.Stop body = accepts-all isRefusal _ _ _ refl
-data-refuses d (DataRequest.Listen address) body = accepts-all isRefusal _ _ _ refl
+unfolding dataStep dataState dataListen dataStart dataStop isNumber isOneOf isRefusal choose
+data-refuses d DataRequest.State body = accepts-all isNumber _ _ _ refl
+data-refuses d (DataRequest.Backup name) body = accepts-all isNumber _ _ _ refl
+data-refuses d (DataRequest.Recover name) body = accepts-all isNumber _ _ _ refl
+data-refuses d DataRequest.Stop body = accepts-all isNumber _ _ _ refl
+data-refuses d (DataRequest.Listen address) body = accepts-all isNumber _ _ _ refl
 
 mover-refuses : (m : Mover) (t : Tape) (q : MoverRequest) → Refuses Refusal (moverStep m t q)
-unfolding moverStep moverState moverListen moverContinue moverStop setWindow moverRead setSize isRefusal choose
-mover-refuses m t MoverRequest.State = accepts-all isRefusal _ _ _ refl
-mover-refuses m t (MoverRequest.Listen mode address) = accepts-all isRefusal _ _ _ refl
-mover-refuses m t MoverRequest.Continue = accepts-all isRefusal _ _ _ refl
-mover-refuses m t MoverRequest.Stop = accepts-all isRefusal _ _ _ refl
-mover-refuses m t (MoverRequest.Window offset length) = accepts-all isRefusal _ _ _ refl
-mover-refuses m t (MoverRequest.Read offset length) = accepts-all isRefusal _ _ _ refl
-mover-refuses m t (MoverRequest.Size size) = accepts-all isRefusal _ _ _ refl
+unfolding moverStep moverState moverListen moverContinue moverStop setWindow moverRead setSize isNumber isOneOf isRefusal choose
+mover-refuses m t MoverRequest.State = accepts-all isNumber _ _ _ refl
+mover-refuses m t (MoverRequest.Listen mode address) = accepts-all isNumber _ _ _ refl
+mover-refuses m t MoverRequest.Continue = accepts-all isNumber _ _ _ refl
+mover-refuses m t MoverRequest.Stop = accepts-all isNumber _ _ _ refl
+mover-refuses m t (MoverRequest.Window offset length) = accepts-all isNumber _ _ _ refl
+mover-refuses m t (MoverRequest.Read offset length) = accepts-all isNumber _ _ _ refl
+mover-refuses m t (MoverRequest.Size size) = accepts-all isNumber _ _ _ refl
 
 joint-refuses : (d : Data) (m : Mover) (t : Tape) (q : JointRequest) → Refuses Refusal (jointStep d m t q)
-unfolding jointStep dataAbort dataConnect moverAbort moverClose moverConnect isRefusal choose
-joint-refuses d m t JointRequest.DataAbort = accepts-all isRefusal _ _ _ refl
-joint-refuses d m t (JointRequest.DataConnect address) = accepts-all isRefusal _ _ _ refl
-joint-refuses d m t JointRequest.MoverAbort = accepts-all isRefusal _ _ _ refl
-joint-refuses d m t JointRequest.MoverClose = accepts-all isRefusal _ _ _ refl
-joint-refuses d m t (JointRequest.MoverConnect mode address) = accepts-all isRefusal _ _ _ refl
+unfolding jointStep dataAbort dataConnect moverAbort moverClose moverConnect isNumber isOneOf isRefusal choose
+joint-refuses d m t JointRequest.DataAbort = accepts-all isNumber _ _ _ refl
+joint-refuses d m t (JointRequest.DataConnect address) = accepts-all isNumber _ _ _ refl
+joint-refuses d m t JointRequest.MoverAbort = accepts-all isNumber _ _ _ refl
+joint-refuses d m t JointRequest.MoverClose = accepts-all isNumber _ _ _ refl
+joint-refuses d m t (JointRequest.MoverConnect mode address) = accepts-all isNumber _ _ _ refl
 
 run-refuses : (c : Changer) (cdb : List ℕ) (room : ℕ) → Refuses Refusal (runCdb c cdb room)
 unfolding runCdb Refuses
@@ -166,17 +179,17 @@ run-refuses c cdb room =
     by-test (Refuses Refusal) (eqb (getD cdb 0 0) 0) _ _ (λ _. tt) (λ _. by-test (Refuses Refusal) (eqb (getD cdb 0 0) 3) _ _ (λ _. tt) (λ _. tt))
 
 scsi-refuses : (c : Changer) (q : ScsiRequest) (body : List ℕ) → Refuses Refusal (scsiStep c q body)
-unfolding scsiStep scsiOpen scsiClear scsiState scsiCdb isRefusal choose
-scsi-refuses c (ScsiRequest.Open name) body = accepts-all isRefusal _ _ _ refl
-scsi-refuses c ScsiRequest.Close body = accepts-all isRefusal _ _ _ refl
-scsi-refuses c ScsiRequest.State body = accepts-all isRefusal _ _ _ refl
-scsi-refuses c ScsiRequest.Reset body = accepts-all isRefusal _ _ _ refl
-scsi-refuses c (ScsiRequest.Cdb cdb room) body = refuses-behind isRefusal _ (run-refuses c (bytesAt body cdb) room) _ refl
+unfolding scsiStep scsiOpen scsiClear scsiState scsiCdb isNumber isOneOf isRefusal choose
+scsi-refuses c (ScsiRequest.Open name) body = accepts-all isNumber _ _ _ refl
+scsi-refuses c ScsiRequest.Close body = accepts-all isNumber _ _ _ refl
+scsi-refuses c ScsiRequest.State body = accepts-all isNumber _ _ _ refl
+scsi-refuses c ScsiRequest.Reset body = accepts-all isNumber _ _ _ refl
+scsi-refuses c (ScsiRequest.Cdb cdb room) body = refuses-behind isNumber _ (run-refuses c (bytesAt body cdb) room) _ refl
 
 connect-refuses : (fresh : Bool) (g : Login) (a : Account) (q : ConnectRequest) (body : List ℕ) → Refuses Refusal (connectStep fresh g a q body)
-unfolding connectStep connectOpen clientAuth isRefusal Refuses choose
-connect-refuses fresh g a (ConnectRequest.Open version) body = accepts-all isRefusal _ _ _ refl
-connect-refuses fresh g a (ConnectRequest.Auth id password) body = accepts-all isRefusal _ _ _ refl
+unfolding connectStep connectOpen clientAuth isNumber isOneOf isRefusal Refuses choose
+connect-refuses fresh g a (ConnectRequest.Open version) body = accepts-all isNumber _ _ _ refl
+connect-refuses fresh g a (ConnectRequest.Auth id password) body = accepts-all isNumber _ _ _ refl
 connect-refuses fresh g a ConnectRequest.OtherAuth body = refl
 connect-refuses fresh g a ConnectRequest.Close body = tt
 
@@ -185,42 +198,110 @@ unfolding configStep Refuses
 config-refuses g ConfigRequest.ConnectionType = tt
 config-refuses g ConfigRequest.ServerInfo = tt
 
--- the tape's: its own number is given only where it is a refusal
-own-refuses : (b c d : Bool) (e : ℕ) (r : Reply) (s : Loaded)
-    → Refuses Refusal (judge (test b notOpen ∷ test c illegalState ∷ test d permissionDenied ∷ test (isRefusal e) e ∷ []) (accept r s))
-unfolding isRefusal Refuses choose
-own-refuses b c d e r s =
-    refuses-after isRefusal b _ _ (accept r s) refl
-    (refuses-after isRefusal c _ _ (accept r s) refl (refuses-after isRefusal d _ _ (accept r s) refl (refuses-own isRefusal (accept r s) tt e)))
-
-state-refuses : (b : Bool) (e : ℕ) (r : Reply) (s : Loaded) → Refuses Refusal (judge (test b notOpen ∷ test (isRefusal e) e ∷ []) (accept r s))
-unfolding isRefusal Refuses choose
-state-refuses b e r s = refuses-after isRefusal b _ _ (accept r s) refl (refuses-own isRefusal (accept r s) tt e)
-
-opened-right : (a b c d : Bool) → numbersRight isRefusal (test a illegalArguments ∷ test b noDevice ∷ test c deviceOpened ∷ test d badFile ∷ []) ≡ true
+-- ---- the tape's: its own number is given only where it is a refusal
+pub refusal-facts : (e : ℕ) → isRefusal e ≡ true → Refused e
 unfolding isRefusal choose
+refusal-facts e h = (
+  λ z. let w = rw z at h in absurd (let z : _≡_ {A = ℕ} 0 1 = cc in omega arith),
+  λ z. let w = rw z at h in absurd (let z : _≡_ {A = ℕ} 0 1 = cc in omega arith),
+  λ z. let w = rw z at h in absurd (let z : _≡_ {A = ℕ} 0 1 = cc in omega arith),
+)
+
+-- a number of the cartridge that is a refusal is one of the table's
+abbrev Listed : ℕ → Type 0
+Listed e = isRefusal e ≡ true → isNumber e ≡ true
+
+module _ (l : List ℕ) (p : ℕ) where
+  WriteListed : Step Wrote → Type 0
+  WriteListed s = Listed (s .gives .error)
+
+  write-listed : (b : List ℕ) → WriteListed (writeStep l p b)
+  unfolding writeStep WriteListed isNumber isOneOf isRefusal choose
+  write-listed b =
+      by-test WriteListed (ltb longestRecord (length b)) _ _ (λ _ h. h)
+      (λ _. by-test WriteListed (faulty l p) _ _ (λ _ h. h)
+      (λ _. by-test WriteListed (eqb (length b) 0) _ _ (λ _ h. h)
+      (λ _. by-test WriteListed (roomFor l p (length b)) _ _ (λ _ h. h) (λ _ h. h))))
+
+  ReadListed : Part → Type 0
+  ReadListed r = Listed (r .error)
+
+  read-listed : (times : ℕ) → ReadListed (readPart l p times)
+  unfolding readPart entryPart ReadListed isNumber isOneOf isRefusal choose
+  read-listed times =
+      by-test ReadListed (ltb longestRecord times) _ _ (λ _ h. h)
+      (λ _. by-test ReadListed (faulty l p) _ _ (λ _ h. h)
+      (λ _. by-test ReadListed (eqb times 0) _ _ (λ _ h. h)
+      (λ _. by-test ReadListed (eqb p (count l)) _ _ (λ _ h. h)
+      (λ _. by-test ReadListed (eqb (entryLen l p) 0) _ _ (λ _ h. h) (λ _ h. h)))))
+
+  MtioListed : Step Spaced → Type 0
+  MtioListed s = Listed (s .gives .error)
+
+  mark-listed : (times : ℕ) → MtioListed (markStep l p times)
+  unfolding markStep MtioListed isNumber isOneOf isRefusal choose
+  mark-listed times = by-test MtioListed (ltb (capacity l) (p + times)) _ _ (λ _ h. h) (λ _ h. h)
+
+  space-listed : (op times : ℕ) → MtioListed (keeping l (spacing l op p times))
+  unfolding MtioListed
+  space-listed op times h = absurd (spaced-error l op p times (refusal-facts _ h))
+
+  mtio-listed : (op times : ℕ) → MtioListed (mtioStep l op p times)
+  unfolding mtioStep MtioListed isNumber isOneOf isRefusal choose
+  mtio-listed op times =
+      by-test MtioListed (ltb 6 op) _ _ (λ _ h. h)
+      (λ _. by-test MtioListed (eqb op 6) _ _ (λ _ h. h)
+      (λ _. by-test MtioListed (faulty l p) _ _ (λ _ h. h)
+      (λ _. by-test MtioListed (eqb op 5) _ _ (λ _. mark-listed times)
+      (λ _. by-test MtioListed (eqb op 4) _ _ (λ _ h. h) (λ _. space-listed op times)))))
+
+  StateListed : Standing → Type 0
+  StateListed s = Listed (s .error)
+
+  state-listed : StateListed (standingAt l p)
+  unfolding standingAt StateListed isNumber isOneOf isRefusal choose
+  state-listed = by-test StateListed (faulty l p) _ _ (λ _ h. h) (λ _ h. h)
+
+-- a test by the cartridge's own number
+own-test : (e : ℕ) (r : Reply) (s : Loaded) → Listed e → Refuses Refusal (judge (test (isRefusal e) e ∷ []) (accept r s))
+unfolding judge Refuses
+own-test e r s h = by-test (Refuses Refusal) (isRefusal e) (refuse e) (accept r s) h (λ _. tt)
+
+own-refuses : (b c d : Bool) (e : ℕ) (r : Reply) (s : Loaded) → Listed e
+    → Refuses Refusal (judge (test b notOpen ∷ test c illegalState ∷ test d permissionDenied ∷ test (isRefusal e) e ∷ []) (accept r s))
+unfolding isNumber isOneOf isRefusal choose
+own-refuses b c d e r s h =
+    refuses-after isNumber b _ _ (accept r s) refl
+    (refuses-after isNumber c _ _ (accept r s) refl (refuses-after isNumber d _ _ (accept r s) refl (own-test e r s h)))
+
+state-refuses : (b : Bool) (e : ℕ) (r : Reply) (s : Loaded) → Listed e → Refuses Refusal (judge (test b notOpen ∷ test (isRefusal e) e ∷ []) (accept r s))
+unfolding isNumber isOneOf isRefusal choose
+state-refuses b e r s h = refuses-after isNumber b _ _ (accept r s) refl (own-test e r s h)
+
+opened-right : (a b c d : Bool) → numbersRight isNumber (test a illegalArguments ∷ test b noDevice ∷ test c deviceOpened ∷ test d badFile ∷ []) ≡ true
+unfolding isNumber isOneOf isRefusal choose
 opened-right a b c d = refl
 
-closed-right : (a b : Bool) → numbersRight isRefusal (test a notOpen ∷ test b illegalState ∷ []) ≡ true
-unfolding isRefusal choose
+closed-right : (a b : Bool) → numbersRight isNumber (test a notOpen ∷ test b illegalState ∷ []) ≡ true
+unfolding isNumber isOneOf isRefusal choose
 closed-right a b = refl
 
-unread-right : (e : ℕ) → isRefusal e ≡ true → Refuses {A = Done} Refusal (refuse e)
+unread-right : (e : ℕ) → isNumber e ≡ true → Refuses {A = Done} Refusal (refuse e)
 unfolding Refuses
 unread-right e h = h
 
 tape-refuses : (mover : ℕ) (t : Tape) (l : List ℕ) (q : TapeRequest) (body : List ℕ) → Refuses Refusal (deviceStep mover t l q body)
-unfolding deviceStep tapeOpen tapeClose tapeState tapeMtio tapeWrite tapeRead
-tape-refuses mover t l (TapeRequest.Open name mode) body = accepts-all isRefusal _ _ _ (opened-right true true true true)
-tape-refuses mover t l TapeRequest.Close body = accepts-all isRefusal _ _ _ (closed-right true true)
-tape-refuses mover t l TapeRequest.State body = state-refuses _ _ _ _
-tape-refuses mover t l (TapeRequest.Mtio op times) body = own-refuses _ _ _ _ _ _
-tape-refuses mover t l (TapeRequest.Write bytes) body = own-refuses _ _ _ _ _ _
-tape-refuses mover t l (TapeRequest.Read times) body = own-refuses _ _ _ _ _ _
+unfolding deviceStep tapeOpen tapeClose tapeState tapeMtio tapeWrite tapeRead WriteListed ReadListed MtioListed StateListed
+tape-refuses mover t l (TapeRequest.Open name mode) body = accepts-all isNumber _ _ _ (opened-right true true true true)
+tape-refuses mover t l TapeRequest.Close body = accepts-all isNumber _ _ _ (closed-right true true)
+tape-refuses mover t l TapeRequest.State body = state-refuses _ _ _ _ (state-listed l (t .position))
+tape-refuses mover t l (TapeRequest.Mtio op times) body = own-refuses _ _ _ _ _ _ (mtio-listed l (t .position) op times)
+tape-refuses mover t l (TapeRequest.Write bytes) body = own-refuses _ _ _ _ _ _ (write-listed l (t .position) (bytesAt body bytes))
+tape-refuses mover t l (TapeRequest.Read times) body = own-refuses _ _ _ _ _ _ (read-listed l (t .position) times)
 
 module _ (k : Kept) (l : Lent) (r : List ℕ) where
   outcome-refuses : (q : Request) → Refuses Refusal (outcome k l r q)
-  unfolding outcome tapeStep moverPartStep isRefusal choose
+  unfolding outcome tapeStep moverPartStep isNumber isOneOf isRefusal choose
   outcome-refuses Request.Unknown = unread-right 1 refl
   outcome-refuses Request.Bad = unread-right 18 refl
   outcome-refuses (Request.Connect q) = refuses-onto Refusal (withLogin k) _ (connect-refuses _ _ _ q _)
@@ -232,5 +313,5 @@ module _ (k : Kept) (l : Lent) (r : List ℕ) where
   outcome-refuses (Request.Joint q) = refuses-onto Refusal (withEnds k) _ (joint-refuses _ _ _ q)
 
   pub refusal-right : (q : Request) → Refuses Refusal (verdict k l r q)
-  unfolding verdict isRefusal choose
-  refusal-right q = refuses-after isRefusal _ _ [] _ refl (refuses-behind isRefusal _ (outcome-refuses q) [] refl)
+  unfolding verdict isNumber isOneOf isRefusal choose
+  refusal-right q = refuses-after isNumber _ _ [] _ refl (refuses-behind isNumber _ (outcome-refuses q) [] refl)

@@ -8,6 +8,7 @@ use lib.Dec.{eqb, leb}
 use borrow.Author.Tests.{eqb-true, eqb-false, eq-eqb, ne-eqb, le-leb, lt-leb, leb-true}
 use Rattle.xdr.specs.Choose.{choose}
 use Rattle.xdr.proofs.Tests.{by-test}
+use Rattle.xdr_opaque.specs.Put.{Each}
 use Rattle.frame.specs.Messages.{Line, is, look, table, rowOf, messageOf}
 use Rattle.frame.specs.declared.Row.{Row}
 use Rattle.session.specs.Order.{Service, DataService, TapeService, ScsiService, JointService, ControlService, rangeOf, serviceOf, jointNumbers, isOneOf, within, serviceBy, ServicesAre}
@@ -44,41 +45,106 @@ joint-line h = absurd (let z : _≡_ {A = ℕ} 0 1 = cc in omega arith)
 
 table-right : RightLines table
 unfolding isOneOf serviceOf rangeOf choose
-table-right =
-    (λ _. refl,
-    (λ _. refl,
-    (λ _. refl,
-    (λ _. refl,
-    (λ _. refl,
-    (λ _. refl,
-    (λ _. refl,
-    (λ _. refl,
-    (λ _. refl,
-    (λ _. refl,
-    (λ _. refl,
-    (λ _. refl,
-    (λ _. refl,
-    (λ _. refl,
-    (λ _. refl,
-    (λ _. refl,
-    (λ _. refl,
-    (λ _. refl,
-    (λ _. refl,
-    (joint-line,
-    (λ _. refl,
-    (λ _. refl,
-    (joint-line,
-    (λ _. refl,
-    (λ _. refl,
-    (λ _. refl,
-    (joint-line,
-    (λ _. refl,
-    (λ _. refl,
-    (λ _. refl,
-    (joint-line,
-    (λ _. refl,
-    (joint-line,
-    tt)))))))))))))))))))))))))))))))))
+table-right = (
+  λ _. refl,
+  (
+    λ _. refl,
+    (
+      λ _. refl,
+      (
+        λ _. refl,
+        (
+          λ _. refl,
+          (
+            λ _. refl,
+            (
+              λ _. refl,
+              (
+                λ _. refl,
+                (
+                  λ _. refl,
+                  (
+                    λ _. refl,
+                    (
+                      λ _. refl,
+                      (
+                        λ _. refl,
+                        (
+                          λ _. refl,
+                          (
+                            λ _. refl,
+                            (
+                              λ _. refl,
+                              (
+                                λ _. refl,
+                                (
+                                  λ _. refl,
+                                  (
+                                    λ _. refl,
+                                    (
+                                      λ _. refl,
+                                      (
+                                        joint-line,
+                                        (
+                                          λ _. refl,
+                                          (
+                                            λ _. refl,
+                                            (
+                                              joint-line,
+                                              (
+                                                λ _. refl,
+                                                (
+                                                  λ _. refl,
+                                                  (
+                                                    λ _. refl,
+                                                    (
+                                                      joint-line,
+                                                      (
+                                                        λ _. refl,
+                                                        (
+                                                          λ _. refl,
+                                                          (
+                                                            λ _. refl,
+                                                            (
+                                                              joint-line,
+                                                              (
+                                                                λ _. refl,
+                                                                (
+                                                                  joint-line,
+                                                                  tt,
+                                                                ),
+                                                              ),
+                                                            ),
+                                                          ),
+                                                        ),
+                                                      ),
+                                                    ),
+                                                  ),
+                                                ),
+                                              ),
+                                            ),
+                                          ),
+                                        ),
+                                      ),
+                                    ),
+                                  ),
+                                ),
+                              ),
+                            ),
+                          ),
+                        ),
+                      ),
+                    ),
+                  ),
+                ),
+              ),
+            ),
+          ),
+        ),
+      ),
+    ),
+  ),
+)
 
 looked : (t : List Line) → RightLines t → (n : ℕ) → isOneOf jointNumbers n ≡ false → serviceOf (look t n .kind) n ≡ rangeOf n
 unfolding look serviceOf
@@ -87,20 +153,16 @@ looked (is k m b a ∷ t) h n j =
     by-test (λ (r : Row). serviceOf (r .kind) n ≡ rangeOf n) (eqb n k) _ _
     (λ e. let z = eqb-true n k e in rw z (h .0 (rw z at j))) (λ _. looked t (h .1) n j)
 
--- the joint ones
-one-of : (P : ℕ → Type 0) (a b c d e : ℕ) → P a → P b → P c → P d → P e → (n : ℕ) → isOneOf (a ∷ b ∷ c ∷ d ∷ e ∷ []) n ≡ true → P n
+-- what holds of each of a list holds of one of them
+pub one-of : (P : ℕ → Type 0) (ks : List ℕ) → Each P ks → (n : ℕ) → isOneOf ks n ≡ true → P n
 unfolding isOneOf
-one-of P a b c d e pa pb pc pd pe n =
-    let Q : Bool → Type 0 = λ (x : Bool). x ≡ true → P n in
-    by-test Q (eqb n a) _ _ (λ h _. rw (eqb-true n a h) pa)
-    (λ _. by-test Q (eqb n b) _ _ (λ h _. rw (eqb-true n b h) pb)
-    (λ _. by-test Q (eqb n c) _ _ (λ h _. rw (eqb-true n c h) pc)
-    (λ _. by-test Q (eqb n d) _ _ (λ h _. rw (eqb-true n d h) pd)
-    (λ _. by-test Q (eqb n e) _ _ (λ h _. rw (eqb-true n e h) pe) (λ _ h. joint-line (sym h))))))
+one-of P [] h n e = joint-line (sym e)
+one-of P (k ∷ ks) h n e =
+    by-test (λ (x : Bool). x ≡ true → P n) (eqb n k) true (isOneOf ks n) (λ z _. rw (eqb-true n k z) (h .0)) (λ _ z. one-of P ks (h .1) n z) e
 
 joint-is : (n : ℕ) → isOneOf jointNumbers n ≡ true → serviceOf (messageOf n) n ≡ JointService
 unfolding rowOf look serviceOf choose
-joint-is = one-of (λ (n : ℕ). serviceOf (messageOf n) n ≡ JointService) _ _ _ _ _ refl refl refl refl refl
+joint-is = one-of (λ (n : ℕ). serviceOf (messageOf n) n ≡ JointService) jointNumbers (refl, (refl, (refl, (refl, (refl, tt)))))
 
 ranged : (n : ℕ) → rangeOf n ≡ choose (within 0x400 0x4FF n) DataService (choose (within 0x300 0x3FF n) TapeService (choose (within 0xA00 0xAFF n) TapeService (choose (within 0x200 0x2FF n) ScsiService ControlService)))
 unfolding rangeOf

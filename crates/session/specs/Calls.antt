@@ -4,7 +4,7 @@ use mathlib.Core.Bool.{Bool, true, false, not}
 use mathlib.Core.List.{List, []}
 use mathlib.Core.Path.{_≡_}
 use lib.Dec.{eqb, ltb}
-use Rattle.codes.specs.Codes.{notSupported, notAuthorized, undecodable, shortOutput, brokenSession}
+use Rattle.codes.specs.Codes.{errors, notSupported, notAuthorized, undecodable, shortOutput, brokenSession}
 use Rattle.xdr.specs.Choose.{choose}
 use Rattle.image.specs.Image.{isSound}
 use Rattle.frame.specs.Frame.{wellFramed, kindOf, bodyOf}
@@ -27,7 +27,7 @@ use Rattle.session.specs.TapeService.{isRefusal}
 use Rattle.session.specs.Connection.{matches}
 use Rattle.session.specs.Relation.{keeps}
 use Rattle.session.specs.Answer.{Kept, Lent, held, Answered, answered, silent, closing, replying, messageIn, requestIn, verdict, refusing, refusedIn}
-use Rattle.session.specs.Order.{Call, run}
+use Rattle.session.specs.Order.{isOneOf, Call, run}
 
 -- the session after `open`, whose notice of the connection status was message number 1
 abbrev pub openedSession : Session
@@ -77,6 +77,10 @@ isDone (Request.Joint q) e = eqb e 0
 isDone Request.Unknown e = false
 isDone Request.Bad e = false
 
+-- the number of a refusal: one of the table's, and no outcome of the tape
+unfoldable pub isNumber : ℕ → Bool
+isNumber e = choose (isOneOf errors e) (isRefusal e) false
+
 pub record RefusalsOfCalls : Type 0 where
   -- 1001 for an output that is too short, before 1002 for a broken session; no other code but 0
   pub codes : (k : Kept) (l : Lent) (r : List ℕ)
@@ -95,8 +99,8 @@ pub record RefusalsOfCalls : Type 0 where
       → answered k l r ≡ replying r (l .time) (refusing (requestIn r) r e) [] k
   -- the reply of an accepted request has the number 0, or an outcome of the tape
   pub accepted : (k : Kept) (l : Lent) (r : List ℕ) (q : Request) → Accepts (λ reply _. isDone q (numberOf reply) ≡ true) (verdict k l r q)
-  -- and that of a refused one is a refusal: not 0, and no outcome of the tape
-  pub refusing : (k : Kept) (l : Lent) (r : List ℕ) (q : Request) → Refuses (λ e. isRefusal e ≡ true) (verdict k l r q)
+  -- and that of a refused one is a refusal of the table: not 0, and no outcome of the tape
+  pub refusing : (k : Kept) (l : Lent) (r : List ℕ) (q : Request) → Refuses (λ e. isNumber e ≡ true) (verdict k l r q)
   -- 1 and 18 in the header, and 4 at a wrong login
   pub unhandled : (k : Kept) (l : Lent) (r : List ℕ) → Heard k l r → messageIn r ≡ Message.Unknown
       → answered k l r ≡ replying r (l .time) (Reply.Header notSupported) [] k

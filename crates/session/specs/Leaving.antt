@@ -23,7 +23,7 @@ use Rattle.requests.specs.declared.Request.{Request}
 use Rattle.requests.specs.declared.Request.the-variants as Request
 use Rattle.replies.specs.declared.Reply.{Reply}
 use Rattle.replies.specs.Replies.{numberOf, headerError, replyBytes}
-use Rattle.replies.specs.Numbers.{bodyIn, bare}
+use Rattle.replies.specs.Numbers.{placeOf, numberIn, bodyIn, bare}
 use Rattle.session.specs.declared.types.Session.{Session}
 use Rattle.session.specs.Names.{moverListening, moverActive}
 use Rattle.session.specs.Connection.{matches}
@@ -91,6 +91,8 @@ pub record Replied (k : Kept) (l : Lent) (r : List ℕ) (q : Request) (a : Answe
   pub reply : Reply
   pub shown : List ℕ
   pub sent : a .reply ≡ replyBytes (k .session .sequence) (l .time) (messageWord r) (sequenceOf r) reply shown
+  -- the error word of what is sent
+  pub told : numberIn (placeOf reply) (a .reply) ≡ numberOf reply
   pub header : (headerError reply ≡ 0 → ⊥) → InHeader q (headerError reply)
   pub fields : (numberOf reply ≡ 0 → ⊥) → OtherFields (numberOf reply) (bodyIn (a .reply))
   pub quiet : (numberOf reply ≡ 0 → ⊥) → a .notices ≡ []
