@@ -6,7 +6,7 @@ use mathlib.Core.Path.{_≡_, refl, sym, ap, _∙_}
 use native.Mathlib.Omega.{arith}
 use lib.ListN.{length}
 use lib.Dec.{eqb, ltb}
-use borrow.Author.Tests.{ne-eqb, eqb-true, eqb-false}
+use borrow.Author.Tests.{ne-eqb, eqb-true, le-ltb}
 use Rattle.codes.specs.Codes.{errors, longestRecord, notAuthorized, illegalArguments, illegalState}
 use Rattle.xdr.specs.Choose.{choose}
 use Rattle.xdr.specs.Xdr.{be32, sameBytes}
@@ -731,5 +731,59 @@ module _ (k : Kept) (l : Lent) (r : List ℕ) where
       call-judged (λ (x : Kept). Touched k (requestIn r) (bodyOf r) (x .image)) (λ x _ h. h) (λ x h. h) k l r (untouched refl)
       (judged-by (TouchedBy (requestIn r)) _ _ (λ g. outcome-touches (requestIn r) (g 0)))
 
+-- ---- who may write does
+held-free : (state : ℕ) → (state ≡ 1 → ⊥) → (state ≡ 2 → ⊥) → holdsTape state ≡ false
+unfolding holdsTape choose
+held-free state a b = rw (holdsTape, ne-eqb state 1 a, ne-eqb state 2 b)
+
+write-does : (l : List ℕ) (p : ℕ) (b : List ℕ) → faulty l p ≡ false → (length b ≡ 0 → ⊥) → length b ≤ longestRecord → roomFor l p (length b) ≡ true
+    → writeStep l p b ≡ record { gives = record { error = 0; count = length b; position = p + 1 }; image = written l p b }
+unfolding writeStep choose
+write-does l p b f n s r = rw (writeStep, le-ltb longestRecord (length b) s, f, ne-eqb (length b) 0 n, r)
+
+marks-do : (l : List ℕ) (p times : ℕ) → faulty l p ≡ false → p + times ≤ capacity l
+    → mtioStep l 5 p times ≡ record { gives = record { error = 0; position = p + times; residue = 0 }; image = withMarks l p times }
+unfolding mtioStep markStep choose
+marks-do l p times f c = rw (mtioStep, f, markStep, le-ltb (capacity l) (p + times) c)
+
+module _ (k : Kept) (l : Lent) (r : List ℕ) (h : Heard k l r) (m : MayWrite (k .session)) where
+  -- a tape request's verdict is its service's
+  verdict-tape : (q : TapeRequest) → verdict k l r (Request.Tape q) ≡ outcome k l r (Request.Tape q)
+  unfolding verdict isLocked judge needsLogin choose
+  verdict-tape q = rw (verdict, isLocked, m .known)
+
+  writes : (bytes : Text) → requestIn r ≡ Request.Tape (TapeRequest.Write bytes) → faulty (k .image) (k .session .tape .position) ≡ false
+      → (length (bytesAt (bodyOf r) bytes) ≡ 0 → ⊥) → length (bytesAt (bodyOf r) bytes) ≤ longestRecord
+      → roomFor (k .image) (k .session .tape .position) (length (bytesAt (bodyOf r) bytes)) ≡ true
+      → answered k l r .next .image ≡ written (k .image) (k .session .tape .position) (bytesAt (bodyOf r) bytes)
+  unfolding judged isClose settled outcome tapeStep deviceStep tapeWrite judge onto isRefusal noticed choose
+  writes bytes q f n s w =
+      rw (
+        heard k l r h,
+        q,
+        judged,
+        verdict-tape (TapeRequest.Write bytes),
+        write-does (k .image) (k .session .tape .position) (bytesAt (bodyOf r) bytes) f n s w,
+        m .opened,
+        held-free (k .session .mover .state) (m .not-listening) (m .not-active),
+        m .writable,
+      )
+
+  marks : (times : ℕ) → requestIn r ≡ Request.Tape (TapeRequest.Mtio 5 times) → faulty (k .image) (k .session .tape .position) ≡ false
+      → k .session .tape .position + times ≤ capacity (k .image)
+      → answered k l r .next .image ≡ withMarks (k .image) (k .session .tape .position) times
+  unfolding judged isClose settled outcome tapeStep deviceStep tapeMtio protects judge onto isRefusal noticed choose
+  marks times q f c =
+      rw (
+        heard k l r h,
+        q,
+        judged,
+        verdict-tape (TapeRequest.Mtio 5 times),
+        marks-do (k .image) (k .session .tape .position) times f c,
+        m .opened,
+        held-free (k .session .mover .state) (m .not-listening) (m .not-active),
+        m .writable,
+      )
+
 pub calls-leave : CallsLeave
-calls-leave = record { replied = replied; closes = closes; login = record { only = only; stays = stays; enters = enters }; touched = touched }
+calls-leave = record { replied = replied; closes = closes; login = record { only = only; stays = stays; enters = enters }; touched = touched; writes = record { write = λ k l r bytes h q m. writes k l r h m bytes q; marks = λ k l r times h q m. marks k l r h m times q } }

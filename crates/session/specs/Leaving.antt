@@ -1,15 +1,15 @@
 -- What each number of a reply leaves, what a client that is not logged in is told, who becomes authorized, and what writes to the cartridge. It is said by
 -- the fields of the session, by the image and by what is sent, and not by the definitions of a call, so that these are held against it.
-use Prim.Native.Nat.{ℕ, _+_, _%_, _^_}
+use Prim.Native.Nat.{ℕ, _+_, _%_, _^_, _≤_}
 use mathlib.Core.Bool.{Bool, true, false}
 use mathlib.Core.List.{List, [], _∷_, _++_}
 use mathlib.Core.Path.{_≡_}
 use lib.ListN.{length}
 use lib.Dec.{eqb}
-use Rattle.codes.specs.Codes.{notSupported, notAuthorized, illegalArguments, illegalState, undecodable, versionFour, atMark, atEnd, writeMarks}
+use Rattle.codes.specs.Codes.{longestRecord, notSupported, notAuthorized, illegalArguments, illegalState, undecodable, versionFour, atMark, atEnd, writeMarks}
 use Rattle.xdr.specs.Choose.{choose}
 use Rattle.xdr.specs.Xdr.{be32}
-use Rattle.image.specs.Image.{count, entryLen}
+use Rattle.image.specs.Image.{capacity, count, entryLen, faulty}
 use Rattle.spacing.specs.Spacing.{goesForward, PassedMark, endOf}
 use Rattle.writing.specs.Writing.{roomFor, written, withMarks}
 use Rattle.cartridge.specs.Promises.{Refused}
@@ -155,6 +155,16 @@ pub data Touched (k : Kept) (q : Request) (body : List ℕ) (image : List ℕ) :
   marked : (times : ℕ) → q ≡ Request.Tape (TapeRequest.Mtio writeMarks times) → MayWrite (k .session)
       → image ≡ withMarks (k .image) (k .session .tape .position) times → Touched k q body image
 
+-- and who may write does: a record for which there is room, marks that fit
+pub record Writes : Type 0 where
+  pub write : (k : Kept) (l : Lent) (r : List ℕ) (bytes : Text) → Heard k l r → requestIn r ≡ Request.Tape (TapeRequest.Write bytes) → MayWrite (k .session)
+      → faulty (k .image) (k .session .tape .position) ≡ false → (length (bytesAt (bodyOf r) bytes) ≡ 0 → ⊥) → length (bytesAt (bodyOf r) bytes) ≤ longestRecord
+      → roomFor (k .image) (k .session .tape .position) (length (bytesAt (bodyOf r) bytes)) ≡ true
+      → answered k l r .next .image ≡ written (k .image) (k .session .tape .position) (bytesAt (bodyOf r) bytes)
+  pub marks : (k : Kept) (l : Lent) (r : List ℕ) (times : ℕ) → Heard k l r → requestIn r ≡ Request.Tape (TapeRequest.Mtio writeMarks times) → MayWrite (k .session)
+      → faulty (k .image) (k .session .tape .position) ≡ false → k .session .tape .position + times ≤ capacity (k .image)
+      → answered k l r .next .image ≡ withMarks (k .image) (k .session .tape .position) times
+
 pub record CallsLeave : Type 0 where
   -- every request that is heard, but a close, has one reply, and its number says what is left
   pub replied : (k : Kept) (l : Lent) (r : List ℕ) → Heard k l r → (requestIn r ≡ Request.Connect ConnectRequest.Close → ⊥)
@@ -163,3 +173,4 @@ pub record CallsLeave : Type 0 where
   pub login : LoginHolds
   -- no request but TAPE write and MTIO 5 changes the image
   pub touched : (k : Kept) (l : Lent) (r : List ℕ) → Touched k (requestIn r) (bodyOf r) (answered k l r .next .image)
+  pub writes : Writes
