@@ -1,5 +1,7 @@
 -- Numbers of paper 01 by name. An abbrev unfolds wherever it stands, so that no proof sees a name.
 use Prim.Native.Nat.{ℕ}
+use mathlib.Core.List.{List, [], _∷_}
+use mathlib.Core.Path.{_≡_}
 use Rattle.codes.specs.Codes.{largestMessage, longestRecord}
 
 -- "Data: IDLE 0, ACTIVE 1, HALTED 2, LISTEN 3, CONNECTED 4."
@@ -109,3 +111,21 @@ longestCdb = 16
 -- 2^64 - 1
 abbrev pub top : ℕ
 top = 18446744073709551615
+
+-- ---- that the names stand for these numbers
+pub record NamesAre : Type 0 where
+  -- IDLE, ACTIVE, HALTED, LISTEN, CONNECTED
+  pub source-states : dataIdle ∷ dataActive ∷ dataHalted ∷ dataListening ∷ dataConnected ∷ [] ≡ 0 ∷ 1 ∷ 2 ∷ 3 ∷ 4 ∷ []
+  -- IDLE, LISTEN, ACTIVE, PAUSED, HALTED
+  pub mover-states : moverIdle ∷ moverListening ∷ moverActive ∷ moverPaused ∷ moverHalted ∷ [] ≡ 0 ∷ 1 ∷ 2 ∷ 3 ∷ 4 ∷ []
+  -- to tape, from tape, none; tape mode read and write
+  pub modes : toTapeMode ∷ fromTapeMode ∷ noMode ∷ readWrite ∷ [] ≡ 0 ∷ 1 ∷ 2 ∷ 1 ∷ []
+  -- data: SUCCESSFUL, ABORTED, INTERNAL_ERROR, CONNECT_ERROR
+  pub source-halts : dataSuccessful ∷ dataAbortedReason ∷ dataInternalError ∷ dataConnectError ∷ [] ≡ 1 ∷ 2 ∷ 3 ∷ 4 ∷ []
+  -- mover: CONNECT_CLOSED, ABORTED, MEDIA_ERROR
+  pub mover-halts : moverConnectClosed ∷ moverAbortedReason ∷ moverMediaError ∷ [] ≡ 1 ∷ 2 ∷ 5 ∷ []
+  -- EOM, EOF, SEEK, EOW
+  pub pauses : endOfMedium ∷ endOfFile ∷ seekOutside ∷ endOfWindow ∷ [] ≡ 1 ∷ 2 ∷ 3 ∷ 5 ∷ []
+  -- no action, backup, recover
+  pub operations : noOperation ∷ backupOperation ∷ recoverOperation ∷ [] ≡ 0 ∷ 1 ∷ 2 ∷ []
+  pub limits : leastRoom ∷ largestSize ∷ longestCdb ∷ top ∷ [] ≡ 36864 ∷ 32768 ∷ 16 ∷ 18446744073709551615 ∷ []

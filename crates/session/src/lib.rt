@@ -3,6 +3,7 @@
 ghost use mathlib.Core.Path.{_≡_};
 ghost use Prim.Native.Nat.{_+_, _≤_};
 ghost use Rattle.session.specs.Parts.{restData, dataTo, dataStarts, dataHalts, restMover, moverListens, moverRuns, moverPauses, moverHalts, moverWindow, moverSize, moverSeeks, dataFed, moverRecords, moverHands, newSession, withParts, afterMessage, shut, pastTop, toldIn, dataJoined, moverJoined, holdsTape, unwritable};
+ghost use Rattle.session.specs.Names.{NamesAre};
 ghost use Rattle.session.specs.Promises.{Promises};
 ghost use Rattle.session.specs.Order.{AnyOrder, ServicesAre};
 ghost use Rattle.session.specs.Calls.{CallsKeep};
@@ -493,6 +494,11 @@ impl Session {
         }
     }
 }
+
+// No work: its contract is that the names of states, modes, reasons and limits stand for the numbers of 004 and paper 01.
+pub fn names_are()
+    ensures { λ r. ⌜ NamesAre ⌝ }
+{}
 
 // No work: its contract is what holds of every request, so that the crate is proved only with it.
 pub fn promises_hold()
