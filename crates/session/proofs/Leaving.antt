@@ -24,7 +24,7 @@ use Rattle.cartridge.proofs.Promises as cartridge
 use Rattle.frame.specs.Frame.{sequenceOf, messageWord, bodyOf}
 use Rattle.frame.specs.Messages.{rowOf}
 use Rattle.requests.specs.Within.{bytesAt}
-use Rattle.requests.specs.declared.Text.{Text}
+use Rattle.layouts.specs.declared.Text.{Text}
 use Rattle.requests.specs.declared.ConnectRequest.{ConnectRequest}
 use Rattle.requests.specs.declared.ConnectRequest.the-variants as ConnectRequest
 use Rattle.requests.specs.declared.ConfigRequest.{ConfigRequest}

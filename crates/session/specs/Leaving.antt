@@ -15,7 +15,7 @@ use Rattle.writing.specs.Writing.{roomFor, written, withMarks}
 use Rattle.cartridge.specs.Promises.{Refused}
 use Rattle.frame.specs.Frame.{sequenceOf, messageWord, bodyOf}
 use Rattle.requests.specs.Within.{bytesAt}
-use Rattle.requests.specs.declared.Text.{Text}
+use Rattle.layouts.specs.declared.Text.{Text}
 use Rattle.requests.specs.declared.ConnectRequest.the-variants as ConnectRequest
 use Rattle.requests.specs.declared.ConfigRequest.the-variants as ConfigRequest
 use Rattle.requests.specs.declared.TapeRequest.the-variants as TapeRequest
