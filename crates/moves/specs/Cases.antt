@@ -5,7 +5,6 @@ use Prim.Native.Nat.{ℕ, zero, suc, _+_, _-_, _/_, _%_}
 use mathlib.Core.Bool.{Bool}
 use mathlib.Core.List.{List, [], _∷_, _++_}
 use lib.ListN.{length, take, drop, replicate}
-use Rattle.session.specs.Connection.{Account}
 use Rattle.session.specs.Answer.{Kept, Lent, held, Answered, answered}
 use Rattle.session.specs.Calls.{opening}
 use Rattle.moves.specs.Events.{Moving, movedToTape, movedFromTape, methodEnded}
@@ -71,9 +70,12 @@ pub record Ran : Type 0 where
   pub shown : Shown
   pub world : World
 
--- the account `v`, `pw`; the time stamp 33; an output of 36,864 bytes
+-- what is lent: the account `v`, `pw`; the time stamp; an output of 36,864 bytes
+abbrev pub stamp : ℕ
+stamp = 33
+
 abbrev pub lending : Lent
-lending = record { account = record { id = 0x76 ∷ []; password = 0x70 ∷ 0x77 ∷ [] }; time = 33; room = 36864 }
+lending = record { account = record { id = 0x76 ∷ []; password = 0x70 ∷ 0x77 ∷ [] }; time = stamp; room = 36864 }
 
 -- a destination before a move
 abbrev pub unused : ℕ → List ℕ
@@ -88,9 +90,12 @@ calling w a = record { shown = showing a 0 []; world = record { kept = a .next; 
 abbrev pub moving : Moving → List ℕ → Ran
 moving e stream = record { shown = showing (e .answer) (e .count) (e .dest); world = record { kept = e .answer .next; stream = stream } }
 
--- the requests have sequence number 7 and time stamp 5
+-- the sequence number of every request, which its reply echoes; its time stamp is 5
+abbrev pub echoed : ℕ
+echoed = 7
+
 unfoldable pub runLine : World → Line → Ran
-runLine w (Ask message body reply notices) = calling w (answered (w .kept) lending (wire 7 5 0 message 0 body))
+runLine w (Ask message body reply notices) = calling w (answered (w .kept) lending (wire echoed 5 0 message 0 body))
 runLine w (Feed n last taken notices) =
     let e = movedToTape (w .kept) lending (take n (w .stream)) last in
     moving e (drop (e .count) (w .stream))
@@ -109,7 +114,7 @@ run w (l ∷ ls) =
 
 abbrev pub played : Case → Final
 played c =
-    let a = opening 33 36864 in
+    let a = opening (lending .time) (lending .room) in
     let r = run (record { kept = held (a .next .session) (c .image); stream = c .stream }) (c .lines) in
     record { shown = showing a 0 [] ∷ r .shown; image = r .image; position = r .position }
 
@@ -117,7 +122,7 @@ played c =
 -- notices: "type 0 with reply sequence 0"
 unfoldable pub notices : ℕ → List Told → List ℕ
 notices n [] = []
-notices n (tell message body ∷ ts) = wire n 33 0 message 0 body ++ notices (n + 1) ts
+notices n (tell message body ∷ ts) = wire n stamp 0 message 0 body ++ notices (n + 1) ts
 
 abbrev pub shows : List ℕ → ℕ → List ℕ → Shown
 shows sent count dest = record { code = 0; sent = sent; count = count; dest = dest }
@@ -125,7 +130,7 @@ shows sent count dest = record { code = 0; sent = sent; count = count; dest = de
 unfoldable pub expect : ℕ → List Line → List Shown
 expect n [] = []
 expect n (Ask message body reply told ∷ ls) =
-    shows (wire n 33 1 message 7 reply ++ notices (n + 1) told) 0 [] ∷ expect (n + 1 + length told) ls
+    shows (wire n stamp 1 message echoed reply ++ notices (n + 1) told) 0 [] ∷ expect (n + 1 + length told) ls
 expect n (Feed m last taken told ∷ ls) = shows (notices n told) taken [] ∷ expect (n + length told) ls
 expect n (Fetch m handed told ∷ ls) =
     shows (notices n told) (length handed) (handed ++ unused (m - length handed)) ∷ expect (n + length told) ls

@@ -14,7 +14,8 @@ use Rattle.cartridge.specs.Step.{Step, keeping}
 use Rattle.session.specs.declared.types.Data.{Data}
 use Rattle.session.specs.declared.types.Mover.{Mover}
 use Rattle.session.specs.declared.types.Tape.{Tape}
-use Rattle.session.specs.Names.{dataActive, moverActive, toTapeMode, fromTapeMode, backupOperation, recoverOperation, dataSuccessful, dataInternalError, dataConnectError, moverConnectClosed, moverMediaError, endOfMedium, endOfFile, seekOutside, endOfWindow}
+use Rattle.session.specs.Names.{dataActive, moverActive, toTapeMode, fromTapeMode, backupOperation, recoverOperation}
+use Rattle.session.specs.Names.{dataSuccessful, dataInternalError, dataConnectError, moverConnectClosed, moverMediaError, endOfMedium, endOfFile, seekOutside, endOfWindow}
 use Rattle.session.specs.Parts.{dataHalts, dataFed, moverPauses, moverHalts, moverRecords, moverHands, windowEnd}
 use Rattle.session.specs.TapeService.{movedTo}
 use Rattle.moves.specs.declared.Move.{Move}
