@@ -102,7 +102,8 @@ struct mossgoblin_moved {
 struct mossgoblin_answer mossgoblin_open(uint32_t time, uint8_t *out, size_t out_len);
 
 /* One request: `input` is one whole record, the mark with it, of any bytes. `id` and `password` are the account that a text login is compared with. The image
- * changes only by a tape write or written marks. A badly framed record closes the session without a reply, and so does an accepted CONNECT close; a
+ * changes only by TAPE write, which writes the record that the client sends, and by MTIO 5, which writes marks: both outside any window of the mover, at the tape's position, and only after login, with the
+ * tape open for writing and the mover neither in LISTEN nor ACTIVE. A refused request leaves all but the message counter and the "first request" mark, also at a login. A badly framed record closes the session without a reply, and so does an accepted CONNECT close; a
  * message that is no request is ignored. Everything else is answered: one reply, then its notices. */
 struct mossgoblin_answer mossgoblin_request(struct mossgoblin_session session, const uint8_t *id, size_t id_len, const uint8_t *password,
                                             size_t password_len, uint8_t *image, size_t image_len, const uint8_t *input, size_t input_len,

@@ -11,7 +11,7 @@ use borrow.Author.Tests.{ltb-false, eqb-true, eqb-false, eq-eqb, ne-eqb, lt-ltb,
 use Rattle.codes.specs.Codes.{longestRecord}
 use Rattle.xdr.specs.Choose.{choose, least}
 use Rattle.xdr.proofs.Tests.{by-test, least-take}
-use Rattle.image.specs.Image.{capacity, count, used, entryAt, entryLen, entryStart, entryBytes, bodyAt, faulty}
+use Rattle.image.specs.Image.{capacity, count, entryLen, entryStart, entryBytes, bodyAt, faulty}
 use Rattle.image.specs.Sound.{Sound, Placed}
 use Rattle.image.proofs.Laws.{placed, no-fault}
 use Rattle.spacing.specs.declared.Spaced.{Spaced}

@@ -7,7 +7,6 @@ use native.Mathlib.Omega.{arith}
 use lib.Dec.{eqb}
 use borrow.Author.Tests.{eqb-false, ne-eqb}
 use Rattle.xdr.specs.Choose.{choose}
-use Rattle.xdr.proofs.Tests.{by-test}
 use Rattle.replies.specs.declared.Reply.{Reply}
 use Rattle.session.specs.Judge.{Test, test, first, Outcome, refuse, accept, judge, onto, Accepts, Refuses}
 
@@ -68,11 +67,6 @@ module _ {A : Type 0} (right : ℕ → Bool) (o : Outcome A) (h : Refuses (λ e.
   refuses-behind [] n = h
   refuses-behind (test true e ∷ ts) n = both-right (right e) (numbersRight right ts) n .0
   refuses-behind (test false e ∷ ts) n = refuses-behind ts (both-right (right e) (numbersRight right ts) n .1)
-
-  -- a test by its own number
-  pub refuses-own : (e : ℕ) → Refuses (λ e. right e ≡ true) (judge (test (right e) e ∷ []) o)
-  unfolding judge Refuses
-  refuses-own e = by-test (Refuses (λ e. right e ≡ true)) (right e) (refuse e) o (λ n. n) (λ _. h)
 
 pub accepts-all : {A : Type 0} (right : ℕ → Bool) (ts : List Test) (r : Reply) (p : A) → numbersRight right ts ≡ true → Refuses (λ e. right e ≡ true) (judge ts (accept r p))
 unfolding Refuses

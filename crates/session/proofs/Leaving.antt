@@ -1,7 +1,7 @@
 -- What each number leaves, who becomes authorized, and what writes to the cartridge: from what every request comes to. Assumes nothing.
-use Prim.Native.Nat.{ℕ, _+_, _%_, _^_, _≤_, _<_}
+use Prim.Native.Nat.{ℕ, _+_, _^_, _≤_, _<_}
 use mathlib.Core.Bool.{Bool, true, false, not}
-use mathlib.Core.List.{List, [], _∷_, _++_}
+use mathlib.Core.List.{List, [], _∷_}
 use mathlib.Core.Path.{_≡_, refl, sym, ap, _∙_}
 use native.Mathlib.Omega.{arith}
 use lib.ListN.{length}
@@ -9,7 +9,7 @@ use lib.Dec.{eqb, ltb}
 use borrow.Author.Tests.{ne-eqb, eqb-true, le-ltb}
 use Rattle.codes.specs.Codes.{errors, longestRecord, notAuthorized, illegalArguments, illegalState}
 use Rattle.xdr.specs.Choose.{choose}
-use Rattle.xdr.specs.Xdr.{be32, sameBytes}
+use Rattle.xdr.specs.Xdr.{sameBytes}
 use Rattle.xdr.proofs.Tests.{by-test, yes}
 use Rattle.xdr.proofs.Comparing.{same-is, is-same}
 use Rattle.image.specs.Image.{capacity, count, entryLen, faulty}
@@ -22,7 +22,6 @@ use Rattle.cartridge.specs.Operations.{writeStep, readPart, entryPart, markStep
 use Rattle.cartridge.specs.Promises.{Refused}
 use Rattle.cartridge.proofs.Promises as cartridge
 use Rattle.frame.specs.Frame.{sequenceOf, messageWord, bodyOf}
-use Rattle.frame.specs.Messages.{rowOf}
 use Rattle.requests.specs.Within.{bytesAt}
 use Rattle.layouts.specs.declared.Text.{Text}
 use Rattle.requests.specs.declared.ConnectRequest.{ConnectRequest}
@@ -38,19 +37,18 @@ use Rattle.replies.specs.declared.Reply.the-variants as Reply
 use Rattle.replies.specs.declared.Notice.{Notice}
 use Rattle.replies.specs.declared.Notice.the-variants as Notice
 use Rattle.replies.specs.Replies.{numberOf, headerError, replyBytes}
-use Rattle.replies.specs.Numbers.{placeOf, numberIn, bodyIn, bare}
+use Rattle.replies.specs.Numbers.{placeOf, numberIn, bodyIn}
 use Rattle.replies.proofs.Numbers as numbers
 use Rattle.session.specs.declared.types.Tape.{Tape}
-use Rattle.session.specs.declared.types.Session.{Session}
 use Rattle.session.specs.Judge.{test, Outcome, refuse, accept, judge, onto, Accepts, Refuses}
-use Rattle.session.specs.Parts.{withParts, afterMessage, shut, holdsTape}
-use Rattle.session.specs.TapeService.{Loaded, movedTo, isRefusal, protects, tapeOpen, tapeClose, tapeState, tapeMtio, tapeWrite, tapeRead, deviceStep, withLoaded, withMover, tapeStep, moverPartStep}
-use Rattle.session.specs.Connection.{Account, matches, connectOpen, clientAuth, connectStep, configStep}
+use Rattle.session.specs.Parts.{withParts, afterMessage, holdsTape}
+use Rattle.session.specs.TapeService.{movedTo, isRefusal, protects, tapeOpen, tapeClose, tapeState, tapeMtio, tapeWrite, tapeRead, deviceStep, withLoaded, withMover, tapeStep, moverPartStep}
+use Rattle.session.specs.Connection.{matches, connectOpen, clientAuth, connectStep, configStep}
 use Rattle.session.specs.Answer.{Kept, Lent, held, Answered, answered, judged, isClose, settled, verdict, needsLogin, isLocked, outcome, refusing, isUnread}
 use Rattle.session.specs.Answer.{noticed, halting, closing, replying, Done, tapePart, withData, withTape, withChanger, withLogin, withEnds, requestIn}
 use Rattle.session.specs.Order.{isOneOf, Call, run}
 use Rattle.session.specs.Calls.{Heard, isRun, isDone, isNumber}
-use Rattle.session.specs.Leaving.{Leaving, AtMark, mark-read, mark-spaced, AtEnd, end-read, end-written, end-spaced, OtherFields, no-body, zero-words, residue-word, InHeader, unknown-message, bad-body, beforeLogin, Replied, Closes, LogsIn, Among, here, later, authorized, LoginHolds, MayWrite, Touched, untouched, wrote, marked, CallsLeave}
+use Rattle.session.specs.Leaving.{Leaving, AtMark, mark-read, mark-spaced, AtEnd, end-read, end-written, end-spaced, OtherFields, no-body, zero-words, residue-word, InHeader, unknown-message, bad-body, beforeLogin, Replied, Closes, LogsIn, Among, here, later, authorized, MayWrite, Touched, untouched, wrote, marked, CallsLeave}
 use Rattle.session.proofs.JudgeLaws.{judged-by, accepts, accepts-any, accepts-map, refusal-says, carried}
 use Rattle.session.proofs.Numbers.{number-right, refusal-right, refusal-facts}
 use Rattle.session.proofs.Services.{one-of}

@@ -1,6 +1,7 @@
 -- `JudgeLaws` has the laws of lists of tests and of outcomes, `Serving` those of texts, `Kept` those of the relation, `Keeping` that every request
--- keeps it, `Windows` the rules of windows, `Sending` that an answer can be sent, `Numbers` an accepted reply's number, `Guarding` what comes
--- before any call, `Calls` what holds of every call, `Owning` that a record's request is its service's, `Order` that the services commute.
+-- keeps it, `Windows` the rules of windows, `Sending` that an answer can be sent, `Numbers` the numbers of replies and refusals, `Guarding` what comes
+-- before any call, `Calls` what holds of every call, `Owning` that a record's request is its service's, `Order` that the services commute,
+-- `Services` which numbers are whose, `Leaving` what each number leaves, who becomes authorized and what writes to the cartridge.
 pub mod JudgeLaws
 pub mod Serving
 pub mod Kept

@@ -1,6 +1,6 @@
 -- Numbers of paper 01 by name. An abbrev unfolds wherever it stands, so that no proof sees a name.
 use Prim.Native.Nat.{ℕ}
-use mathlib.Core.List.{List, [], _∷_}
+use mathlib.Core.List.{[], _∷_}
 use mathlib.Core.Path.{_≡_}
 use Rattle.codes.specs.Codes.{largestMessage, longestRecord}
 
