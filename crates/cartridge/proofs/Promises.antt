@@ -19,7 +19,8 @@ use Rattle.spacing.specs.Spacing.{ended, spacing, goesForward, PassedMark, endO
 use Rattle.spacing.proofs.Laws.{spaced-within, spaced-error, spaced-stands}
 use Rattle.writing.specs.Writing.{Room, roomFor, kept, written, withMarks}
 use Rattle.writing.proofs.Laws.{room-facts}
-use Rattle.writing.proofs.Theorems.{written-placed, written-length, written-count, written-used, written-len, written-start, written-capacity, written-there, same-bytes, past-table, past-body, marks-placed, marks-used, marks-past}
+use Rattle.writing.proofs.Theorems.{written-placed, written-length, written-count, written-used, written-len, written-start, written-capacity}
+use Rattle.writing.proofs.Theorems.{written-there, same-bytes, past-table, past-body, marks-placed, marks-used, marks-past}
 use Rattle.cartridge.specs.declared.Wrote.{Wrote}
 use Rattle.cartridge.specs.declared.Part.{Part}
 use Rattle.cartridge.specs.Step.{Step, keeping}

@@ -15,7 +15,8 @@ use Rattle.xdr_opaque.specs.Put.{opaque}
 use Rattle.frame.specs.Frame.{recordBytes}
 use Rattle.frame.specs.Messages.{look, rowOf}
 use Rattle.replies.specs.declared.Reply.{Reply}
-use Rattle.replies.specs.declared.Reply.the-variants.{Header, Refused, Plain, Listening, ConnectionTypes, ServerInfo, ScsiState, Cdb, Sense, Check, TapeState, Mtio, Wrote, Read, DataState, MoverState}
+use Rattle.replies.specs.declared.Reply.the-variants.{Header, Refused, Plain, Listening, ConnectionTypes, ServerInfo, ScsiState, Cdb}
+use Rattle.replies.specs.declared.Reply.the-variants.{Sense, Check, TapeState, Mtio, Wrote, Read, DataState, MoverState}
 use Rattle.replies.specs.Replies.{bodyBytes, opaques, shapeOf, numberOf, headerError, replyBytes}
 use Rattle.replies.specs.Writers.{headerWords}
 use Rattle.replies.specs.Numbers.{placeOf, numberIn, bodyIn, bare, NumbersTold}

@@ -8,7 +8,8 @@ use Rattle.xdr.specs.Choose.{choose}
 use Rattle.xdr.specs.Xdr.{word, be32}
 use Rattle.frame.specs.Messages.{rowOf}
 use Rattle.replies.specs.declared.Reply.{Reply}
-use Rattle.replies.specs.declared.Reply.the-variants.{Header, Refused, Plain, Listening, ConnectionTypes, ServerInfo, ScsiState, Cdb, Sense, Check, TapeState, Mtio, Wrote, Read, DataState, MoverState}
+use Rattle.replies.specs.declared.Reply.the-variants.{Header, Refused, Plain, Listening, ConnectionTypes, ServerInfo, ScsiState, Cdb}
+use Rattle.replies.specs.declared.Reply.the-variants.{Sense, Check, TapeState, Mtio, Wrote, Read, DataState, MoverState}
 use Rattle.replies.specs.Replies.{numberOf, replyBytes}
 use Rattle.replies.specs.Refusals.{Blank, blank, blanks}
 

@@ -42,13 +42,16 @@ use Rattle.replies.proofs.Numbers as numbers
 use Rattle.session.specs.declared.types.Tape.{Tape}
 use Rattle.session.specs.Judge.{test, Outcome, refuse, accept, judge, onto, Accepts, Refuses}
 use Rattle.session.specs.Parts.{withParts, afterMessage, holdsTape}
-use Rattle.session.specs.TapeService.{movedTo, isRefusal, protects, tapeOpen, tapeClose, tapeState, tapeMtio, tapeWrite, tapeRead, deviceStep, withLoaded, withMover, tapeStep, moverPartStep}
+use Rattle.session.specs.TapeService.{movedTo, isRefusal, protects, tapeOpen, tapeClose, tapeState, tapeMtio, tapeWrite, tapeRead}
+use Rattle.session.specs.TapeService.{deviceStep, withLoaded, withMover, tapeStep, moverPartStep}
 use Rattle.session.specs.Connection.{matches, connectOpen, clientAuth, connectStep, configStep}
 use Rattle.session.specs.Answer.{Kept, Lent, held, Answered, answered, judged, isClose, settled, verdict, needsLogin, isLocked, outcome, refusing, isUnread}
 use Rattle.session.specs.Answer.{noticed, halting, closing, replying, Done, tapePart, withData, withTape, withChanger, withLogin, withEnds, requestIn}
 use Rattle.session.specs.Order.{isOneOf, Call, run}
 use Rattle.session.specs.Calls.{Heard, isRun, isDone, isNumber}
-use Rattle.session.specs.Leaving.{Leaving, AtMark, mark-read, mark-spaced, AtEnd, end-read, end-written, end-spaced, OtherFields, no-body, zero-words, residue-word, InHeader, unknown-message, bad-body, beforeLogin, Replied, Closes, LogsIn, Among, here, later, authorized, MayWrite, Touched, untouched, wrote, marked, CallsLeave}
+use Rattle.session.specs.Leaving.{Leaving, AtMark, mark-read, mark-spaced, AtEnd, end-read, end-written, end-spaced, OtherFields}
+use Rattle.session.specs.Leaving.{no-body, zero-words, residue-word, InHeader, unknown-message, bad-body, beforeLogin, Replied, Closes}
+use Rattle.session.specs.Leaving.{LogsIn, Among, here, later, authorized, MayWrite, Touched, untouched, wrote, marked, CallsLeave}
 use Rattle.session.proofs.JudgeLaws.{judged-by, accepts, accepts-any, accepts-map, refusal-says, carried}
 use Rattle.session.proofs.Numbers.{number-right, refusal-right, refusal-facts}
 use Rattle.session.proofs.Services.{one-of}
@@ -784,4 +787,11 @@ module _ (k : Kept) (l : Lent) (r : List ℕ) (h : Heard k l r) (m : MayWrite (k
       )
 
 pub calls-leave : CallsLeave
-calls-leave = record { replied = replied; closes = closes; login = record { only = only; stays = stays; enters = enters }; touched = touched; writes = record { write = λ k l r bytes h q m. writes k l r h m bytes q; marks = λ k l r times h q m. marks k l r h m times q } }
+calls-leave =
+    record {
+      replied = replied;
+      closes = closes;
+      login = record { only = only; stays = stays; enters = enters };
+      touched = touched;
+      writes = record { write = λ k l r bytes h q m. writes k l r h m bytes q; marks = λ k l r times h q m. marks k l r h m times q };
+    }

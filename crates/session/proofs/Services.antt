@@ -11,7 +11,8 @@ use Rattle.xdr.proofs.Tests.{by-test}
 use Rattle.xdr_opaque.specs.Put.{Each}
 use Rattle.frame.specs.Messages.{Line, is, look, table, rowOf, messageOf}
 use Rattle.frame.specs.declared.Row.{Row}
-use Rattle.session.specs.Order.{Service, DataService, TapeService, ScsiService, JointService, ControlService, rangeOf, serviceOf, serviceNumber, sameService, jointNumbers, isOneOf, within, serviceBy, ServicesAre}
+use Rattle.session.specs.Order.{Service, DataService, TapeService, ScsiService, JointService, ControlService, rangeOf, serviceOf}
+use Rattle.session.specs.Order.{serviceNumber, sameService, jointNumbers, isOneOf, within, serviceBy, ServicesAre}
 
 -- ---- a range by its bounds is a range by its high byte
 module _ (n k : ℕ) where
@@ -93,7 +94,10 @@ joint-is : (n : ℕ) → isOneOf jointNumbers n ≡ true → serviceOf (messageO
 unfolding rowOf look serviceOf choose
 joint-is = one-of (λ (n : ℕ). serviceOf (messageOf n) n ≡ JointService) jointNumbers (refl, (refl, (refl, (refl, (refl, tt)))))
 
-ranged : (n : ℕ) → rangeOf n ≡ choose (within 0x400 0x4FF n) DataService (choose (within 0x300 0x3FF n) TapeService (choose (within 0xA00 0xAFF n) TapeService (choose (within 0x200 0x2FF n) ScsiService ControlService)))
+ranged : (n : ℕ)
+    → rangeOf n
+    ≡ choose (within 0x400 0x4FF n) DataService
+    (choose (within 0x300 0x3FF n) TapeService (choose (within 0xA00 0xAFF n) TapeService (choose (within 0x200 0x2FF n) ScsiService ControlService)))
 unfolding rangeOf
 ranged n = rw (range-is n 4, range-is n 3, range-is n 10, range-is n 2)
 
