@@ -182,7 +182,7 @@ module _ (k : Kept) where
     pub small : numberOf reply < 2 ^ 32
     pub bodied : headerError reply ≡ 0
     pub counter : d .kept .session .sequence ≡ k .session .sequence
-    pub fields : (s t m c : ℕ) → (numberOf reply ≡ 0 → ⊥) → OtherFields (numberOf reply) (bodyIn (replyBytes s t m c reply (d .shown)))
+    pub fields : (s t m c : ℕ) → (numberOf reply ≡ 0 → ⊥) → OtherFields q (numberOf reply) (bodyIn (replyBytes s t m c reply (d .shown)))
     pub quiet : (numberOf reply ≡ 0 → ⊥) → (d .dwhy ≡ 0) × (d .mwhy ≡ 0)
     pub at-mark : numberOf reply ≡ 12 → Moved (AtMark (k .image) (k .session .tape .position) q) k (d .kept)
     pub at-end : numberOf reply ≡ 13 → Moved (AtEnd (k .image) (k .session .tape .position) q) k (d .kept)
@@ -225,7 +225,7 @@ module _ (k : Kept) where
         small = small-outcome _ h;
         bodied = refl;
         counter = refl;
-        fields = λ q t m c n. residue-word (s .gives .residue) (facts-refusal _ h) (numbers.numbers-told .spaced q t m c _ _ _);
+        fields = λ q t m c n. residue-word op times (s .gives .residue) refl (facts-refusal _ h) (numbers.numbers-told .spaced q t m c _ _ _);
         quiet = λ _. (refl, refl);
         at-mark = λ e.
             record {

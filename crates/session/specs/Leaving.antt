@@ -58,10 +58,10 @@ pub data AtEnd (l : List ℕ) (p : ℕ) : Request → ℕ → Type 0 where
   end-spaced : (op times q : ℕ) → q ≡ choose (eqb op writeMarks) p (endOf (goesForward op) (count l)) → AtEnd l p (Request.Tape (TapeRequest.Mtio op times)) q
 
 -- "other reply fields are zero or empty, except the residue at 12 and 13": the body of a reply with a number other than 0
-pub data OtherFields (e : ℕ) (body : List ℕ) : Type 0 where
-  no-body : body ≡ [] → OtherFields e body
-  zero-words : (before after : ℕ) → body ≡ bare before e after → OtherFields e body
-  residue-word : (n : ℕ) → (Refused e → ⊥) → body ≡ be32 e ++ be32 n → OtherFields e body
+pub data OtherFields (q : Request) (e : ℕ) (body : List ℕ) : Type 0 where
+  no-body : body ≡ [] → OtherFields q e body
+  zero-words : (before after : ℕ) → body ≡ bare before e after → OtherFields q e body
+  residue-word : (op times n : ℕ) → q ≡ Request.Tape (TapeRequest.Mtio op times) → (Refused e → ⊥) → body ≡ be32 e ++ be32 n → OtherFields q e body
 
 -- "An unknown message's 1, and 18, stand in the header"
 pub data InHeader : Request → ℕ → Type 0 where
@@ -94,7 +94,7 @@ pub record Replied (k : Kept) (l : Lent) (r : List ℕ) (q : Request) (a : Answe
   -- the error word of what is sent
   pub told : numberIn (placeOf reply) (a .reply) ≡ numberOf reply
   pub header : (headerError reply ≡ 0 → ⊥) → InHeader q (headerError reply)
-  pub fields : (numberOf reply ≡ 0 → ⊥) → OtherFields (numberOf reply) (bodyIn (a .reply))
+  pub fields : (numberOf reply ≡ 0 → ⊥) → OtherFields q (numberOf reply) (bodyIn (a .reply))
   pub quiet : (numberOf reply ≡ 0 → ⊥) → a .notices ≡ []
   -- "A refusal changes only the vault's counter and the "first request" mark; 12 and 13 also do what is said below."
   pub refused : Refused (numberOf reply) → Leaving (λ p. p ≡ k .session .tape .position) k (a .next)
