@@ -1,5 +1,5 @@
 -- What holds of every request, for any session.
-use Prim.Native.Nat.{ℕ}
+use Prim.Native.Nat.{ℕ, _+_, _-_}
 use mathlib.Core.Bool.{Bool, true, false}
 use mathlib.Core.List.{List}
 use mathlib.Core.Path.{_≡_}
@@ -12,12 +12,12 @@ use Rattle.session.specs.declared.types.Mover.{Mover}
 use Rattle.session.specs.declared.types.Tape.{Tape}
 use Rattle.session.specs.Names.{moverIdle, noMode}
 use Rattle.session.specs.Judge.{Accepts}
-use Rattle.session.specs.Parts.{dataJoined, moverJoined, moverPauses}
+use Rattle.session.specs.Parts.{dataJoined, moverJoined, moverPauses, moverHands}
 use Rattle.session.specs.DataService.{dataStep}
-use Rattle.session.specs.MoverService.{moverStop, setSize}
+use Rattle.session.specs.MoverService.{moverContinue, moverStop, moverRead, setSize}
 use Rattle.session.specs.TapeService.{TapePart, tapeStep, moverPartStep}
 use Rattle.session.specs.declared.Ends.{Ends}
-use Rattle.session.specs.Joint.{jointStep}
+use Rattle.session.specs.Joint.{dataConnect, moverConnect, jointStep}
 use Rattle.session.specs.Relation.{dataWrong, moverWrong, sameFlag, Legal}
 
 -- a step keeps what its part owes by itself, and what the other parts see of it
@@ -65,6 +65,18 @@ pub record WindowRules : Type 0 where
   pub stopped : (m : Mover) → Accepts (λ _ next. Stopped m next) (moverStop m)
   pub legal : (m : Mover) (t : Tape) → moverWrong m t ≡ false → (m .length ≡ 0 → ⊥) → Legal (m .size) (m .offset) (m .length)
 
+-- what a recover goes by. "It sets seek position and bytes left"; what is handed over is "added to seek position, taken off bytes left"; "the tape
+-- position when the mover became ACTIVE stands for the window's offset"
+pub record ReadRules : Type 0 where
+  pub sought : (m : Mover) (offset length : ℕ) → Accepts (λ _ next. (next .seek ≡ offset) × (next .left ≡ length)) (moverRead m offset length)
+  pub handed : (n : ℕ) (m : Mover) → (moverHands n m .seek ≡ m .seek + n) × (moverHands n m .left ≡ m .left - n)
+  pub continued : (m : Mover) (t : Tape) → Accepts (λ _ next. next .origin ≡ t .position) (moverContinue m t)
+  pub source-connected : (d : Data) (m : Mover) (t : Tape) (address : ℕ)
+      → Accepts (λ _ next. next .mover .origin ≡ t .position) (dataConnect d m t address)
+  pub mover-connected : (d : Data) (m : Mover) (t : Tape) (mode address : ℕ)
+      → Accepts (λ _ next. next .mover .origin ≡ t .position) (moverConnect d m t mode address)
+
 pub record Promises : Type 0 where
   pub relation : RelationKept
   pub windows : WindowRules
+  pub reads : ReadRules
