@@ -25,17 +25,16 @@ use Rattle.session.specs.declared.types.Session.{Session}
 use Rattle.session.specs.declared.Ends.{Ends}
 use Rattle.session.specs.Names.{leastRoom}
 use Rattle.session.specs.Judge.{Outcome, refuse, accept, onto, isAccepted, Accepts}
-use Rattle.session.specs.Parts.{dataJoined, moverJoined}
+use Rattle.session.specs.Parts.{dataJoined, moverJoined, afterMessage, shut}
 use Rattle.session.specs.DataService.{dataState, dataListen, dataStart, dataStop, dataStep}
 use Rattle.session.specs.MoverService.{moverState, moverListen, moverContinue, moverStop, setWindow, moverRead, setSize, moverStep}
 use Rattle.session.specs.TapeService.{withLoaded, withMover, moverPartStep, tapeStep}
 use Rattle.session.specs.Joint.{dataConnect, moverConnect, dataAborted, dataAbort, moverAborted, moverAbort, moverClose, jointStep}
 use Rattle.session.specs.Relation.{keeps}
-use Rattle.session.specs.Answer.{Kept, Lent, Answered, guarded, noticed, replying, answered, requested, judged, isClose, settled, verdict, outcome, closing}
+use Rattle.session.specs.Answer.{Kept, Lent, held, Answered, guarded, answered, requested, judged, isClose, settled, verdict, outcome, closing}
 use Rattle.session.specs.Answer.{Done, tapePart, withData, withTape, withChanger, withLogin, withEnds, requestIn}
 use Rattle.session.proofs.JudgeLaws.{judged-by, accepts, accepts-any, refusal-says, carried}
-use Rattle.session.proofs.Keeping.{clash}
-use Rattle.session.proofs.Calls.{noticed-holds}
+use Rattle.session.proofs.Calls.{noticed-holds, close-is}
 use Rattle.moves.specs.Sequence.{Seen, Sized, Windowed, Sought, MoverStopped, DataStopped, Began, Nothing, partsRegister, registerOf, after, Fits, isHeard}
 use Rattle.moves.specs.Sequence.{moverAsked, dataAsked, jointAsked, asked}
 
@@ -103,6 +102,47 @@ framed-two P true true skip close x a b c = c
 framed-two P true false skip close x a b c = a
 framed-two P false request skip close x a b c = b
 
+-- ---- what is noted of a call: of an accepted request what `note` says, of any other call nothing. What holds of the note and of what is
+-- passed on, where a request is accepted, holds of the call
+module _ {X : Type 0} (none : X) (note : Request → X) (k : Kept) (l : Lent) (r : List ℕ) (Left : X → Kept → Type 0)
+    (sends : (x : X) (n : Kept) (first : Bool) → Left x n → Left x (held (afterMessage (n .session) first) (n .image)))
+    (shuts : (x : X) (n : Kept) → Left x n → Left x (held (shut (n .session)) (n .image))) (still : Left none k) where
+  settled-noted : (x : X) (q : Request) (o : Outcome Done) → Accepts (λ _ d. Left x (d .kept)) o → Left (choose (isAccepted o) x none) (settled k (l .time) r q o .next)
+  unfolding settled Accepts isAccepted choose
+  settled-noted x q (refuse e) h = sends none k false still
+  settled-noted x q (accept reply d) h =
+      let told = noticed-holds (Left x) (sends x) (shuts x) (l .time) in
+      told (d .mwhy) _ _ (told (d .dwhy) _ _ (sends x (d .kept) false h))
+
+  close-noted : (b : Bool) (x : X) → x ≡ none → Left (choose b x none) (closing k .next)
+  close-noted b x e =
+      let h = shuts none k still in
+      rw e (by-test (λ (y : X). Left y (closing k .next)) b none none (λ _. h) (λ _. h))
+
+  verdict-noted : (q : Request) → Accepts (λ _ d. Left (note q) (d .kept)) (outcome k l r q) → Accepts (λ _ d. Left (note q) (d .kept)) (verdict k l r q)
+  unfolding verdict
+  verdict-noted q h = judged-by (λ _ d. Left (note q) (d .kept)) _ _ (λ _. h)
+
+  judged-noted : (q : Request) → (isClose q ≡ true → note q ≡ none) → Accepts (λ _ d. Left (note q) (d .kept)) (outcome k l r q)
+      → Left (choose (isAccepted (verdict k l r q)) (note q) none) (judged k l r q .next)
+  unfolding judged
+  judged-noted q close h =
+      by-test (λ (a : Answered). Left (choose (isAccepted (verdict k l r q)) (note q) none) (a .next)) (isClose q) _ _
+      (λ e. close-noted (isAccepted (verdict k l r q)) (note q) (close e))
+      (λ _. settled-noted (note q) q (verdict k l r q) (verdict-noted q h))
+
+  -- of a request that is heard or not
+  HeardNoted : X → Answered → Bool → Type 0
+  HeardNoted x a heard = Left (choose heard x none) (a .next)
+
+  pub call-noted : (isClose (requestIn r) ≡ true → note (requestIn r) ≡ none) → Accepts (λ _ d. Left (note (requestIn r)) (d .kept)) (outcome k l r (requestIn r))
+      → Left (choose (isHeard k l r) (choose (isAccepted (verdict k l r (requestIn r))) (note (requestIn r)) none) none) (answered k l r .next)
+  unfolding answered requested isHeard HeardNoted choose
+  call-noted close h =
+      let P = HeardNoted (choose (isAccepted (verdict k l r (requestIn r))) (note (requestIn r)) none) in
+      by-two P (k .session) (l .room) _ _ _ _ (λ _. still)
+      (framed-two P (wellFramed r) (eqb (kindOf r) 0) _ _ _ still (shuts none k still) (judged-noted (requestIn r) close h))
+
 -- ---- a request call
 module _ (k : Kept) (l : Lent) (r : List ℕ) where
   Left : Seen → Kept → Type 0
@@ -136,51 +176,13 @@ module _ (k : Kept) (l : Lent) (r : List ℕ) where
       carried (DoneLeft (jointAsked (k .session .tape .position) q)) (withEnds k) _
       (joint-shown (k .session .source) (k .session .mover) (k .session .tape) q)
 
-  verdict-left : (q : Request) → Accepts (DoneLeft (asked k q)) (verdict k l r q)
-  unfolding verdict
-  verdict-left q = judged-by (DoneLeft (asked k q)) _ _ (λ _. outcome-left q)
-
-  -- accepted, the register is what was shown makes of it; refused, it stays
-  settled-left : (x : Seen) (q : Request) (o : Outcome Done) → Accepts (DoneLeft x) o → Left (choose (isAccepted o) x Nothing) (settled k (l .time) r q o .next)
-  unfolding settled Accepts isAccepted choose after Left DoneLeft
-  settled-left x q (refuse e) h = (refl, tt)
-  settled-left x q (accept reply d) h =
-      let told = noticed-holds (Left x) (λ _ _ e. e) (λ _ e. e) (l .time) in
-      let a = replying r (l .time) reply (d .shown) (d .kept) in
-      told (d .mwhy) (Notice.MoverHalted (d .mwhy)) (noticed (l .time) (d .dwhy) (Notice.DataHalted (d .dwhy)) a) (told (d .dwhy) _ a h)
-
   -- a close shows nothing
   close-shows : (q : Request) → isClose q ≡ true → asked k q ≡ Nothing
-  unfolding isClose asked
-  close-shows Request.Unknown e = refl
-  close-shows Request.Bad e = refl
-  close-shows (Request.Connect q) e = refl
-  close-shows (Request.Config q) e = refl
-  close-shows (Request.Scsi q) e = refl
-  close-shows (Request.Tape q) e = refl
-  close-shows (Request.Data q) e = clash false refl e
-  close-shows (Request.Mover q) e = clash false refl e
-  close-shows (Request.Joint q) e = clash false refl e
-
-  close-left : (b : Bool) (x : Seen) → x ≡ Nothing → Left (choose b x Nothing) (closing k .next)
-  unfolding Left after
-  close-left b x e = rw e (by-test (λ (y : Seen). Left y (closing k .next)) b Nothing Nothing (λ _. (refl, tt)) (λ _. (refl, tt)))
-
-  judged-left : (q : Request) → Left (choose (isAccepted (verdict k l r q)) (asked k q) Nothing) (judged k l r q .next)
-  unfolding judged
-  judged-left q =
-      by-test (λ (a : Answered). Left (choose (isAccepted (verdict k l r q)) (asked k q) Nothing) (a .next)) (isClose q) _ _
-      (λ e. close-left (isAccepted (verdict k l r q)) (asked k q) (close-shows q e))
-      (λ _. settled-left (asked k q) q (verdict k l r q) (verdict-left q))
-
-  -- of a request that is heard or not
-  HeardLeft : Seen → Answered → Bool → Type 0
-  HeardLeft x a heard = Left (choose heard x Nothing) (a .next)
+  unfolding asked
+  close-shows q e = rw (close-is q e) refl
 
   pub asked-left : let x = choose (isHeard k l r) (choose (isAccepted (verdict k l r (requestIn r))) (asked k (requestIn r)) Nothing) Nothing in
       (registerOf (answered k l r .next .session) ≡ after (registerOf (k .session)) x) × Fits (registerOf (k .session)) x
-  unfolding answered requested isHeard Left HeardLeft choose after
+  unfolding Left DoneLeft after
   asked-left =
-      let P = HeardLeft (choose (isAccepted (verdict k l r (requestIn r))) (asked k (requestIn r)) Nothing) in
-      by-two P (k .session) (l .room) _ _ _ _ (λ _. (refl, tt))
-      (framed-two P (wellFramed r) (eqb (kindOf r) 0) _ _ _ (refl, tt) (refl, tt) (judged-left (requestIn r)))
+      call-noted Nothing (asked k) k l r Left (λ _ _ _ h. h) (λ _ _ h. h) (refl, tt) (close-shows (requestIn r)) (outcome-left (requestIn r))

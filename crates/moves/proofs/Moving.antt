@@ -52,7 +52,7 @@ module _ (m : Mover) (x : Seen) where
   unfolding moveShown choose
   shown-pause why e = rw (eq-eqb (m .state) 2 e) refl
 
-  shown-moved : (after : Mover) (n : ℕ) → 1 ≤ n → moveShown m after n x ≡ x
+  pub shown-moved : (after : Mover) (n : ℕ) → 1 ≤ n → moveShown m after n x ≡ x
   unfolding moveShown choose
   shown-moved next n h = let z : n ≡ 0 → ⊥ = λ e. omega arith in rw (ne-eqb n 0 z) refl
 
@@ -124,7 +124,7 @@ module _ (d : Data) (m : Mover) (t : Tape) (k : PartsKept d m t) where
 
 -- ---- to tape
 -- whole records before the window's end: one more fits
-whole-more : (s a b c : ℕ) → a * s < b * s + c * s → a * s + s ≤ b * s + c * s
+pub whole-more : (s a b c : ℕ) → a * s < b * s + c * s → a * s + s ≤ b * s + c * s
 whole-more s a b c h =
     let lt : a < b + c = lt-of-mul-lt-mul-right s (rw (← add-mul) at h) in
     let le : (a + 1) * s ≤ (b + c) * s = mul-le-mul-right s (omega arith) in
@@ -132,7 +132,7 @@ whole-more s a b c h =
     let f : (b + c) * s ≡ b * s + c * s = add-mul b c s in
     omega arith
 
-times : (a s : ℕ) → a % s ≡ 0 → a / s * s ≡ a
+pub times : (a s : ℕ) → a % s ≡ 0 → a / s * s ≡ a
 times a s h = let e = div-add-mod' a s in omega arith
 
 one-more : (s o n v : ℕ) → Legal s o n → InWindow s o n v → (v ≡ o + n → ⊥) → v + s ≤ o + n
@@ -146,7 +146,7 @@ one-more s o n v w p h =
     omega arith
 
 -- where the part is not the empty last one, nor less than a record and not last, there is something to take
-some-taken : (last : Bool) (n size : ℕ) → streamEnds last n ≡ false → scant last n size ≡ false → 1 ≤ size → 1 ≤ least n size
+pub some-taken : (last : Bool) (n size : ℕ) → streamEnds last n ≡ false → scant last n size ≡ false → 1 ≤ size → 1 ≤ least n size
 unfolding streamEnds scant choose
 some-taken true n size e f h = let z : n ≡ 0 → ⊥ = eqb-false n 0 e in least-some n size (omega arith) h
 some-taken false n size e f h = let z : size ≤ n = ltb-false n size f in least-some n size (omega arith) h

@@ -30,12 +30,12 @@ use Rattle.moves.proofs.Asking.{asked-left}
 use Rattle.moves.proofs.Moving.{PartsKept, shown-still, ToTurn, to-turn, FromTurn, from-turn, end-turn}
 
 -- ---- an answer that carries a move's parts
-record Carries (mv : Move) (image : List ℕ) (a : Answered) : Type 0 where
-  source : a .next .session .source ≡ mv .source
-  mover : a .next .session .mover ≡ mv .mover
-  tape : a .next .session .tape ≡ mv .tape
-  image-end : a .next .image ≡ image
-  code : a .code ≡ 0
+pub record Carries (mv : Move) (image : List ℕ) (a : Answered) : Type 0 where
+  pub source : a .next .session .source ≡ mv .source
+  pub mover : a .next .session .mover ≡ mv .mover
+  pub tape : a .next .session .tape ≡ mv .tape
+  pub image-end : a .next .image ≡ image
+  pub code : a .code ≡ 0
 
 noticed-carries : (mv : Move) (image : List ℕ) (time why : ℕ) (n : Notice) (a : Answered) → Carries mv image a → Carries mv image (noticed time why n a)
 unfolding noticed
@@ -43,7 +43,7 @@ noticed-carries mv image time why n a c =
     by-test (Carries mv image) (eqb why 0) _ _ (λ _. c)
     (λ _. record { source = c .source; mover = c .mover; tape = c .tape; image-end = c .image-end; code = c .code })
 
-announced-carries : (k : Kept) (l : Lent) (mv : Move) (image : List ℕ) → Carries mv image (announced k l mv image)
+pub announced-carries : (k : Kept) (l : Lent) (mv : Move) (image : List ℕ) → Carries mv image (announced k l mv image)
 announced-carries k l mv image =
     let told = noticed-carries mv image (l .time) in
     told _ _ _ (told _ _ _ (told _ _ _ (record { source = refl; mover = refl; tape = refl; image-end = refl; code = refl })))

@@ -43,7 +43,7 @@ use Rattle.session.specs.Order.{Call, run}
 use Rattle.session.specs.Calls.{openedSession, Unmoved, Heard, CallsKeep}
 use Rattle.session.proofs.JudgeLaws.{judged-by, accepts, accepts-any, accepts-map, refusal-says, carried}
 use Rattle.session.proofs.Kept.{kept-mover}
-use Rattle.session.proofs.Keeping.{rest-kept, data-keeps, tape-keeps, mover-part-keeps, joint-keeps}
+use Rattle.session.proofs.Keeping.{clash, rest-kept, data-keeps, tape-keeps, mover-part-keeps, joint-keeps}
 use Rattle.session.proofs.Guarding.{by-guard, goes-on}
 use Rattle.session.proofs.Numbers.{number-right, refusal-right}
 
@@ -305,6 +305,21 @@ module _ (k : Kept) (l : Lent) (r : List ℕ) where
   ignored : wellFramed r ≡ true → (kindOf r ≡ 0 → ⊥) → Unmoved k (answered k l r)
   unfolding answered requested choose
   ignored f n = by-guard (Unmoved k) (k .session) (l .room) _ _ still (λ _. rw (f, ne-eqb (kindOf r) 0 n) (still 0))
+
+pub close-is : (q : Request) → isClose q ≡ true → q ≡ Request.Connect ConnectRequest.Close
+unfolding isClose
+close-is Request.Unknown e = clash false refl e
+close-is Request.Bad e = clash false refl e
+close-is (Request.Connect (ConnectRequest.Open version)) e = clash false refl e
+close-is (Request.Connect (ConnectRequest.Auth id password)) e = clash false refl e
+close-is (Request.Connect ConnectRequest.OtherAuth) e = clash false refl e
+close-is (Request.Connect ConnectRequest.Close) e = refl
+close-is (Request.Config q) e = clash false refl e
+close-is (Request.Scsi q) e = clash false refl e
+close-is (Request.Tape q) e = clash false refl e
+close-is (Request.Data q) e = clash false refl e
+close-is (Request.Mover q) e = clash false refl e
+close-is (Request.Joint q) e = clash false refl e
 
 -- ---- what is answered where a request is refused
 module _ (k : Kept) (l : Lent) (r : List ℕ) where

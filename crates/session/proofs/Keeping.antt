@@ -88,7 +88,7 @@ tape-free m t u free k =
       origins = λ e. absurd (free (active-holds (m .state) e));
     }
 
-listen-holds : (state : ℕ) → state ≡ 1 → holdsTape state ≡ true
+pub listen-holds : (state : ℕ) → state ≡ 1 → holdsTape state ≡ true
 unfolding holdsTape choose
 listen-holds state e = rw e refl
 
