@@ -1,4 +1,4 @@
-/* The session core of a tape vault that speaks NDMP version 4: five calls, as C functions of the static library `capi` (`rt staticlib capi`).
+/* The session core of a tape vault that speaks NDMP version 4: five calls, as C functions of the static library `capi` (`tools/library`).
  *
  * No call asks anything of its caller but that each pointer leads to as many bytes as the length beside it says (a length of 0 may have any
  * pointer), and that no two buffers of a call overlap where one of them is written: image, out and dest are written. Whatever the bytes are, there is

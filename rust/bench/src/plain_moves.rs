@@ -1,0 +1,260 @@
+//! The rules of a move in plain Rust, with bounds checks: what the proved code is compared with. The session is changed
+//! where it lies.
+use crate::tape::{faulty, kept, put_entry, word};
+use proved::{Data, Mover, OUTPUT, Session, codes};
+use wire::message;
+
+/// What a call gives beside the session: the rule that applied, the code, the bytes moved, and the bytes of the output.
+#[derive(Clone, Copy)]
+pub struct Told {
+    pub rule: &'static str,
+    pub code: u32,
+    pub count: usize,
+    pub len: usize,
+}
+
+/// What a move comes to: the rule that applied, the bytes moved, and what was halted or paused.
+struct Step {
+    rule: &'static str,
+    count: usize,
+    news: News,
+}
+
+enum News {
+    None,
+    Halted { data: u32, mover: u32 },
+    Paused(u32),
+}
+
+// ---- the relation (docs/RELATION.md)
+
+fn window_is_right(m: &Mover) -> bool {
+    let unit = m.size as u64;
+    m.length == 0
+        || unit != 0 && m.offset % unit == 0 && m.length % unit == 0 && m.offset.checked_add(m.length).is_some()
+}
+
+fn place_is_right(m: &Mover) -> bool {
+    match m.state {
+        Mover::LISTEN => m.offset == 0,
+        Mover::ACTIVE => {
+            m.size != 0 && m.offset <= m.moved && m.moved - m.offset <= m.length && m.moved % m.size as u64 == 0
+        }
+        Mover::PAUSED => m.length == 0 || m.offset == m.moved,
+        _ => true,
+    }
+}
+
+fn is_related(s: &Session) -> bool {
+    let (d, m, t) = (&s.source, &s.mover, &s.tape);
+    let holds = matches!(m.state, Mover::LISTEN | Mover::ACTIVE);
+    d.state <= 4
+        && m.state <= 4
+        && m.size as usize <= codes::LONGEST_RECORD
+        && m.seek.checked_add(m.left).is_some()
+        && window_is_right(m)
+        && (m.state > Mover::LISTEN || m.moved == 0)
+        && (!holds || m.length != 0 && t.opened && (m.mode != Mover::TO_TAPE || t.writable))
+        && (m.mode != Mover::TO_TAPE || place_is_right(m))
+        && (m.state != Mover::ACTIVE || m.origin <= t.position)
+        && matches!(d.state, Data::CONNECTED | Data::ACTIVE) == matches!(m.state, Mover::ACTIVE | Mover::PAUSED)
+}
+
+// ---- what a move can come to
+
+fn nothing(rule: &'static str) -> Step {
+    Step { rule, count: 0, news: News::None }
+}
+
+fn pause(s: &mut Session, rule: &'static str, why: u32) -> Step {
+    let m = &mut s.mover;
+    (m.state, m.pause, m.offset, m.length) = (Mover::PAUSED, why, 0, 0);
+    Step { rule, count: 0, news: News::Paused(why) }
+}
+
+fn halt(s: &mut Session, rule: &'static str, data: u32, mover: u32) -> Step {
+    (s.source.state, s.source.reason) = (Data::HALTED, data);
+    (s.mover.state, s.mover.pause, s.mover.halt) = (Mover::HALTED, 0, mover);
+    Step { rule, count: 0, news: News::Halted { data, mover } }
+}
+
+// ---- to tape
+
+fn to_tape(s: &mut Session, image: &mut [u8], stream: &[u8], last: bool) -> Step {
+    let (d, m, position) = (&mut s.source, &mut s.mover, s.tape.position);
+    if m.state != Mover::ACTIVE || m.mode != Mover::TO_TAPE || d.state != Data::ACTIVE || d.operation != Data::BACKUP {
+        return nothing("1");
+    }
+    if faulty(image, position) {
+        return halt(s, "2", Data::CONNECT_ERROR, Mover::MEDIA_ERROR);
+    }
+    if stream.is_empty() && last {
+        return halt(s, "3", Data::SUCCESSFUL, Mover::CONNECT_CLOSED);
+    }
+    if m.moved == m.offset + m.length {
+        return pause(s, "4", Mover::END_OF_WINDOW);
+    }
+    let size = m.size as usize;
+    if stream.len() < size && !last {
+        return nothing("5");
+    }
+    let capacity = word(image, 4);
+    let keep = kept(image, position);
+    let start = 16 + capacity * 8 + keep;
+    if position >= capacity || start + size > image.len() {
+        return pause(s, "6", Mover::END_OF_MEDIUM);
+    }
+    let part = &stream[..stream.len().min(size)];
+    put_entry(image, position, keep, size);
+    let (bytes, fill) = image[start..start + size].split_at_mut(part.len());
+    bytes.copy_from_slice(part);
+    fill.fill(0);
+    d.processed = d.processed.wrapping_add(part.len() as u64);
+    m.moved = m.moved.wrapping_add(size as u64);
+    s.tape.position = position + 1;
+    Step { rule: if part.len() < size { "7, filled" } else { "7" }, count: part.len(), news: News::None }
+}
+
+// ---- from tape
+
+enum Found {
+    Target(usize),
+    Mark(usize),
+    End(usize),
+}
+
+fn walk(image: &[u8], origin: usize, records: u64) -> Found {
+    let n = word(image, 8);
+    for (passed, entry) in image[16 + origin * 8..16 + n * 8].chunks_exact(8).enumerate() {
+        if word(entry, 0) == 0 {
+            return Found::Mark(origin + passed + 1);
+        }
+        if passed as u64 == records {
+            return Found::Target(origin + passed);
+        }
+    }
+    Found::End(n)
+}
+
+fn hand(s: &mut Session, image: &[u8], entry: usize, dest: &mut [u8]) -> Step {
+    let (d, m) = (&mut s.source, &mut s.mover);
+    let size = m.size as usize;
+    if word(image, 16 + entry * 8) != size {
+        return halt(s, "wrong length", Data::CONNECT_ERROR, Mover::MEDIA_ERROR);
+    }
+    let into = ((m.seek - m.offset) % size as u64) as usize;
+    let n = (size - into).min(dest.len()).min(m.left as usize);
+    let start = 16 + word(image, 4) * 8 + word(image, 20 + entry * 8) + into;
+    dest[..n].copy_from_slice(&image[start..start + n]);
+    let count = n as u64;
+    d.processed = d.processed.wrapping_add(count);
+    m.moved = m.moved.wrapping_add(count);
+    m.seek += count;
+    m.left -= count;
+    s.tape.position = entry + 1;
+    Step { rule: "bytes", count: n, news: News::None }
+}
+
+fn from_tape(s: &mut Session, image: &[u8], dest: &mut [u8]) -> Step {
+    let (d, m) = (&s.source, &s.mover);
+    if m.state != Mover::ACTIVE || m.mode != Mover::FROM_TAPE || d.state != Data::ACTIVE || d.operation != Data::RECOVER
+    {
+        return nothing("idle");
+    }
+    if faulty(image, s.tape.position) {
+        return halt(s, "fault", Data::CONNECT_ERROR, Mover::MEDIA_ERROR);
+    }
+    if m.left == 0 {
+        return nothing("nothing left");
+    }
+    if dest.is_empty() {
+        return nothing("no room");
+    }
+    if m.seek < m.offset || m.seek >= m.offset + m.length {
+        return pause(s, "SEEK", Mover::SEEK);
+    }
+    match walk(image, m.origin, (m.seek - m.offset) / m.size as u64) {
+        Found::Target(at) => hand(s, image, at, dest),
+        Found::Mark(after) => {
+            s.tape.position = after;
+            pause(s, "EOF", Mover::END_OF_FILE)
+        }
+        Found::End(end) => {
+            s.tape.position = end;
+            pause(s, "EOM", Mover::END_OF_MEDIUM)
+        }
+    }
+}
+
+// ---- the calls
+
+fn send(s: &mut Session, out: &mut [u8], at: usize, time: u32, message: u32, body: &[u32]) -> usize {
+    let mark = wire::LAST | (24 + 4 * body.len()) as u32;
+    let header = [mark, s.sequence, time, 0, message, 0, 0];
+    let end = at + 28 + 4 * body.len();
+    for (place, word) in out[at..end].chunks_exact_mut(4).zip(header.iter().chain(body)) {
+        place.copy_from_slice(&word.to_be_bytes());
+    }
+    s.sequence = s.sequence.wrapping_add(1);
+    end
+}
+
+fn report(s: &mut Session, step: Step, time: u32, out: &mut [u8]) -> Told {
+    let len = match step.news {
+        News::None => 0,
+        News::Halted { data, mover } => {
+            let at = send(s, out, 0, time, message::NOTIFY_DATA_HALTED, &[data]);
+            send(s, out, at, time, message::NOTIFY_MOVER_HALTED, &[mover])
+        }
+        News::Paused(why) => {
+            let seek = s.mover.seek;
+            send(s, out, 0, time, message::NOTIFY_MOVER_PAUSED, &[why, (seek >> 32) as u32, seek as u32])
+        }
+    };
+    Told { rule: step.rule, code: 0, count: step.count, len }
+}
+
+/// Why a call does nothing at all, where it does.
+fn refusal(s: &Session, out: &[u8]) -> Option<Told> {
+    let (rule, code) = if out.len() < OUTPUT {
+        ("1001", codes::SHORT_OUTPUT)
+    } else if !is_related(s) {
+        ("1002", codes::BROKEN_SESSION)
+    } else if s.closed {
+        ("closed", 0)
+    } else {
+        return None;
+    };
+    Some(Told { rule, code, count: 0, len: 0 })
+}
+
+#[inline(never)]
+pub fn move_to_tape(s: &mut Session, image: &mut [u8], stream: &[u8], last: bool, time: u32, out: &mut [u8]) -> Told {
+    if let Some(told) = refusal(s, out) {
+        return told;
+    }
+    let step = to_tape(s, image, stream, last);
+    report(s, step, time, out)
+}
+
+#[inline(never)]
+pub fn move_from_tape(s: &mut Session, image: &[u8], dest: &mut [u8], time: u32, out: &mut [u8]) -> Told {
+    if let Some(told) = refusal(s, out) {
+        return told;
+    }
+    let step = from_tape(s, image, dest);
+    report(s, step, time, out)
+}
+
+#[inline(never)]
+pub fn end_method(s: &mut Session, ok: bool, time: u32, out: &mut [u8]) -> Told {
+    if let Some(told) = refusal(s, out) {
+        return told;
+    }
+    let step = match (s.source.state == Data::ACTIVE, ok) {
+        (false, _) => nothing("nothing"),
+        (true, true) => halt(s, "SUCCESSFUL", Data::SUCCESSFUL, Mover::CONNECT_CLOSED),
+        (true, false) => halt(s, "INTERNAL_ERROR", Data::INTERNAL_ERROR, Mover::CONNECT_CLOSED),
+    };
+    report(s, step, time, out)
+}

@@ -1,0 +1,157 @@
+//! The proved calls, for a host in Rust. The structs are the declarations of crates/session as they stand; that the
+//! functions below are those of crates/capi is checked by nothing but the tests that call them.
+
+pub mod codes;
+mod names;
+mod types {
+    include!("../../../crates/session/src/types.rt");
+}
+
+use std::fmt;
+
+pub use types::{Answer, Changer, Data, Login, Moved, Mover, Session, Tape};
+
+/// The least output that the calls take.
+pub const OUTPUT: usize = codes::LARGEST_MESSAGE;
+
+/// The declarations hold nothing that Rust could derive from, so what is needed of them stands here, field by field.
+macro_rules! by_value {
+    ($($t:ident { $($f:ident),* })*) => { $(
+        impl Clone for $t {
+            fn clone(&self) -> Self {
+                *self
+            }
+        }
+        impl Copy for $t {}
+        impl PartialEq for $t {
+            fn eq(&self, other: &Self) -> bool {
+                let $t { $($f),* } = self;
+                $(*$f == other.$f)&&*
+            }
+        }
+        impl fmt::Debug for $t {
+            fn fmt(&self, f: &mut fmt::Formatter) -> fmt::Result {
+                f.debug_struct(stringify!($t))$(.field(stringify!($f), &self.$f))*.finish()
+            }
+        }
+    )* };
+}
+
+by_value! {
+    Data { state, operation, reason, processed }
+    Mover { state, mode, pause, halt, size, offset, length, moved, seek, left, origin }
+    Tape { opened, writable, position }
+    Changer { opened, pending }
+    Login { authorized }
+    Session { closed, first, login, sequence, source, mover, tape, changer }
+    Answer { code, len, session }
+    Moved { code, count, len, session }
+}
+
+unsafe extern "C" {
+    fn mossgoblin_open(time: u32, out: *mut u8, n: usize) -> Answer;
+    fn mossgoblin_request(
+        s: Session,
+        id: *const u8,
+        id_len: usize,
+        password: *const u8,
+        password_len: usize,
+        image: *mut u8,
+        n: usize,
+        input: *const u8,
+        m: usize,
+        time: u32,
+        out: *mut u8,
+        k: usize,
+    ) -> Answer;
+    fn mossgoblin_move_to_tape(
+        s: Session,
+        image: *mut u8,
+        n: usize,
+        stream: *const u8,
+        m: usize,
+        last: bool,
+        time: u32,
+        out: *mut u8,
+        k: usize,
+    ) -> Moved;
+    fn mossgoblin_move_from_tape(
+        s: Session,
+        image: *const u8,
+        n: usize,
+        dest: *mut u8,
+        m: usize,
+        time: u32,
+        out: *mut u8,
+        k: usize,
+    ) -> Moved;
+    fn mossgoblin_end_method(s: Session, ok: bool, time: u32, out: *mut u8, n: usize) -> Answer;
+}
+
+// Safety, of all five: the slices are whole and apart, and the functions ask for nothing else.
+
+pub fn open(time: u32, out: &mut [u8]) -> Answer {
+    unsafe { mossgoblin_open(time, out.as_mut_ptr(), out.len()) }
+}
+
+pub fn request(
+    s: Session,
+    id: &[u8],
+    password: &[u8],
+    image: &mut [u8],
+    input: &[u8],
+    time: u32,
+    out: &mut [u8],
+) -> Answer {
+    unsafe {
+        mossgoblin_request(
+            s,
+            id.as_ptr(),
+            id.len(),
+            password.as_ptr(),
+            password.len(),
+            image.as_mut_ptr(),
+            image.len(),
+            input.as_ptr(),
+            input.len(),
+            time,
+            out.as_mut_ptr(),
+            out.len(),
+        )
+    }
+}
+
+pub fn move_to_tape(s: Session, image: &mut [u8], stream: &[u8], last: bool, time: u32, out: &mut [u8]) -> Moved {
+    unsafe {
+        mossgoblin_move_to_tape(
+            s,
+            image.as_mut_ptr(),
+            image.len(),
+            stream.as_ptr(),
+            stream.len(),
+            last,
+            time,
+            out.as_mut_ptr(),
+            out.len(),
+        )
+    }
+}
+
+pub fn move_from_tape(s: Session, image: &[u8], dest: &mut [u8], time: u32, out: &mut [u8]) -> Moved {
+    unsafe {
+        mossgoblin_move_from_tape(
+            s,
+            image.as_ptr(),
+            image.len(),
+            dest.as_mut_ptr(),
+            dest.len(),
+            time,
+            out.as_mut_ptr(),
+            out.len(),
+        )
+    }
+}
+
+pub fn end_method(s: Session, ok: bool, time: u32, out: &mut [u8]) -> Answer {
+    unsafe { mossgoblin_end_method(s, ok, time, out.as_mut_ptr(), out.len()) }
+}

@@ -1,0 +1,78 @@
+//! The options of `mossgoblin serve`.
+use crate::options::{Known, Written, alone, valued};
+use std::ffi::OsStr;
+use std::os::unix::ffi::OsStrExt;
+use std::path::PathBuf;
+use std::time::Duration;
+
+pub const SERVE: [Known; 9] = [
+    valued("--listen"),
+    valued("--cartridge"),
+    valued("--new-cartridge"),
+    valued("--account"),
+    valued("--stream"),
+    valued("--restore-to"),
+    valued("--status"),
+    valued("--idle"),
+    alone("--quiet"),
+];
+
+pub struct Args {
+    pub listen: String,
+    pub cartridge: PathBuf,
+    pub new_cartridge: Option<usize>,
+    pub id: Vec<u8>,
+    pub password: Vec<u8>,
+    pub stream: Option<PathBuf>,
+    pub restore_to: Option<PathBuf>,
+    pub status: Option<String>,
+    pub idle: Duration,
+    pub quiet: bool,
+}
+
+/// A number of bytes, with K, M or G for the powers of 1,024; no more than a cartridge may have.
+pub fn size(text: &str) -> Option<usize> {
+    let (digits, unit) = match text.as_bytes().last()? {
+        b'K' | b'k' => (&text[..text.len() - 1], 1 << 10),
+        b'M' | b'm' => (&text[..text.len() - 1], 1 << 20),
+        b'G' | b'g' => (&text[..text.len() - 1], 1 << 30),
+        _ => (text, 1),
+    };
+    digits.parse::<usize>().ok()?.checked_mul(unit).filter(|n| *n <= crate::cartridge::MOST_BODY)
+}
+
+/// The id and the password of `ID:PASSWORD`.
+pub fn account(value: &OsStr) -> Result<(Vec<u8>, Vec<u8>), String> {
+    let bytes = value.as_bytes();
+    let at = bytes.iter().position(|b| *b == b':').ok_or("--account: expected ID:PASSWORD, such as vault:noon")?;
+    Ok((bytes[..at].to_vec(), bytes[at + 1..].to_vec()))
+}
+
+/// A port alone is one of this machine's.
+fn status(text: &str) -> String {
+    if text.bytes().all(|b| b.is_ascii_digit()) { format!("127.0.0.1:{text}") } else { text.to_string() }
+}
+
+pub fn serve(w: &Written) -> Result<Args, String> {
+    if let Some(word) = w.words.first() {
+        return Err(format!("{word:?}: serve takes options only; a cartridge is named by --cartridge FILE"));
+    }
+    let room = |v| size(v).ok_or(format!("--new-cartridge: {v}: expected a size of at most 128M, such as 64M"));
+    let new_cartridge = w.text("--new-cartridge")?.map(room).transpose()?;
+    let idle = w.text("--idle")?.map_or(Ok(3600), |v| {
+        v.parse().ok().filter(|n| *n > 0 && *n < 1 << 31).ok_or(format!("--idle: {v}: expected seconds, such as 600"))
+    })?;
+    let (id, password) = account(w.value("--account").ok_or("--account ID:PASSWORD is missing")?)?;
+    Ok(Args {
+        listen: w.text("--listen")?.ok_or("--listen ADDRESS:PORT is missing")?.to_string(),
+        cartridge: w.value("--cartridge").map(PathBuf::from).ok_or("--cartridge FILE is missing")?,
+        new_cartridge,
+        id,
+        password,
+        stream: w.value("--stream").map(PathBuf::from),
+        restore_to: w.value("--restore-to").map(PathBuf::from),
+        status: w.text("--status")?.map(status),
+        idle: Duration::from_secs(idle),
+        quiet: w.has("--quiet"),
+    })
+}

@@ -1,0 +1,220 @@
+//! The cartridge: its image in memory, which the core reads and writes, and the file, which follows in a safe order.
+use proved::{OUTPUT, Session, codes};
+use std::fs::{self, File, OpenOptions};
+use std::io::{self, Read};
+use std::os::unix::fs::FileExt;
+use std::path::Path;
+use wire::{HEADER, message, request, text, word, word_at, words};
+
+pub const CAPACITY: usize = 4_096;
+pub const MOST_BODY: usize = 134_217_728;
+/// The words before the table.
+const HEAD: usize = 16;
+
+/// What the order of writes needs of a file.
+pub trait Disk {
+    fn put(&mut self, at: usize, bytes: &[u8]) -> io::Result<()>;
+    /// All that was put before is on the disk when this returns.
+    fn sync(&mut self) -> io::Result<()>;
+}
+
+impl Disk for File {
+    fn put(&mut self, at: usize, bytes: &[u8]) -> io::Result<()> {
+        self.write_all_at(bytes, at as u64)
+    }
+
+    fn sync(&mut self) -> io::Result<()> {
+        self.sync_data()
+    }
+}
+
+pub struct Cartridge<D = File> {
+    pub image: Vec<u8>,
+    disk: D,
+    /// No header on the disk has more entries than this.
+    stored: usize,
+    /// The lowest position written since the file was up to date.
+    low: Option<usize>,
+}
+
+impl<D: Disk> Cartridge<D> {
+    /// The image is sound, and the disk holds it.
+    pub fn new(image: Vec<u8>, disk: D) -> Cartridge<D> {
+        let stored = word_at(&image, 8).unwrap_or(0) as usize;
+        Cartridge { image, disk, stored, low: None }
+    }
+
+    /// The core has written at this position: it cut the list there, and added entries.
+    pub fn written(&mut self, position: usize) {
+        self.low = Some(self.low.map_or(position, |low| low.min(position)));
+    }
+
+    fn number(&self, at: usize) -> usize {
+        word_at(&self.image, at).unwrap_or(0) as usize
+    }
+
+    /// Room for entries and for bytes.
+    pub fn room(&self) -> (usize, usize) {
+        room(&self.image)
+    }
+
+    /// The lengths of the entries from this one on.
+    pub fn lengths(&self, from: usize) -> impl Iterator<Item = u32> {
+        (from..self.number(8)).map(|i| self.number(HEAD + 8 * i) as u32)
+    }
+
+    fn header(&mut self, n: usize, used: usize) -> io::Result<()> {
+        self.disk.put(8, &words(&[n as u32, used as u32]))?;
+        self.disk.sync()
+    }
+
+    /// Brings the file up to date. In every state between two writes the file is a sound image: first the list is cut
+    /// where new entries begin, then their bytes and words are written, which nothing refers to yet, and then the
+    /// header takes them in. What fails stays to be done by the next call.
+    /// Gives the first position whose entry may be another than before.
+    pub fn store(&mut self) -> io::Result<Option<usize>> {
+        let Some(low) = self.low else { return Ok(None) };
+        let (capacity, n, used) = (self.number(4), self.number(8), self.number(12));
+        let kept = self.number(HEAD + 8 * low + 4);
+        let body = HEAD + 8 * capacity;
+        if low < self.stored {
+            self.header(low, kept)?;
+            self.stored = low;
+        }
+        self.disk.put(body + kept, &self.image[body + kept..body + used])?;
+        self.disk.put(HEAD + 8 * low, &self.image[HEAD + 8 * low..HEAD + 8 * n])?;
+        self.disk.sync()?;
+        self.stored = n;
+        self.header(n, used)?;
+        self.low = None;
+        Ok(Some(low))
+    }
+}
+
+/// A session of one's own on an image that no client has: its tape is open for reading.
+pub struct Deck {
+    session: Session,
+    out: Vec<u8>,
+}
+
+#[derive(Clone, Copy, Debug, PartialEq)]
+pub enum Entry {
+    Record(u32),
+    Mark,
+}
+
+impl Deck {
+    /// None if the core does not take the image: it is asked to open the tape.
+    pub fn open(image: &mut [u8]) -> Option<Deck> {
+        let mut out = vec![0; OUTPUT];
+        let session = proved::open(0, &mut out).session;
+        let mut deck = Deck { session, out };
+        deck.ask(image, message::CONNECT_CLIENT_AUTH, &[words(&[1]), text(""), text("")].concat());
+        deck.ask(image, message::TAPE_OPEN, &[text("tape0"), words(&[0])].concat());
+        deck.session.tape.opened.then_some(deck)
+    }
+
+    /// A request; the reply stands in the output.
+    fn ask(&mut self, image: &mut [u8], message: u32, body: &[u8]) {
+        let done = proved::request(self.session, b"", b"", image, &request(1, message, body), 0, &mut self.out);
+        self.session = done.session;
+    }
+
+    /// The entry at the tape's position, which goes on behind it; none at the end.
+    pub fn next(&mut self, image: &mut [u8]) -> Option<Entry> {
+        self.ask(image, message::TAPE_READ, &words(&[codes::LONGEST_RECORD as u32]));
+        match word(&self.out, HEADER) {
+            0 => Some(Entry::Record(word(&self.out, HEADER + 4))),
+            codes::AT_MARK => Some(Entry::Mark),
+            _ => None,
+        }
+    }
+}
+
+/// The bytes of a cartridge file that is open; too long a file is not read.
+fn bytes(file: &mut File) -> Result<Vec<u8>, String> {
+    let meta = file.metadata().map_err(|e| e.to_string())?;
+    if !meta.is_file() {
+        return Err("not a file".into());
+    }
+    let length = meta.len();
+    if length > (HEAD + 8 * CAPACITY + MOST_BODY) as u64 {
+        return Err(format!("too long for a cartridge: {length} bytes"));
+    }
+    let mut image = Vec::with_capacity(length as usize);
+    file.read_to_end(&mut image).map_err(|e| e.to_string())?;
+    Ok(image)
+}
+
+/// What can be said of an image that the core does not take.
+fn unsound(image: &[u8]) -> String {
+    let known = (0..4).map(|i| word_at(image, 4 * i)).collect::<Option<Vec<u32>>>();
+    let told =
+        known.map(|w| format!("; its words: version {}, capacity {}, entries {}, used {}", w[0], w[1], w[2], w[3]));
+    format!("not a sound cartridge image: {} bytes{}", image.len(), told.unwrap_or_default())
+}
+
+const BUSY: &str = "in use by another program; end that vault first";
+
+/// Reads a cartridge file and keeps it locked against a second host.
+pub fn load(path: &Path) -> Result<Cartridge, String> {
+    let told = |e: &dyn std::fmt::Display| format!("cartridge {}: {e}", path.display());
+    let mut file = OpenOptions::new().read(true).write(true).open(path).map_err(|e| match e.kind() {
+        io::ErrorKind::NotFound => told(&"no such file; --new-cartridge SIZE makes one"),
+        _ => told(&e),
+    })?;
+    file.try_lock().map_err(|_| told(&BUSY))?;
+    let mut image = bytes(&mut file).map_err(|e| told(&e))?;
+    if Deck::open(&mut image).is_none() {
+        return Err(told(&unsound(&image)));
+    }
+    Ok(Cartridge::new(image, file))
+}
+
+/// Reads a cartridge file that no vault has open, with a session on it.
+pub fn look(path: &Path) -> Result<(Vec<u8>, Deck), String> {
+    let told = |e: &dyn std::fmt::Display| format!("{}: {e}", path.display());
+    let mut file = File::open(path).map_err(|e| match e.kind() {
+        io::ErrorKind::NotFound => told(&"no such file; `mossgoblin new` makes a cartridge"),
+        _ => told(&e),
+    })?;
+    file.try_lock_shared().map_err(|_| told(&BUSY))?;
+    let mut image = bytes(&mut file).map_err(|e| told(&e))?;
+    let deck = Deck::open(&mut image).ok_or_else(|| told(&unsound(&image)))?;
+    Ok((image, deck))
+}
+
+/// The room of an image: entries, and bytes of data.
+pub fn room(image: &[u8]) -> (usize, usize) {
+    let capacity = word_at(image, 4).unwrap_or(0) as usize;
+    (capacity, image.len().saturating_sub(HEAD + 8 * capacity))
+}
+
+/// Makes an empty cartridge with this room for data. It gets its name when it is whole, and never in the place of
+/// another file.
+pub fn create(path: &Path, body: usize) -> Result<(), String> {
+    let told = |e: io::Error| match e.kind() {
+        io::ErrorKind::AlreadyExists => {
+            format!("cartridge {}: exists already and is not overwritten; choose another name", path.display())
+        }
+        _ => format!("cartridge {}: {e}", path.display()),
+    };
+    if path.symlink_metadata().is_ok() {
+        return Err(told(io::ErrorKind::AlreadyExists.into()));
+    }
+    let mut name = path.file_name().unwrap_or_default().to_os_string();
+    name.push(format!(".new-{}", std::process::id()));
+    let beside = path.with_file_name(name);
+    let made = write_empty(&beside, body).and_then(|()| fs::hard_link(&beside, path));
+    let _ = fs::remove_file(&beside);
+    made.map_err(told)?;
+    let folder = path.parent().filter(|p| !p.as_os_str().is_empty()).unwrap_or(Path::new("."));
+    File::open(folder).and_then(|f| f.sync_all()).map_err(told)
+}
+
+fn write_empty(path: &Path, body: usize) -> io::Result<()> {
+    let file = OpenOptions::new().write(true).create_new(true).open(path)?;
+    file.set_len((HEAD + 8 * CAPACITY + body) as u64)?;
+    file.write_all_at(&words(&[1, CAPACITY as u32]), 0)?;
+    file.sync_all()
+}

@@ -1,0 +1,130 @@
+//! The commands on cartridge files: `new`, `list` and `check`.
+use crate::args::size;
+use crate::cartridge::{self, Entry};
+use crate::options::Written;
+use std::ffi::OsString;
+use std::io::{BufWriter, Write, stdout};
+use std::path::Path;
+
+/// Why a command was not carried out: its words are wrong, or it failed.
+#[derive(Debug)]
+pub enum Failed {
+    Words(String),
+    Work(String),
+}
+
+impl From<String> for Failed {
+    fn from(why: String) -> Failed {
+        Failed::Work(why)
+    }
+}
+
+/// A number with its thousands apart.
+pub fn grouped(n: u64) -> String {
+    let digits = n.to_string();
+    let mut text = String::new();
+    for (i, d) in digits.chars().enumerate() {
+        if i > 0 && (digits.len() - i).is_multiple_of(3) {
+            text.push(',');
+        }
+        text.push(d);
+    }
+    text
+}
+
+/// So many of a thing, in words.
+pub fn counted(n: u64, what: &str) -> String {
+    format!("{} {what}{}", grouped(n), if n == 1 { "" } else { "s" })
+}
+
+pub fn new(w: &Written) -> Result<(), Failed> {
+    let [file, room] = &w.words[..] else { return Err(Failed::Words("expected FILE and SIZE".into())) };
+    let bytes = room.to_str().and_then(size);
+    let bytes = bytes.ok_or(Failed::Words(format!("{room:?}: expected a size of at most 128M, such as 64M")))?;
+    cartridge::create(Path::new(file), bytes)?;
+    println!("made {}: room for {} bytes in at most 4,096 records and marks", file.display(), grouped(bytes as u64));
+    Ok(())
+}
+
+fn one_file(w: &Written) -> Result<&OsString, Failed> {
+    match &w.words[..] {
+        [file] => Ok(file),
+        _ => Err(Failed::Words("expected one FILE".into())),
+    }
+}
+
+/// The entries of a cartridge in their order, read through the core; and its room.
+fn entries(file: &OsString) -> Result<(Vec<Entry>, (usize, usize)), Failed> {
+    let (mut image, mut deck) = cartridge::look(Path::new(file))?;
+    let all = std::iter::from_fn(|| deck.next(&mut image)).collect();
+    Ok((all, cartridge::room(&image)))
+}
+
+fn length(entry: &Entry) -> u64 {
+    match entry {
+        Entry::Record(n) => *n as u64,
+        Entry::Mark => 0,
+    }
+}
+
+pub fn list(w: &Written) -> Result<(), Failed> {
+    let (all, (capacity, body)) = entries(one_file(w)?)?;
+    let used: u64 = all.iter().map(length).sum();
+    let print = || {
+        let mut out = BufWriter::new(stdout().lock());
+        writeln!(out, "cartridge {} of {capacity} entries, {used} of {body} bytes", all.len())?;
+        let mut start = 0;
+        for (i, entry) in all.iter().enumerate() {
+            match entry {
+                Entry::Record(n) => writeln!(out, "{i} record {n} at {start}")?,
+                Entry::Mark => writeln!(out, "{i} mark at {start}")?,
+            }
+            start += length(entry);
+        }
+        out.flush()
+    };
+    match print() {
+        Err(e) if e.kind() != std::io::ErrorKind::BrokenPipe => Err(Failed::Work(format!("standard output: {e}"))),
+        _ => Ok(()),
+    }
+}
+
+pub fn check(w: &Written) -> Result<(), Failed> {
+    if w.words.is_empty() {
+        return Err(Failed::Words("expected a FILE".into()));
+    }
+    let mut bad = 0;
+    for file in &w.words {
+        match entries(file) {
+            Ok((all, (capacity, body))) => {
+                let used: u64 = all.iter().map(length).sum();
+                let marks = all.iter().filter(|e| **e == Entry::Mark).count();
+                let records = counted((all.len() - marks) as u64, "record");
+                let marks = counted(marks as u64, "mark");
+                let (used, body, n) = (grouped(used), grouped(body as u64), all.len());
+                println!(
+                    "{}: sound: {records}, {marks}, {used} of {body} bytes, {n} of {capacity} entries",
+                    file.display()
+                );
+            }
+            Err(Failed::Work(why) | Failed::Words(why)) => {
+                bad += 1;
+                println!("{why}");
+            }
+        }
+    }
+    match bad {
+        0 => Ok(()),
+        n => Err(Failed::Work(format!("{n} of {} not found sound", w.words.len()))),
+    }
+}
+
+#[cfg(test)]
+mod tests {
+    #[test]
+    fn thousands_are_apart() {
+        for (n, text) in [(0, "0"), (999, "999"), (1_000, "1,000"), (1_234_567, "1,234,567")] {
+            assert_eq!(super::grouped(n), text);
+        }
+    }
+}

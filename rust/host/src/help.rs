@@ -1,0 +1,136 @@
+//! What `--help` prints.
+
+pub const PROGRAM: &str = "\
+mossgoblin: a tape vault that speaks NDMP version 4 over TCP
+
+  mossgoblin serve   put a cartridge on a port: backups go to it, recovers come from it
+  mossgoblin new     make an empty cartridge, which is one file
+  mossgoblin list    print what is on a cartridge
+  mossgoblin check   say whether a cartridge is sound
+  mossgoblin try     make a backup and a recover, and compare
+
+  mossgoblin COMMAND --help   what the command does, its options and examples
+  mossgoblin --version        the version
+
+Exit codes: 0 done, 1 not done (one line on standard error says why), 2 wrong command line.
+
+Examples:
+  mossgoblin try
+  mossgoblin new tape 128M
+  mossgoblin serve --listen 127.0.0.1:10000 --cartridge tape --account vault:noon --stream docs
+";
+
+pub const SERVE: &str = "\
+mossgoblin serve: put a cartridge on a port, for any NDMP v4 client
+
+  mossgoblin serve --listen ADDRESS:PORT --cartridge FILE --account ID:PASSWORD
+                   [--new-cartridge SIZE] [--stream DIR|FILE] [--restore-to DIR|FILE]
+                   [--status [ADDRESS:]PORT] [--idle SECONDS] [--quiet]
+
+  --listen ADDRESS:PORT   where clients connect, such as 127.0.0.1:10000; with port 0
+                          the system chooses one. `listening on ADDRESS:PORT` is the
+                          first line on standard output.
+  --cartridge FILE        the tape: one file with the table of records and their bytes
+  --new-cartridge SIZE    make FILE first; it must not exist. SIZE is the room for data:
+                          bytes, or with K, M, G behind the number; at most 128M.
+                          The table has room for 4,096 records and marks.
+  --account ID:PASSWORD   the one account for the text login; the password may hold
+                          colons, and both are seen by those who may list processes
+  --stream DIR|FILE       what a backup reads: a folder goes to tape as a tar archive,
+                          a file as its bytes
+  --restore-to DIR|FILE   where a recover writes: an archive is unpacked into a folder
+                          that is there; any other name is a file for the bytes
+  --status [ADDRESS:]PORT a page for a browser with sessions, window, tape and log, and
+                          the same as JSON at /status.json. Without ADDRESS only this
+                          machine reaches it. Whoever reaches it reads it: it has no
+                          login, and can change nothing.
+  --idle SECONDS          end a connection that sends nothing for so long (3600)
+  --quiet                 no progress on standard error, only errors
+
+The devices are `tape0` and `changer0`, the method is `dump`, addresses are LOCAL.
+A backup, seen from the client: connect open (version 4), client auth (text), tape open
+`tape0` for writing, mover set record size, mover set window, mover listen (mode 0),
+data connect, data start backup. At `mover paused` with reason 5 (end of window): set the
+next window and continue. At `data halted`: data stop, mover stop, tape close.
+A recover is the same with mode 1 and data start recover, from a rewound tape; the mover
+reads are made by the vault.
+
+One session at a time has the tape: tape open in a second one is answered with 15.
+The vault runs until it is ended by a signal; what a client was told is on the disk.
+
+Examples:
+  mossgoblin serve --listen 127.0.0.1:10000 --cartridge tape --new-cartridge 128M \\
+                   --account vault:noon --stream docs --restore-to /tmp/restored
+  mossgoblin serve --listen=127.0.0.1:10000 --cartridge=tape --account=vault:noon --status=8080
+";
+
+pub const NEW: &str = "\
+mossgoblin new: make an empty cartridge, which is one file
+
+  mossgoblin new FILE SIZE
+
+  FILE   its name; a file that is there already is not touched
+  SIZE   the room for data: bytes, or with K, M, G behind the number; at most 128M.
+         The table has room for 4,096 records and marks: with records of 32,768 bytes
+         they fill 128M, with records of 1,024 bytes 4M.
+
+Examples:
+  mossgoblin new tape 128M
+  mossgoblin new /var/lib/mossgoblin/tape 64M
+";
+
+pub const LIST: &str = "\
+mossgoblin list: print what is on a cartridge
+
+  mossgoblin list FILE
+
+The first line tells entries and bytes, of how many there is room for. Then comes a line
+for each record and each mark: its number from 0, its length, and where it begins. It is
+read record by record through the same calls that answer a client. A cartridge that a
+vault has open is not read.
+
+Examples:
+  mossgoblin list tape
+  mossgoblin list tape | tail -n 3
+";
+
+pub const CHECK: &str = "\
+mossgoblin check: say whether a cartridge is sound
+
+  mossgoblin check FILE [FILE..]
+
+Sound is what the vault takes: the table fits the file, and its records lie one behind the
+other. One line a cartridge. The exit code is 0 if all are sound, and 1 otherwise. Nothing
+is written. A cartridge that a vault has open is not read.
+
+Examples:
+  mossgoblin check tape
+  mossgoblin check /var/lib/mossgoblin/* && echo all sound
+";
+
+pub const TRY: &str = "\
+mossgoblin try: make a backup and a recover, and compare
+
+  mossgoblin try
+  mossgoblin try ADDRESS:PORT --account ID:PASSWORD [--overwrite]
+                 [--stream DIR|FILE --restore-to DIR|FILE]
+
+Without an address a vault is started on loopback, with a fresh cartridge and some files in
+a temporary folder; all of it is gone at the end. With an address the vault there is tried.
+A line tells each step, with its bytes and rate:
+
+  tape       records are written by tape write requests, read back and compared
+  backup     what the vault's --stream names goes to tape, in windows of 32 records
+  recover    it comes back to what the vault's --restore-to names
+  compared   both, byte for byte, where this machine has them
+
+  --account ID:PASSWORD      as the vault was started with
+  --overwrite                write over the records on the vault's tape; without it a tape
+                             that is not empty is left as it is
+  --stream, --restore-to     the same that the vault was started with, if it runs on this
+                             machine: they are compared at the end
+
+Examples:
+  mossgoblin try
+  mossgoblin try 127.0.0.1:10000 --account vault:noon --overwrite
+";

@@ -1,0 +1,26 @@
+//! A tape vault on TCP: the proved session core answers, this program reads and writes sockets and files.
+pub mod args;
+pub mod cartridge;
+pub mod client;
+pub mod commands;
+mod compare;
+pub mod frames;
+pub mod help;
+mod job;
+mod line;
+mod log;
+mod moves;
+pub mod options;
+pub mod own;
+mod page;
+mod progress;
+mod restore;
+pub mod server;
+pub mod session;
+mod status;
+mod stream;
+pub mod tar;
+pub mod trial;
+pub mod untar;
+mod vault;
+mod watch;

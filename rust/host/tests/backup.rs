@@ -1,0 +1,231 @@
+//! Backup and recover, end to end.
+mod common;
+use common::*;
+use std::fs;
+use std::io::Write;
+
+#[test]
+fn folder_comes_back() {
+    let s = Scratch::new();
+    let (from, to, tape) = (s.folder("from"), s.folder("to"), s.path("tape"));
+    sample(&from);
+    let options = ["--new-cartridge", "4M", "--stream", from.to_str().unwrap(), "--restore-to", to.to_str().unwrap()];
+    let host = Host::start(&tape, &options);
+    let mut c = host.login();
+    let Ended { pauses, why } = c.backup(10_240, 102_400).unwrap();
+    assert_eq!(why, DONE);
+    assert!(pauses >= 2, "{pauses} pauses");
+    assert!(sound(&fs::read(&tape).unwrap()).unwrap().0 > 30);
+    let Ended { pauses, why } = c.recover(10_240, 102_400).unwrap();
+    assert_eq!(why, DONE);
+    assert!(pauses >= 2, "{pauses} pauses");
+    assert_eq!(tree(&from), tree(&to));
+}
+
+#[test]
+fn several_record_sizes_and_one_large_window() {
+    let s = Scratch::new();
+    let (from, tape) = (s.folder("from"), s.path("tape"));
+    sample(&from);
+    fs::write(from.join("big"), noise(9, 3_000_000)).unwrap();
+    let to = s.folder("to");
+    let options = ["--new-cartridge", "8M", "--stream", from.to_str().unwrap(), "--restore-to", to.to_str().unwrap()];
+    let host = Host::start(&tape, &options);
+    for record in [1_000, 4_096, 32_768] {
+        let window = record as u64 * 5_000;
+        let mut c = host.login();
+        // From the tape's start each time: the list is cut there and the room used again.
+        assert_eq!(c.backup(record, window).unwrap(), ended(0, DONE));
+        assert_eq!(c.recover(record, window).unwrap(), ended(0, DONE));
+        assert_eq!(tree(&from), tree(&to));
+        sound(&fs::read(&tape).unwrap()).unwrap();
+        fs::remove_dir_all(&to).unwrap();
+        fs::create_dir(&to).unwrap();
+    }
+}
+
+#[test]
+fn file_comes_back() {
+    let s = Scratch::new();
+    let (from, to, tape) = (s.path("from"), s.path("to"), s.path("tape"));
+    let bytes = noise(5, 100_000);
+    fs::write(&from, &bytes).unwrap();
+    let options = ["--new-cartridge", "1M", "--stream", from.to_str().unwrap(), "--restore-to", to.to_str().unwrap()];
+    let host = Host::start(&tape, &options);
+    let mut c = host.login();
+    assert_eq!(c.backup(1_024, 51_200).unwrap().why, DONE);
+
+    // Up to the tape's end: the last record's fill is there too. The notice of the pause stands before that of the
+    // halt.
+    c.tape_open(TO_READ).unwrap();
+    c.join(1, 1_024, 1_024_000).unwrap();
+    c.start_recover().unwrap();
+    assert_eq!(c.run(0, |_| ()).unwrap(), ended(0, Why::Paused(Mover::END_OF_MEDIUM)));
+    assert_eq!(
+        (c.notice().unwrap().header.message, c.notice().unwrap().header.message),
+        (NOTIFY_DATA_HALTED, NOTIFY_MOVER_HALTED)
+    );
+    c.stop().unwrap();
+    let mut filled = bytes.clone();
+    filled.resize(bytes.len().next_multiple_of(1_024), 0);
+    assert_eq!(fs::read(&to).unwrap(), filled);
+
+    // A client that knows the length says it in a mover read of its own.
+    c.tape_close().unwrap();
+    c.tape_open(TO_READ).unwrap();
+    c.join(1, 1_024, 1_024_000).unwrap();
+    c.good(MOVER_READ, &quads(&[0, 100_000])).unwrap();
+    c.start_recover().unwrap();
+    assert_eq!(c.run(0, |_| ()).unwrap(), ended(0, DONE));
+    assert_eq!(fs::read(&to).unwrap(), bytes);
+}
+
+#[test]
+fn tape_outlives_the_host() {
+    let s = Scratch::new();
+    let (from, to, tape) = (s.folder("from"), s.folder("to"), s.path("tape"));
+    sample(&from);
+    let host = Host::start(&tape, &["--new-cartridge", "4M", "--stream", from.to_str().unwrap()]);
+    let mut c = host.login();
+    assert_eq!(c.backup(8_192, 81_920).unwrap().why, DONE);
+    drop(host);
+    let host = Host::start(&tape, &["--restore-to", to.to_str().unwrap()]);
+    let mut c = host.login();
+    assert_eq!(c.recover(8_192, 81_920).unwrap().why, DONE);
+    assert_eq!(tree(&from), tree(&to));
+}
+
+#[test]
+fn full_tape_pauses_and_an_abort_is_heard() {
+    let s = Scratch::new();
+    let (from, tape) = (s.path("from"), s.path("tape"));
+    fs::write(&from, noise(6, 500_000)).unwrap();
+    let host = Host::start(&tape, &["--new-cartridge", "100K", "--stream", from.to_str().unwrap()]);
+    let mut c = host.login();
+    c.tape_open(TO_WRITE).unwrap();
+    c.join(0, 1_024, 1_024_000).unwrap();
+    c.start_backup().unwrap();
+    assert_eq!(c.run(0, |_| ()).unwrap(), ended(0, Why::Paused(Mover::END_OF_MEDIUM)));
+    c.good(DATA_ABORT, b"").unwrap();
+    assert_eq!(
+        (c.notice().unwrap().header.message, c.notice().unwrap().header.message),
+        (NOTIFY_DATA_HALTED, NOTIFY_MOVER_HALTED)
+    );
+    c.stop().unwrap();
+    assert_eq!(sound(&fs::read(&tape).unwrap()), Ok((100, 102_400)));
+}
+
+#[test]
+fn abort_is_heard_between_two_steps() {
+    let s = Scratch::new();
+    let (from, tape) = (s.path("from"), s.path("tape"));
+    fs::write(&from, noise(8, 40 << 20)).unwrap();
+    let host = Host::start(&tape, &["--new-cartridge", "64M", "--stream", from.to_str().unwrap()]);
+    let mut c = host.login();
+    c.tape_open(TO_WRITE).unwrap();
+    c.join(0, 32_768, 32_768 * 4_000).unwrap();
+    // Start and abort in one packet: the abort is heard before the stream has ended.
+    let (start, abort) = (c.sequence + 1, c.sequence + 2);
+    let both =
+        [request(start, DATA_START_BACKUP, &[text("dump"), words(&[0])].concat()), request(abort, DATA_ABORT, b"")]
+            .concat();
+    c.socket.write_all(&both).unwrap();
+    c.sequence = start;
+    assert_eq!(word(&c.reply(DATA_START_BACKUP).unwrap().body, 0), 0);
+    c.sequence = abort;
+    assert_eq!(word(&c.reply(DATA_ABORT).unwrap().body, 0), 0);
+    let m = c.notice().unwrap();
+    assert_eq!(
+        (m.header.message, word(&m.body, 0), c.notice().unwrap().header.message),
+        (NOTIFY_DATA_HALTED, 2, NOTIFY_MOVER_HALTED)
+    );
+    let moved = quad(&c.good(MOVER_GET_STATE, b"").unwrap(), 28);
+    assert!(moved < 40 << 20);
+    assert_eq!(sound(&fs::read(&tape).unwrap()), Ok((moved / 32_768, moved)));
+}
+
+#[test]
+fn second_backup_behind_a_mark() {
+    let s = Scratch::new();
+    let (from, to, tape) = (s.folder("from"), s.folder("to"), s.path("tape"));
+    sample(&from);
+    let options = ["--new-cartridge", "4M", "--stream", from.to_str().unwrap(), "--restore-to", to.to_str().unwrap()];
+    let host = Host::start(&tape, &options);
+    let mut c = host.login();
+    c.tape_open(TO_WRITE).unwrap();
+    for round in 0..2 {
+        c.join(0, 4_096, 409_600).unwrap();
+        c.start_backup().unwrap();
+        assert_eq!(c.run(409_600, |_| ()).unwrap().why, DONE);
+        c.stop().unwrap();
+        c.good(TAPE_MTIO, &words(&[5, 1])).unwrap();
+        fs::write(from.join("a"), format!("round {round}")).unwrap();
+    }
+    // To the start, and forward over one mark: the second.
+    c.good(TAPE_MTIO, &words(&[4, 1])).unwrap();
+    c.good(TAPE_MTIO, &words(&[0, 1])).unwrap();
+    c.join(1, 4_096, 81_920).unwrap();
+    c.start_recover().unwrap();
+    assert_eq!(c.run(81_920, |_| ()).unwrap().why, DONE);
+    assert_eq!(fs::read(to.join("a")).unwrap(), b"round 0");
+    fs::write(from.join("a"), "round 0").unwrap();
+    assert_eq!(tree(&from), tree(&to));
+}
+
+#[test]
+fn nothing_to_read_or_write_ends_the_method() {
+    let s = Scratch::new();
+    let host = Host::start(&s.path("tape"), &["--new-cartridge", "100K"]);
+    let mut c = host.login();
+    assert_eq!(c.backup(1_024, 10_240).unwrap(), ended(0, Why::Halted(Data::INTERNAL_ERROR)));
+    assert_eq!(c.recover(1_024, 10_240).unwrap(), ended(0, Why::Halted(Data::INTERNAL_ERROR)));
+}
+
+#[test]
+fn archive_does_not_lead_out_of_the_folder() {
+    let s = Scratch::new();
+    let (to, tape) = (s.folder("to"), s.path("tape"));
+    let evil = s.folder("evil/sub");
+    fs::write(evil.join("x"), b"x").unwrap();
+    let archive = s.path("archive");
+    let options =
+        ["--new-cartridge", "1M", "--stream", archive.to_str().unwrap(), "--restore-to", to.to_str().unwrap()];
+    // Archives as a stranger could make them: a path with `..`, a rooted one, and a file behind a link.
+    let tar = |name: &str, kind: u8, link: &str, body: &[u8]| {
+        let mut b = vec![0; 512];
+        b[..name.len()].copy_from_slice(name.as_bytes());
+        b[100..107].copy_from_slice(b"0000644");
+        b[124..135].copy_from_slice(format!("{:011o}", body.len()).as_bytes());
+        b[136..147].copy_from_slice(b"00000000000");
+        b[156] = kind;
+        b[157..157 + link.len()].copy_from_slice(link.as_bytes());
+        b[257..265].copy_from_slice(b"ustar\x0000");
+        b[148..156].fill(b' ');
+        let sum: u32 = b.iter().map(|x| *x as u32).sum();
+        b[148..155].copy_from_slice(format!("{sum:06o}\0").as_bytes());
+        b.extend(body);
+        b.resize(b.len().next_multiple_of(512), 0);
+        b
+    };
+    let outside = s.path("outside");
+    let rooted = format!("{}/file", outside.display());
+    let archives = [
+        tar("../outside", b'0', "", b"out"),
+        tar("a/../../outside", b'0', "", b"out"),
+        tar(&rooted, b'0', "", b"out"),
+        [tar("link", b'2', "..", b""), tar("link/outside", b'0', "", b"out")].concat(),
+        [tar("link", b'2', "../outside", b""), tar("link", b'0', "", b"in")].concat(),
+    ];
+    fs::write(&archive, b"").unwrap();
+    let host = Host::start(&tape, &options);
+    for (i, bytes) in archives.iter().enumerate() {
+        fs::write(&archive, [&bytes[..], &[0; 1024]].concat()).unwrap();
+        let mut c = host.login();
+        assert_eq!(c.backup(512, 51_200).unwrap().why, DONE);
+        // The last replaces the link by a file, which is in the folder.
+        let why = if i == 4 { Data::SUCCESSFUL } else { Data::INTERNAL_ERROR };
+        assert_eq!(c.recover(512, 51_200).unwrap().why, Why::Halted(why), "archive {i}");
+        assert!(!outside.exists());
+    }
+    assert_eq!(fs::read(to.join("link")).unwrap(), b"in");
+}

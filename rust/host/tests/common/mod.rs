@@ -1,0 +1,177 @@
+//! A vault that is started and ended with a value, and what tests judge by.
+#![allow(dead_code, unused_imports)]
+pub use host::client::{Client, Ended, TO_READ, TO_WRITE, Why};
+pub use host::own::{Running, noise};
+pub use proved::{Data, Mover, codes};
+use std::fs;
+use std::ops::{Deref, DerefMut};
+use std::path::{Path, PathBuf};
+use std::process::Command;
+use std::time::Duration;
+pub use wire::message::*;
+pub use wire::{quad, quads, request, text, word, words};
+
+/// A method that ended well.
+pub const DONE: Why = Why::Halted(Data::SUCCESSFUL);
+
+pub fn ended(pauses: u32, why: Why) -> Ended {
+    Ended { pauses, why }
+}
+
+pub struct Scratch(host::own::Scratch);
+
+impl Scratch {
+    pub fn new() -> Scratch {
+        Scratch(host::own::Scratch::new().unwrap())
+    }
+
+    pub fn folder(&self, name: &str) -> PathBuf {
+        fs::create_dir_all(self.path(name)).unwrap();
+        self.path(name)
+    }
+}
+
+impl Deref for Scratch {
+    type Target = host::own::Scratch;
+    fn deref(&self) -> &host::own::Scratch {
+        &self.0
+    }
+}
+
+/// The program.
+pub fn program() -> Command {
+    Command::new(env!("CARGO_BIN_EXE_mossgoblin"))
+}
+
+/// The program with `serve` and what it always needs, for a cartridge.
+pub fn serve(cartridge: &Path) -> Command {
+    let mut command = program();
+    command.args(["serve", "--account", "vault:noon", "--cartridge"]).arg(cartridge);
+    command
+}
+
+pub struct Host(Running);
+
+impl Deref for Host {
+    type Target = Running;
+    fn deref(&self) -> &Running {
+        &self.0
+    }
+}
+
+impl DerefMut for Host {
+    fn deref_mut(&mut self) -> &mut Running {
+        &mut self.0
+    }
+}
+
+impl Host {
+    pub fn start(cartridge: &Path, more: &[&str]) -> Host {
+        Host::spawn(serve(cartridge).args(["--listen", "127.0.0.1:0", "--quiet"]).args(more))
+    }
+
+    pub fn spawn(command: &mut Command) -> Host {
+        Host(Running::start(command).unwrap())
+    }
+
+    pub fn of(running: Running) -> Host {
+        Host(running)
+    }
+
+    pub fn client(&self) -> Client {
+        Client::connect(&self.address).unwrap()
+    }
+
+    /// A client that is logged in.
+    pub fn login(&self) -> Client {
+        let mut client = self.client();
+        login(&mut client);
+        client
+    }
+
+    /// A client of a host that may still be full: it is turned away until one of the others has ended.
+    pub fn login_soon(&self) -> Client {
+        soon(|| {
+            let mut client = self.client();
+            let first = client.receive().ok()?;
+            client.notices.push_back(first);
+            login(&mut client);
+            Some(client)
+        })
+        .expect("every connection is turned away")
+    }
+}
+
+pub fn login(client: &mut Client) {
+    client.login(b"vault", b"noon").unwrap();
+}
+
+/// Opens the tape that another has just left; the host may not have noticed yet.
+pub fn tape_open_soon(client: &mut Client, mode: u32) {
+    soon(|| client.tape_open(mode).ok()).expect("the tape is not free");
+}
+
+/// What is there within ten seconds, however busy the machine is.
+pub fn soon<T>(mut ask: impl FnMut() -> Option<T>) -> Option<T> {
+    for _ in 0..500 {
+        if let Some(x) = ask() {
+            return Some(x);
+        }
+        std::thread::sleep(Duration::from_millis(20));
+    }
+    None
+}
+
+pub fn sample(folder: &Path) {
+    host::own::sample(folder).unwrap();
+}
+
+/// Names, kinds and bytes below a folder.
+pub fn tree(folder: &Path) -> Vec<(PathBuf, Vec<u8>)> {
+    let mut all = Vec::new();
+    let mut todo = vec![folder.to_path_buf()];
+    while let Some(at) = todo.pop() {
+        for entry in fs::read_dir(&at).unwrap() {
+            let path = entry.unwrap().path();
+            let meta = path.symlink_metadata().unwrap();
+            let name = path.strip_prefix(folder).unwrap().to_path_buf();
+            if meta.is_symlink() {
+                all.push((name, format!("link {}", fs::read_link(&path).unwrap().display()).into_bytes()));
+            } else if meta.is_dir() {
+                all.push((name, b"folder".to_vec()));
+                todo.push(path);
+            } else {
+                all.push((name, fs::read(&path).unwrap()));
+            }
+        }
+    }
+    all.sort();
+    all
+}
+
+/// Whether an image is sound, by the words of the rules alone.
+pub fn sound(image: &[u8]) -> Result<(u64, u64), String> {
+    let w = |i: usize| {
+        image
+            .get(4 * i..4 * i + 4)
+            .map(|b| u32::from_be_bytes(b.try_into().unwrap()) as u64)
+            .ok_or("too short".to_string())
+    };
+    let (one, capacity, n, used) = (w(0)?, w(1)?, w(2)?, w(3)?);
+    if one != 1 || capacity == 0 || capacity > 4096 || n > capacity {
+        return Err(format!("header {one} {capacity} {n} {used}"));
+    }
+    let body = (image.len() as u64).checked_sub(16 + 8 * capacity).ok_or("no room for the table")?;
+    if body > 134_217_728 || used > body {
+        return Err(format!("body {body}, used {used}"));
+    }
+    let mut sum = 0;
+    for i in 0..n as usize {
+        let (length, start) = (w(4 + 2 * i)?, w(5 + 2 * i)?);
+        if length > 32_768 || start != sum {
+            return Err(format!("entry {i} of {n}: length {length}, start {start}, expected {sum}"));
+        }
+        sum += length;
+    }
+    if sum != used { Err(format!("used {used}, sum {sum}")) } else { Ok((n, used)) }
+}

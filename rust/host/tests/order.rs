@@ -1,0 +1,274 @@
+//! The cartridge file on a disk that may stop at any moment, and under a host that is killed.
+mod common;
+use common::*;
+use host::cartridge::{Cartridge, Disk};
+use host::session::writes;
+use proved::OUTPUT;
+use std::cell::{Cell, RefCell};
+use std::fs;
+use std::io::{self, Write};
+use std::rc::Rc;
+use std::time::{Duration, Instant};
+
+#[derive(Clone)]
+enum Step {
+    Put(usize, Vec<u8>),
+    Sync,
+}
+
+/// Keeps the steps; can be told to fail at a later one. A write that fails may have been done all the same, a sync that
+/// fails has done nothing.
+#[derive(Default, Clone)]
+struct Recorder {
+    steps: Rc<RefCell<Vec<Step>>>,
+    fails_in: Rc<Cell<Option<usize>>>,
+}
+
+impl Recorder {
+    fn fails(&self) -> bool {
+        let n = self.fails_in.get();
+        self.fails_in.set(n.and_then(|n| n.checked_sub(1)));
+        n == Some(0)
+    }
+}
+
+impl Disk for Recorder {
+    fn put(&mut self, at: usize, bytes: &[u8]) -> io::Result<()> {
+        self.steps.borrow_mut().push(Step::Put(at, bytes.to_vec()));
+        if self.fails() { Err(io::Error::other("put")) } else { Ok(()) }
+    }
+
+    fn sync(&mut self) -> io::Result<()> {
+        if self.fails() {
+            return Err(io::Error::other("sync"));
+        }
+        self.steps.borrow_mut().push(Step::Sync);
+        Ok(())
+    }
+}
+
+/// The records of an image, marks as empty ones; none if it is not sound.
+fn list(image: &[u8]) -> Option<Vec<Vec<u8>>> {
+    let (n, _) = sound(image).ok()?;
+    let body = 16 + 8 * word(image, 4) as usize;
+    let entry = |i: usize| (word(image, 16 + 8 * i) as usize, body + word(image, 20 + 8 * i) as usize);
+    Some((0..n as usize).map(entry).map(|(len, at)| image[at..at + len].to_vec()).collect())
+}
+
+type List = Vec<Vec<u8>>;
+
+/// Whether a file in this state is as it was, cut, or as it shall be; no record is mixed of old and new. After a
+/// failure it may be as it was in two ways.
+fn fair(state: &[u8], old: &[List], new: &List) -> bool {
+    list(state).is_some_and(|l| l == *new || old.iter().any(|o| o.starts_with(&l)))
+}
+
+fn put(file: &mut [u8], at: usize, bytes: &[u8]) {
+    file[at..at + bytes.len()].copy_from_slice(bytes);
+}
+
+/// Runs the steps, and judges every state in which the disk can be left: of the writes since the last sync any may be
+/// missing, and any may be torn, but for the eight bytes of the header, which are written whole. Gives the number of
+/// states, or the first that is not fair.
+fn judge(file: &mut [u8], steps: &[Step], old: &[List], new: &List) -> Result<usize, String> {
+    let mut pending: Vec<(usize, Vec<u8>)> = Vec::new();
+    let mut states = 0;
+    for (number, step) in steps.iter().enumerate() {
+        match step {
+            Step::Sync => pending.drain(..).for_each(|(at, bytes)| put(file, at, &bytes)),
+            Step::Put(at, bytes) => pending.push((*at, bytes.clone())),
+        }
+        for some in 0..1usize << pending.len() {
+            let mut state = file.to_vec();
+            let chosen: Vec<_> = (0..pending.len()).filter(|i| some >> i & 1 == 1).collect();
+            for i in &chosen {
+                let (at, bytes) = &pending[*i];
+                let cuts: Vec<usize> = if *at == 8 {
+                    vec![bytes.len()]
+                } else {
+                    (0..=bytes.len()).step_by(37).chain([bytes.len()]).collect()
+                };
+                for cut in cuts {
+                    put(&mut state, *at, &bytes[..cut]);
+                    states += 1;
+                    if !fair(&state, old, new) {
+                        return Err(format!("step {number}, write at {at} cut to {cut}: {:?}", sound(&state)));
+                    }
+                }
+            }
+        }
+    }
+    if pending.is_empty() && list(file).as_ref() == Some(new) {
+        Ok(states)
+    } else {
+        Err("the file is not up to date at the end".into())
+    }
+}
+
+struct Deck {
+    session: proved::Session,
+    out: Vec<u8>,
+    cartridge: Cartridge<Recorder>,
+}
+
+impl Deck {
+    fn call(&mut self, message: u32, body: &[u8]) {
+        let record = request(1, message, body);
+        let before = self.session.tape.position;
+        let done =
+            proved::request(self.session, b"vault", b"noon", &mut self.cartridge.image, &record, 0, &mut self.out);
+        if writes(&record) && done.session.tape.position != before {
+            self.cartridge.written(before);
+        }
+        self.session = done.session;
+    }
+}
+
+/// What brought the file up to date, and the list of records before and after.
+type Run = (Vec<Step>, Vec<List>, List);
+
+/// Tape writes, marks and spacing, with the file brought up to date now and then.
+fn runs(seed: u64, failing: bool) -> (Vec<u8>, Vec<Run>) {
+    let mut image = words(&[1, 12, 0, 0]);
+    image.extend(noise(seed, 12 * 8 + 3_000));
+    let first = image.clone();
+    let disk = Recorder::default();
+    let Recorder { steps, fails_in } = disk.clone();
+    let mut out = vec![0; OUTPUT];
+    let session = proved::open(0, &mut out).session;
+    let mut deck = Deck { session, out, cartridge: Cartridge::new(image, disk) };
+    deck.call(CONNECT_CLIENT_AUTH, &[words(&[1]), text("vault"), text("noon")].concat());
+    deck.call(TAPE_OPEN, &[text("tape0"), words(&[1])].concat());
+    let chance = noise(seed + 1_000, 400);
+    let mut all = Vec::new();
+    let mut old = vec![list(&first).unwrap()];
+    for (i, c) in chance.chunks(4).enumerate() {
+        match c[0] % 8 {
+            0..=3 => {
+                let n = c[1] as usize * 3;
+                let mut body = words(&[n as u32]);
+                body.extend(noise(seed * 1_000 + i as u64, n.next_multiple_of(4)));
+                deck.call(TAPE_WRITE, &body);
+            }
+            4 => deck.call(TAPE_MTIO, &words(&[5, c[1] as u32 % 3])),
+            5 => deck.call(TAPE_MTIO, &words(&[4, 0])),
+            6 => deck.call(TAPE_MTIO, &words(&[3, c[1] as u32 % 4])),
+            _ => deck.call(TAPE_MTIO, &words(&[2, c[1] as u32 % 4])),
+        }
+        if c[2] % 3 > 0 {
+            fails_in.set(failing.then_some(c[3] as usize % 12));
+            let stored = deck.cartridge.store();
+            let new = list(&deck.cartridge.image).unwrap();
+            if stored.is_ok() {
+                all.push((steps.take(), old, new.clone()));
+                old = vec![new];
+            } else {
+                old.push(new);
+            }
+        }
+    }
+    (first, all)
+}
+
+#[test]
+fn every_state_between_two_writes_is_sound() {
+    let mut states = 0;
+    for seed in 0..20 {
+        let (mut file, all) = runs(seed, false);
+        for (steps, old, new) in all {
+            states += judge(&mut file, &steps, &old, &new).unwrap_or_else(|e| panic!("seed {seed}: {e}"));
+        }
+    }
+    assert!(states > 10_000, "{states} states");
+}
+
+#[test]
+fn after_a_failed_write_the_next_puts_it_right() {
+    let mut retried = 0;
+    for seed in 20..40 {
+        let (mut file, all) = runs(seed, true);
+        for (steps, old, new) in all {
+            retried += (old.len() > 1) as u32;
+            judge(&mut file, &steps, &old, &new).unwrap_or_else(|e| panic!("seed {seed}: {e}"));
+        }
+    }
+    assert!(retried > 100, "{retried}");
+}
+
+/// The judge is not blind: without the cut, or without the syncs, a bad state is found.
+#[test]
+fn other_orders_are_found_out() {
+    let (mut uncut, mut unsynced) = (0, 0);
+    for seed in 0..20 {
+        let (mut file, all) = runs(seed, false);
+        for (steps, old, new) in all {
+            let cut = steps.len() == 7;
+            if cut {
+                uncut += judge(&mut file.clone(), &steps[2..], &old, &new).is_err() as u32;
+            }
+            let loose: Vec<Step> =
+                steps.iter().filter(|s| matches!(s, Step::Put(..))).cloned().chain([Step::Sync]).collect();
+            unsynced += judge(&mut file.clone(), &loose, &old, &new).is_err() as u32;
+            judge(&mut file, &steps, &old, &new).unwrap();
+        }
+    }
+    assert!(uncut > 20 && unsynced > 20, "{uncut} {unsynced}");
+}
+
+const WINDOW: u64 = 32_768 * 64;
+
+/// At each pause the next window, without waiting for the replies, until the connection ends.
+fn next_windows(mut c: Client) {
+    let mut offset = 0;
+    while let Ok(m) = c.receive() {
+        if m.header.message == NOTIFY_MOVER_PAUSED {
+            offset += WINDOW;
+            let window = quads(&[offset, WINDOW]);
+            if c.socket
+                .write_all(&[request(1, MOVER_SET_WINDOW, &window), request(2, MOVER_CONTINUE, b"")].concat())
+                .is_err()
+            {
+                break;
+            }
+        }
+    }
+}
+
+#[test]
+fn killed_during_a_backup() {
+    let s = Scratch::new();
+    let tape = s.path("tape");
+    let bytes: Vec<Vec<u8>> = (0..2).map(|i| noise(20 + i, 24 << 20)).collect();
+    let names: Vec<_> = (0..2).map(|i| s.path(&format!("from{i}"))).collect();
+    names.iter().zip(&bytes).for_each(|(n, b)| fs::write(n, b).unwrap());
+    let chance = noise(77, 1_000);
+    let started = Instant::now();
+    let (mut rounds, mut partial) = (0, 0);
+    while started.elapsed() < Duration::from_secs(4) && rounds < 200 {
+        let which = rounds % 2;
+        let mut options = vec!["--stream", names[which].to_str().unwrap()];
+        if rounds == 0 {
+            options.extend(["--new-cartridge", "32M"]);
+        }
+        // A start is a test of the file too: the core judges it.
+        let mut host = Host::start(&tape, &options);
+        let mut c = host.login();
+        c.tape_open(TO_WRITE).unwrap();
+        c.join(0, 32_768, WINDOW).unwrap();
+        c.start_backup().unwrap();
+        let client = std::thread::spawn(move || next_windows(c));
+        std::thread::sleep(Duration::from_micros(chance[rounds] as u64 * 200));
+        host.child.kill().unwrap();
+        host.child.wait().unwrap();
+        client.join().unwrap();
+        let image = fs::read(&tape).unwrap();
+        let (n, used) = sound(&image).unwrap();
+        let body = &image[16 + 8 * 4_096..][..used as usize];
+        // The records are the start of one stream, and not of both.
+        assert!(bytes.iter().any(|b| b[..used as usize] == *body), "round {rounds}: {n} records");
+        partial += (used > 0 && used < 24 << 20) as u32;
+        rounds += 1;
+    }
+    println!("{rounds} kills, {partial} with a part of the stream on tape");
+    assert!(rounds >= 5);
+}

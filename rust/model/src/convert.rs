@@ -1,0 +1,111 @@
+//! The model's state and the core's session, one as the other.
+
+use crate::model::State;
+use crate::model::state;
+use proved::{Changer, Data, Login, Mover, Session, Tape};
+
+pub fn session(s: &State) -> Session {
+    let (offset, length) = s.mover.window;
+    Session {
+        closed: s.closed,
+        first: s.fresh,
+        login: Login { authorized: s.authorized },
+        sequence: s.number,
+        source: Data {
+            state: s.data.state,
+            operation: s.data.operation,
+            reason: s.data.halt,
+            processed: s.data.processed,
+        },
+        mover: Mover {
+            state: s.mover.state,
+            mode: s.mover.mode,
+            pause: s.mover.pause,
+            halt: s.mover.halt,
+            size: s.mover.record_size,
+            offset,
+            length,
+            moved: s.mover.moved,
+            seek: s.mover.seek,
+            left: s.mover.left,
+            origin: s.mover.origin as usize,
+        },
+        tape: Tape { opened: s.tape.open, writable: s.tape.writable, position: s.tape.position as usize },
+        changer: Changer { opened: s.changer.open, pending: s.changer.pending },
+    }
+}
+
+pub fn state(s: &Session) -> State {
+    State {
+        closed: s.closed,
+        fresh: s.first,
+        authorized: s.login.authorized,
+        number: s.sequence,
+        data: state::Data {
+            state: s.source.state,
+            operation: s.source.operation,
+            halt: s.source.reason,
+            processed: s.source.processed,
+        },
+        mover: state::Mover {
+            state: s.mover.state,
+            mode: s.mover.mode,
+            pause: s.mover.pause,
+            halt: s.mover.halt,
+            record_size: s.mover.size,
+            window: (s.mover.offset, s.mover.length),
+            moved: s.mover.moved,
+            seek: s.mover.seek,
+            left: s.mover.left,
+            origin: s.mover.origin as u64,
+        },
+        tape: state::Tape { open: s.tape.opened, writable: s.tape.writable, position: s.tape.position as u64 },
+        changer: state::Changer { open: s.changer.opened, pending: s.changer.pending },
+    }
+}
+
+/// Every field of a session by its name, for scripts, changes and differences.
+macro_rules! named {
+    ($($name:literal $($path:ident).+ : $t:ident),* $(,)?) => {
+        pub fn fields(s: &Session) -> Vec<(&'static str, u64)> {
+            vec![$(($name, s.$($path).+ as u64)),*]
+        }
+        /// None: no such field.
+        pub fn set_field(s: &mut Session, name: &str, x: u64) -> Option<()> {
+            match name {
+                $($name => s.$($path).+ = named!(@cast $t x),)*
+                _ => return None,
+            }
+            Some(())
+        }
+    };
+    (@cast bool $x:ident) => { $x != 0 };
+    (@cast $t:ident $x:ident) => { $x as $t };
+}
+
+named! {
+    "closed" closed: bool,
+    "first" first: bool,
+    "authorized" login.authorized: bool,
+    "sequence" sequence: u32,
+    "data.state" source.state: u32,
+    "data.operation" source.operation: u32,
+    "data.reason" source.reason: u32,
+    "data.processed" source.processed: u64,
+    "mover.state" mover.state: u32,
+    "mover.mode" mover.mode: u32,
+    "mover.pause" mover.pause: u32,
+    "mover.halt" mover.halt: u32,
+    "mover.size" mover.size: u32,
+    "mover.offset" mover.offset: u64,
+    "mover.length" mover.length: u64,
+    "mover.moved" mover.moved: u64,
+    "mover.seek" mover.seek: u64,
+    "mover.left" mover.left: u64,
+    "mover.origin" mover.origin: usize,
+    "tape.opened" tape.opened: bool,
+    "tape.writable" tape.writable: bool,
+    "tape.position" tape.position: usize,
+    "changer.opened" changer.opened: bool,
+    "changer.pending" changer.pending: bool,
+}

@@ -1,0 +1,293 @@
+//! What was reached, how often, and what has to be.
+
+use std::collections::BTreeMap;
+
+use crate::model::requests::HANDLED;
+use crate::script::Step;
+use crate::world::{Seen, World};
+use proved::Session;
+use wire::word;
+
+#[derive(Default)]
+pub struct Counts(BTreeMap<String, u64>);
+
+/// Every number that a message can be answered with, by the table of refusals. 18 stands with each; the close has no
+/// other reply.
+fn numbers(message: u32) -> &'static [u32] {
+    match message {
+        0x900 => &[0, 9, 19],
+        0x901 => &[0, 4, 9],
+        0x902 => &[],
+        0x108 => &[0],
+        0x102 => &[0, 4],
+        0x200 => &[0, 3, 4, 16],
+        0x201 | 0x202 | 0x204 => &[0, 4, 6],
+        0x206 => &[0, 4, 6, 9],
+        0x300 => &[0, 3, 4, 9, 15, 16],
+        0x301 => &[0, 4, 6, 19],
+        0x302 => &[0, 4, 6, 7],
+        0x303 => &[0, 1, 4, 5, 6, 7, 9, 12, 13, 19],
+        0x304 => &[0, 4, 5, 6, 7, 9, 13, 19],
+        0x305 => &[0, 4, 6, 7, 9, 12, 13, 19],
+        0x400 | 0xa00 => &[0, 4],
+        0x401 | 0x402 | 0x409 => &[0, 4, 9, 19],
+        0x403 | 0x407 | 0xa03 | 0xa04 | 0xa07 => &[0, 4, 19],
+        0x40a => &[0, 4, 9, 19, 23],
+        0xa01 => &[0, 4, 5, 6, 9, 19, 26],
+        0xa02 => &[0, 4, 5, 6, 19, 26],
+        0xa05 => &[0, 4, 9, 19, 26],
+        0xa06 => &[0, 4, 9, 19, 25],
+        0xa08 => &[0, 4, 9, 19],
+        0xa09 => &[0, 4, 5, 6, 9, 19, 23, 26],
+        _ => unreachable!(),
+    }
+}
+
+/// Sizes and numbers at their limits.
+const EDGES: [&str; 8] = [
+    "window's end near 2^64",
+    "to tape near 2^64",
+    "from tape near 2^64",
+    "to tape, record of 32,768",
+    "from tape, record of 32,768",
+    "tape read of 32,768",
+    "tape write of 32,768",
+    "a table of 4,096 entries",
+];
+
+/// Everything that has to be reached at least once.
+pub fn wanted() -> Vec<String> {
+    let mut all = vec!["reply unknown 1".to_string()];
+    for message in HANDLED {
+        all.push(format!("reply {message:03x} 18"));
+        all.extend(numbers(message).iter().map(|n| format!("reply {message:03x} {n}")));
+    }
+    // MTIO by op: its ends, marks and plain success; 5 also with count 0.
+    for (op, numbers) in [
+        (0, &[0, 13][..]),
+        (1, &[0, 13]),
+        (2, &[0, 12, 13]),
+        (3, &[0, 12, 13]),
+        (4, &[0]),
+        (5, &[0, 13]),
+        (6, &[1]),
+        (7, &[9]),
+    ] {
+        all.extend(numbers.iter().map(|n| format!("mtio op {op} {n}")));
+    }
+    all.push("mtio op 5 count 0".into());
+    // Pairs that calls reach. PAUSED needs data ACTIVE, and only joined ends are CONNECTED, ACTIVE or PAUSED.
+    for d in ["IDLE", "HALTED", "LISTEN"] {
+        for m in ["IDLE", "LISTEN", "HALTED"] {
+            all.push(format!("pair {d} {m}"));
+        }
+    }
+    for pair in ["CONNECTED ACTIVE", "ACTIVE ACTIVE", "ACTIVE PAUSED"] {
+        all.push(format!("pair {pair}"));
+    }
+    // A session that is handed in can have this one too.
+    all.push("handed in: pair CONNECTED PAUSED".into());
+    for rule in [
+        "(1) not running",
+        "(2) fault",
+        "(3) end",
+        "(4) EOW",
+        "(5) waits",
+        "(6) EOM",
+        "(7) whole record",
+        "(7) filled record",
+    ] {
+        all.push(format!("to tape {rule}"));
+    }
+    for rule in [
+        "not running",
+        "fault",
+        "nothing left",
+        "no destination room",
+        "SEEK before the window",
+        "SEEK after the window",
+        "EOF on the way",
+        "EOF at the target",
+        "EOM",
+        "record of another length",
+        "handed over, all that was left",
+        "handed over, the record's rest",
+        "handed over, the destination's room",
+    ] {
+        all.push(format!("from tape {rule}"));
+    }
+    all.extend(["not active", "successful", "internal error"].map(|r| format!("method's end {r}")));
+    all.extend(["badly framed", "ignored", "closing"].map(|r| format!("request {r}")));
+    all.push("notice 502 0".into());
+    all.extend([1, 2, 3, 4].map(|r| format!("notice 501 {r}")));
+    all.extend([1, 2, 5].map(|r| format!("notice 503 {r}")));
+    all.extend([1, 2, 3, 5].map(|r| format!("notice 504 {r}")));
+    for call in ["request", "to tape", "from tape", "method's end"] {
+        all.push(format!("{call} 1001"));
+        all.push(format!("{call} 1002"));
+        all.push(format!("{call} closed"));
+    }
+    all.push("open 1001".into());
+    all.extend((1..=8).map(|line| format!("1002 line {line}")));
+    all.extend(EDGES.map(|e| format!("edge {e}")));
+    all.extend(
+        ["counter wraps", "moved wraps", "processed wraps", "closed and 1001", "closed and 1002"].map(String::from),
+    );
+    all
+}
+
+impl Counts {
+    fn add(&mut self, key: String) {
+        *self.0.entry(key).or_insert(0) += 1;
+    }
+
+    pub fn note(&mut self, step: &Step, seen: &Seen, before: &Session, world: &World) {
+        let given = &seen.given;
+        let call = match step {
+            Step::Open { .. } => "open",
+            Step::Request { .. } => "request",
+            Step::To { .. } => "to tape",
+            Step::From { .. } => "from tape",
+            Step::End { .. } => "method's end",
+            _ => return,
+        };
+        if given.code != 0 {
+            self.add(format!("{call} {}", given.code));
+            if given.code == 1002 {
+                self.add(format!("1002 {}", given.rule));
+            }
+            if seen.closed_before && call != "open" {
+                self.add(format!("closed and {}", given.code));
+            }
+            return;
+        }
+        self.add(format!("{call} {}", given.rule));
+        self.messages(step, &given.sent);
+        let after = &world.session;
+        if call != "open" {
+            for (what, wraps) in [
+                ("counter", after.sequence < before.sequence),
+                ("moved", given.count > 0 && after.mover.moved < before.mover.moved),
+                ("processed", given.count > 0 && after.source.processed < before.source.processed),
+            ] {
+                if wraps {
+                    self.add(format!("{what} wraps"));
+                }
+            }
+        }
+        self.edges(step, given.count, &given.sent, before, world);
+        let pair = format!("pair {} {}", after.source.state_name(), after.mover.state_name());
+        self.add(if world.natural { pair } else { format!("handed in: {pair}") });
+    }
+
+    fn edges(&mut self, step: &Step, count: usize, sent: &[u8], before: &Session, world: &World) {
+        let (now, near) = (&world.session.mover, u64::MAX - (1 << 20));
+        let accepted =
+            |message: u32| sent.len() >= 32 && word(sent, 12) == 1 && word(sent, 16) == message && word(sent, 28) == 0;
+        let moves = match step {
+            Step::To { .. } if count > 0 => [now.moved > near, count == 32_768, false],
+            Step::From { .. } if count > 0 => [now.seek > near, false, count == 32_768],
+            _ => [false; 3],
+        };
+        let to = matches!(step, Step::To { .. });
+        for (what, reached) in [
+            ("window's end near 2^64", accepted(0xa05) && now.offset + now.length > near),
+            ("to tape near 2^64", to && moves[0]),
+            ("from tape near 2^64", !to && moves[0]),
+            ("to tape, record of 32,768", moves[1]),
+            ("from tape, record of 32,768", moves[2]),
+            ("tape read of 32,768", accepted(0x305) && word(sent, 32) == 32_768),
+            ("tape write of 32,768", accepted(0x304) && word(sent, 32) == 32_768),
+            (
+                "a table of 4,096 entries",
+                accepted(0x303)
+                    && before.tape.position != world.session.tape.position
+                    && world.image[8..12] == [0, 0, 16, 0],
+            ),
+        ] {
+            if reached {
+                self.add(format!("edge {what}"));
+            }
+        }
+    }
+
+    /// Reads what was sent back: replies by number and error, notices by number and reason.
+    fn messages(&mut self, step: &Step, mut sent: &[u8]) {
+        while !sent.is_empty() {
+            let length = (word(sent, 0) & 0x7fff_ffff) as usize + 4;
+            let (kind, message, error) = (word(sent, 12), word(sent, 16), word(sent, 24));
+            if kind == 0 {
+                self.add(format!("notice {message:03x} {}", word(sent, 28)));
+            } else if !HANDLED.contains(&message) {
+                self.add(format!("reply unknown {error}"));
+            } else {
+                let place = if matches!(message, 0x302 | 0x400) { 32 } else { 28 };
+                let number = if length == 28 { error } else { word(sent, place) };
+                self.add(format!("reply {message:03x} {number}"));
+                if let (0x303, Step::Request { input, .. }) = (message, step)
+                    && length > 28
+                {
+                    self.add(format!("mtio op {} {number}", word(input, 28)));
+                    if word(input, 28) == 5 && word(input, 32) == 0 && number == 0 {
+                        self.add("mtio op 5 count 0".into());
+                    }
+                }
+            }
+            sent = &sent[length..];
+        }
+    }
+
+    /// What was never reached.
+    pub fn missing(&self) -> Vec<String> {
+        wanted().into_iter().filter(|key| !self.0.contains_key(key)).collect()
+    }
+
+    fn get(&self, key: &str) -> u64 {
+        self.0.get(key).copied().unwrap_or(0)
+    }
+
+    fn with(&self, start: &str) -> String {
+        let found: Vec<String> = self
+            .0
+            .iter()
+            .filter(|(k, _)| k.starts_with(start))
+            .map(|(k, n)| format!("{} {n}", &k[start.len()..]))
+            .collect();
+        found.join(", ")
+    }
+
+    pub fn print(&self) {
+        println!("replies, number: how often");
+        for message in HANDLED {
+            let row: Vec<String> = [0, 1, 3, 4, 5, 6, 7, 9, 12, 13, 15, 16, 18, 19, 23, 25, 26]
+                .iter()
+                .map(|n| (n, self.get(&format!("reply {message:03x} {n}"))))
+                .filter(|(_, count)| *count > 0)
+                .map(|(n, count)| format!("{n}: {count}"))
+                .collect();
+            println!("  {message:03x}  {}", row.join("  "));
+        }
+        println!("  unknown  1: {}", self.get("reply unknown 1"));
+        for (title, start) in [
+            ("MTIO, op number", "mtio op "),
+            ("data and mover", "pair "),
+            ("to tape", "to tape "),
+            ("from tape", "from tape "),
+            ("method's end", "method's end "),
+            ("request", "request "),
+            ("open", "open "),
+            ("notices, number reason", "notice "),
+            ("1002 by line of docs/RELATION.md", "1002 "),
+            ("closed and", "closed and "),
+            ("at the limits", "edge "),
+        ] {
+            println!("{title}: {}", self.with(start));
+        }
+        println!(
+            "wraps: counter {}, moved {}, processed {}",
+            self.get("counter wraps"),
+            self.get("moved wraps"),
+            self.get("processed wraps")
+        );
+    }
+}

@@ -1,0 +1,743 @@
+//! Random sequences of calls. Most steps are what a client would do next, so that sessions get deep; the others are
+//! anything at all.
+
+use std::collections::VecDeque;
+
+use crate::convert::{fields, set_field};
+use crate::images;
+use crate::model::requests::HANDLED;
+use crate::random::Random;
+use crate::script::Step;
+use crate::world::World;
+use proved::Session;
+use wire::{Header, LAST, put_word, word_at};
+
+const ROOM: usize = 36_864;
+
+/// One session's plan: what its client is after.
+pub struct Driver {
+    pub r: Random,
+    mode: u32,
+    size: u32,
+    /// How often a step is wild, in percent.
+    wild: u64,
+    /// A sound image to lend again after a damaged one.
+    spare: Option<Vec<u8>>,
+    queue: VecDeque<Step>,
+    closed_calls: u32,
+}
+
+impl Driver {
+    pub fn new(seed: u64) -> Driver {
+        Driver { r: Random(seed), mode: 0, size: 1, wild: 0, spare: None, queue: VecDeque::new(), closed_calls: 0 }
+    }
+
+    /// A fresh session, its account and its cartridge.
+    pub fn begin(&mut self) -> Vec<Step> {
+        let r = &mut self.r;
+        self.mode = r.pick(&[0, 1]);
+        self.size = match r.below(20) {
+            0 => r.pick(&[32_767, 32_768, 32_768, 32_768, 8192]),
+            1..=3 => r.pick(&[512, 1000, 1024]),
+            _ => r.pick(&[1, 2, 3, 4, 7, 16, 33, 64, 100]),
+        };
+        self.wild = r.pick(&[2, 8, 8, 20, 60]);
+        self.spare = None;
+        self.queue.clear();
+        self.closed_calls = 0;
+        let (id, password) = match r.below(8) {
+            0 => (vec![], vec![]),
+            1 => (b"a".to_vec(), vec![]),
+            2 => {
+                let (a, b) = (r.below(200) as usize, r.below(200) as usize);
+                (r.bytes(a), r.bytes(b))
+            }
+            _ => (b"admin".to_vec(), b"secret!".to_vec()),
+        };
+        let image = if r.percent(4) { images::damaged(r, self.size) } else { images::sound(r, self.size) };
+        let open = Step::Open { time: self.time(), room: self.room() };
+        vec![Step::Account(id, password), Step::Image(image), open]
+    }
+
+    /// None: the session has come to its end.
+    pub fn next(&mut self, w: &World) -> Option<Step> {
+        if let Some(step) = self.queue.pop_front() {
+            return Some(step);
+        }
+        if w.session.closed {
+            self.closed_calls += 1;
+            if self.closed_calls > 4 {
+                return None;
+            }
+            if self.r.percent(10) {
+                self.hand_in(w);
+                return self.queue.pop_front();
+            }
+            return Some(self.anything(w));
+        }
+        let wild = self.wild;
+        Some(if self.r.percent(wild) { self.anything(w) } else { self.sensible(w) })
+    }
+
+    fn time(&mut self) -> u32 {
+        self.r.next() as u32
+    }
+
+    fn room(&mut self) -> usize {
+        match self.r.below(60) {
+            0 => self.r.pick(&[0, 1, 40, 36_863, 36_860]),
+            1 => self.r.within(36_865, 40_000) as usize,
+            _ => ROOM,
+        }
+    }
+
+    // Records.
+
+    fn request(&mut self, message: u32, body: &[u8]) -> Step {
+        let sequence = self.r.next() as u32;
+        let time = self.r.next() as u32;
+        // Reply sequence and error are not judged.
+        let other = if self.r.percent(5) { self.r.next() as u32 } else { 0 };
+        let input = Header { sequence, time, kind: 0, message, reply_to: other, error: other }.record(body);
+        Step::Request { time: self.time(), room: self.room(), input }
+    }
+
+    fn plain(&mut self, message: u32) -> Step {
+        self.request(message, &[])
+    }
+
+    fn words(&mut self, message: u32, words: &[u32]) -> Step {
+        self.request(message, &wire::words(words))
+    }
+
+    fn quads(&mut self, message: u32, a: u64, b: u64) -> Step {
+        self.request(message, &wire::quads(&[a, b]))
+    }
+
+    /// Opaque data with its fill, of which now and then a byte is not zero.
+    fn opaque(&mut self, body: &mut Vec<u8>, bytes: &[u8]) {
+        body.extend((bytes.len() as u32).to_be_bytes());
+        body.extend(bytes);
+        while body.len() % 4 != 0 {
+            let rubbish = self.r.percent(1);
+            body.push(if rubbish { self.r.next() as u8 } else { 0 });
+        }
+    }
+
+    // What a client would do next.
+
+    fn sensible(&mut self, w: &World) -> Step {
+        let s = &w.session;
+        if !s.login.authorized {
+            // What comes before auth: a few wrong ones, and a request that has to wait.
+            return match self.r.below(20) {
+                0 => self.some(w, 0x900),
+                1 => self.auth(w, false),
+                2 => {
+                    let message = self.r.pick(&HANDLED);
+                    if message == 0x902 { self.plain(0x108) } else { self.some(w, message) }
+                }
+                _ if s.first && self.r.percent(75) => self.words(0x900, &[4]),
+                _ => self.auth(w, true),
+            };
+        }
+        if self.r.percent(4) {
+            let message = self.r.pick(&[0x400, 0xa00, 0x302, 0x108, 0x102, 0x202]);
+            return self.plain(message);
+        }
+        if self.r.percent(2) {
+            return self.changer(s);
+        }
+        if let Some(image) = self.spare.clone()
+            && self.r.percent(60)
+        {
+            self.spare = None;
+            return Step::Image(image);
+        }
+        if s.source.state == 2 && self.r.percent(60) {
+            return self.plain(0x407);
+        }
+        if s.mover.state == 4 && self.r.percent(60) {
+            return self.plain(0xa04);
+        }
+        if !s.tape.opened && self.r.percent(90) {
+            let mode = if self.mode == 0 && self.r.percent(95) { 1 } else { self.r.pick(&[0, 1]) };
+            return self.tape_open(b"tape0", mode);
+        }
+        // The position is above n: only a close and an open lead out.
+        let n = word_at(&w.image, 8).unwrap_or(0);
+        if s.tape.opened && s.tape.position > n as usize && !matches!(s.mover.state, 1 | 2) && self.r.percent(50) {
+            return self.plain(0x301);
+        }
+        match s.mover.state {
+            0 => self.prepare(s),
+            1 => match s.source.state {
+                0 if self.r.percent(90) => self.words(0x40a, &[0]),
+                _ => {
+                    let message = self.r.pick(&[0x403, 0xa03, 0x407]);
+                    self.plain(message)
+                }
+            },
+            2 => self.run(s),
+            3 => self.paused(w),
+            _ => self.tape_work(),
+        }
+    }
+
+    /// The mover is IDLE.
+    fn prepare(&mut self, s: &Session) -> Step {
+        if self.r.percent(15) {
+            return self.tape_work();
+        }
+        if s.mover.size == 0 || self.r.percent(4) {
+            if self.r.percent(10) {
+                self.size = self.r.pick(&[1, 5, 64, 1024]);
+            }
+            let size = self.size;
+            return self.words(0xa08, &[size]);
+        }
+        if s.mover.length == 0 || self.r.percent(5) {
+            return self.window(s);
+        }
+        let mode = self.mode;
+        match s.source.state {
+            0 if self.r.percent(50) => self.words(0xa01, &[mode, 0]),
+            // Nobody listens.
+            0 if self.r.percent(4) => self.words(0xa09, &[mode, 0]),
+            0 => self.words(0x409, &[0]),
+            3 if self.r.percent(95) => self.words(0xa09, &[mode, 0]),
+            3 => self.words(0xa01, &[mode, 0]),
+            _ => self.plain(0x407),
+        }
+    }
+
+    fn window(&mut self, s: &Session) -> Step {
+        let size = s.mover.size.max(1) as u64;
+        let top = u64::MAX / size;
+        let mode = if s.mover.state == 3 { s.mover.mode } else { self.mode };
+        let records = match self.r.below(20) {
+            0 => top,
+            1 => top - 1,
+            _ => self.r.within(1, 6),
+        };
+        let offset = match (mode, s.mover.state) {
+            (0, 0) => 0,
+            (0, _) => s.mover.moved,
+            (_, 3) if self.r.percent(70) => s.mover.seek / size * size,
+            _ => match self.r.below(10) {
+                0 => (top - self.r.below(4)) * size,
+                1..=3 => self.r.below(5) * size,
+                _ => 0,
+            },
+        };
+        let most = (u64::MAX - offset) / size;
+        let length = records.min(most) * size;
+        // Now and then just off.
+        match self.r.below(40) {
+            0 => self.quads(0xa05, offset, length.wrapping_add(1)),
+            1 => self.quads(0xa05, offset.wrapping_add(1), length),
+            2 => self.quads(0xa05, offset, most.saturating_add(1).saturating_mul(size)),
+            3 => self.quads(0xa05, offset.wrapping_add(size), length),
+            _ => self.quads(0xa05, offset, length),
+        }
+    }
+
+    /// The ends are joined, the mover ACTIVE.
+    fn run(&mut self, s: &Session) -> Step {
+        if s.source.state == 4 {
+            if s.mover.mode == 1 && self.r.percent(20) {
+                return self.mover_read(s);
+            }
+            let backup = (s.mover.mode == 0) == self.r.percent(96);
+            return self.start(backup, b"dump");
+        }
+        match self.r.below(100) {
+            0 => return self.plain(0x403),
+            1 => return self.plain(0xa03),
+            2 => return Step::End { time: self.time(), room: self.room(), ok: self.r.percent(50) },
+            3 => return self.swap(),
+            _ => {}
+        }
+        if s.mover.mode == 0 && s.source.operation == 1 {
+            return self.to_tape(s);
+        }
+        if s.mover.mode == 1 && s.source.operation == 2 {
+            if s.mover.left == 0 && self.r.percent(85) {
+                return self.mover_read(s);
+            }
+            return self.from_tape(s);
+        }
+        // A start that does not fit the mode: nothing moves.
+        match self.r.below(4) {
+            0 => self.to_tape(s),
+            1 => self.from_tape(s),
+            2 => self.plain(0x403),
+            _ => Step::End { time: self.time(), room: self.room(), ok: true },
+        }
+    }
+
+    fn paused(&mut self, w: &World) -> Step {
+        let s = &w.session;
+        match self.r.below(100) {
+            0..=2 => return self.plain(0xa07),
+            3 => return self.plain(0xa03),
+            4 => return self.plain(0x403),
+            5 => return Step::End { time: self.time(), room: self.room(), ok: self.r.percent(50) },
+            6..=8 => return self.plain(0x301),
+            9..=14 => return self.tape_work(),
+            15..=18 => return self.swap(),
+            19..=20 => return self.to_tape(s),
+            21..=22 => return self.from_tape(s),
+            // The tape is full: another one.
+            23..=40 if s.mover.pause == 1 => {
+                let size = self.size;
+                return Step::Image(images::sound(&mut self.r, size));
+            }
+            _ => {}
+        }
+        if s.mover.length == 0 && self.r.percent(96) { self.window(s) } else { self.plain(0xa02) }
+    }
+
+    fn to_tape(&mut self, s: &Session) -> Step {
+        let size = s.mover.size as u64;
+        let length = match self.r.below(16) {
+            0 | 1 => 0,
+            2 => size - size.min(1),
+            3 => self.r.below(size + 1),
+            4 => size + 1,
+            5 => (2 * size).min(60_000),
+            _ => size,
+        };
+        let last = if length < size { self.r.percent(30) } else { self.r.percent(10) };
+        let stream = self.r.bytes(length as usize);
+        Step::To { time: self.time(), room: self.room(), last, stream }
+    }
+
+    fn from_tape(&mut self, s: &Session) -> Step {
+        let size = s.mover.size as u64;
+        let destination = match self.r.below(12) {
+            0 => 0,
+            1 => 1,
+            2 | 3 => self.r.below(size + 1),
+            4 => size + 1,
+            5 => self.r.within(0, 70_000),
+            _ => size,
+        };
+        Step::From { time: self.time(), room: self.room(), destination: destination as usize }
+    }
+
+    fn mover_read(&mut self, s: &Session) -> Step {
+        let size = s.mover.size.max(1) as u64;
+        let (offset, length) = (s.mover.offset, s.mover.length);
+        let place = match self.r.below(14) {
+            0 => offset.wrapping_sub(1),
+            1 => offset.wrapping_add(length),
+            2 => offset.wrapping_add(length).wrapping_sub(1),
+            3 | 4 => s.mover.seek,
+            5 => self.r.pick(&[0, u64::MAX, u64::MAX - 1, 1 << 63]),
+            _ => offset.wrapping_add(self.r.below(length.clamp(1, 6 * size))),
+        };
+        let many = match self.r.below(16) {
+            0 => 0,
+            1 => u64::MAX - place,
+            2 => (u64::MAX - place).wrapping_add(1),
+            3 => 1,
+            4 => u64::MAX,
+            5..=8 => size,
+            _ => self.r.within(1, 4 * size),
+        };
+        self.quads(0xa06, place, many)
+    }
+
+    fn start(&mut self, backup: bool, method: &[u8]) -> Step {
+        let mut body = vec![];
+        let few = |r: &mut Random| if r.percent(6) { r.pick(&[63, 64, 65, 66, u32::MAX]) } else { r.below(4) as u32 };
+        let pairs = few(&mut self.r);
+        let names = few(&mut self.r);
+        if backup {
+            self.opaque(&mut body, method);
+        }
+        body.extend(pairs.to_be_bytes());
+        for _ in 0..pairs.min(66) {
+            for _ in 0..2 {
+                let text = self.text(9);
+                self.opaque(&mut body, &text);
+            }
+        }
+        if !backup {
+            body.extend(names.to_be_bytes());
+            for _ in 0..names.min(66) {
+                for _ in 0..4 {
+                    let text = self.text(7);
+                    self.opaque(&mut body, &text);
+                }
+                body.extend(self.r.bytes(16));
+            }
+            self.opaque(&mut body, method);
+        }
+        self.request(if backup { 0x401 } else { 0x402 }, &body)
+    }
+
+    fn text(&mut self, most: u64) -> Vec<u8> {
+        let n = self.r.below(most);
+        self.r.bytes(n as usize)
+    }
+
+    fn auth(&mut self, w: &World, right: bool) -> Step {
+        let (mut id, mut password) = (w.id.clone(), w.password.clone());
+        let mut kind = 1u32;
+        if !right {
+            match self.r.below(8) {
+                0 => id.push(0),
+                1 => password.push(0),
+                2 => std::mem::swap(&mut id, &mut password),
+                3 => drop(password.pop()),
+                4 => password = self.text(10),
+                5 | 6 => kind = self.r.pick(&[0, 2, 3, u32::MAX]),
+                _ => {}
+            }
+        }
+        let mut body = kind.to_be_bytes().to_vec();
+        if kind == 1 {
+            self.opaque(&mut body, &id);
+            self.opaque(&mut body, &password);
+        } else {
+            let rest = self.text(40);
+            body.extend(rest);
+        }
+        self.request(0x901, &body)
+    }
+
+    fn tape_open(&mut self, name: &[u8], mode: u32) -> Step {
+        let mut body = vec![];
+        self.opaque(&mut body, name);
+        body.extend(mode.to_be_bytes());
+        self.request(0x300, &body)
+    }
+
+    /// Reads, writes and MTIO.
+    fn tape_work(&mut self) -> Step {
+        let size = self.size;
+        match self.r.below(10) {
+            0 | 1 => {
+                let count = self.r.pick(&[0, 1, size, size, size + 1, 32_768, 32_768]);
+                self.words(0x305, &[count])
+            }
+            2 | 3 => {
+                let length = self.r.pick(&[0, 1, size, size, size + 1]);
+                let data = self.r.bytes(length as usize);
+                let mut body = vec![];
+                self.opaque(&mut body, &data);
+                self.request(0x304, &body)
+            }
+            4 => self.words(0x303, &[4, 0]),
+            _ => {
+                let op = self.r.pick(&[0, 1, 2, 3, 5]);
+                let count = self.r.pick(&[0, 1, 1, 1, 2, 2, 3, 5, u32::MAX]);
+                self.words(0x303, &[op, count])
+            }
+        }
+    }
+
+    fn changer(&mut self, s: &Session) -> Step {
+        if !s.changer.opened {
+            let mut body = vec![];
+            self.opaque(&mut body, b"changer0");
+            return self.request(0x200, &body);
+        }
+        match self.r.below(12) {
+            0 => self.plain(0x201),
+            1 => self.plain(0x204),
+            2 => self.plain(0x202),
+            _ => self.cdb(),
+        }
+    }
+
+    fn cdb(&mut self) -> Step {
+        let n = self.r.pick(&[0, 1, 4, 5, 6, 6, 6, 10, 12, 16, 17, 40]);
+        let mut cdb = self.r.bytes(n);
+        if n > 0 {
+            cdb[0] = self.r.pick(&[0, 0, 3, 3, 3, 3, 0x12, 0xa5, 0xb8, 0xff, 1]);
+        }
+        if n > 4 {
+            cdb[4] = self.r.pick(&[0, 1, 3, 17, 18, 19, 255]);
+        }
+        let data_in = self.r.pick(&[0, 2, 17, 18, 18, 18, 255, 100_000, u32::MAX]);
+        let mut body = vec![];
+        body.extend(wire::words(&[self.r.below(4) as u32, self.r.next() as u32, data_in]));
+        self.opaque(&mut body, &cdb);
+        let out = self.text(30);
+        self.opaque(&mut body, &out);
+        self.request(0x206, &body)
+    }
+
+    /// Another image under a running session; a damaged one is taken out again some time.
+    fn swap(&mut self) -> Step {
+        let size = self.size;
+        if self.r.percent(60) {
+            return Step::Image(images::sound(&mut self.r, size));
+        }
+        self.spare = Some(images::sound(&mut self.r, size));
+        Step::Image(images::damaged(&mut self.r, size))
+    }
+
+    // Anything at all.
+
+    fn anything(&mut self, w: &World) -> Step {
+        let s = &w.session;
+        match self.r.below(100) {
+            0..=49 => {
+                let message = self.r.pick(&HANDLED);
+                if message == 0x902 && self.r.percent(85) {
+                    return self.words(0x902, &[0]);
+                }
+                let step = self.some(w, message);
+                if self.r.percent(10) { self.bent(step) } else { step }
+            }
+            50..=53 => {
+                let message = match self.r.below(6) {
+                    0 => self.r.next() as u32,
+                    1 => self.r.pick(&[0x501, 0x502, 0x503, 0x504, 0x505]),
+                    2 => self.r.pick(&[0x103, 0x404, 0x307, 0x40b, 0x903, 0x10a, 0x405, 0x408]),
+                    3 => self.r.pick(&HANDLED) ^ 1 << self.r.below(32),
+                    _ => self.r.below(0xb00) as u32,
+                };
+                let body = self.text(20);
+                self.request(message, &body)
+            }
+            54 => {
+                let step = self.sensible(w);
+                self.badly_framed(step)
+            }
+            55..=57 => {
+                let mut step = self.sensible(w);
+                if let Step::Request { input, .. } = &mut step {
+                    let kind = self.r.pick(&[1, 1, 2, u32::MAX, 1 << 24]);
+                    put_word(input, 12, kind);
+                }
+                step
+            }
+            58..=60 => {
+                let mut step = self.sensible(w);
+                let short = self.r.pick(&[0, 28, 100, 36_863]);
+                match &mut step {
+                    Step::Open { room, .. }
+                    | Step::Request { room, .. }
+                    | Step::To { room, .. }
+                    | Step::From { room, .. }
+                    | Step::End { room, .. } => *room = short,
+                    _ => {}
+                }
+                step
+            }
+            61..=68 => self.to_tape(s),
+            69..=76 => self.from_tape(s),
+            77..=78 => Step::End { time: self.time(), room: self.room(), ok: self.r.percent(50) },
+            79..=81 => self.swap(),
+            // Each call may be lent another account.
+            82 => {
+                let (id, password) = (self.text(12), self.text(12));
+                Step::Account(id, password)
+            }
+            83..=93 => {
+                self.hand_in(w);
+                self.queue.pop_front().unwrap()
+            }
+            _ => self.sensible(w),
+        }
+    }
+
+    /// This message with arguments of every kind.
+    fn some(&mut self, w: &World, message: u32) -> Step {
+        let s = &w.session;
+        let mut body = vec![];
+        let names: [&[u8]; 7] = [b"tape0", b"changer0", b"tape0\0", b"tape1", b"", b"changer", b"changer1"];
+        match message {
+            0x900 => {
+                let version = self.r.pick(&[4, 4, 4, 3, 5, 0, 65_540, u32::MAX]);
+                self.words(message, &[version])
+            }
+            0x901 => {
+                let right = self.r.percent(30);
+                self.auth(w, right)
+            }
+            0x200 => {
+                let name = if self.r.percent(50) { b"changer0" } else { self.r.pick(&names) };
+                self.opaque(&mut body, name);
+                self.request(message, &body)
+            }
+            0x206 => self.cdb(),
+            0x300 => {
+                let name = if self.r.percent(50) { b"tape0" } else { self.r.pick(&names) };
+                let mode = self.r.pick(&[0, 1, 1, 2, u32::MAX]);
+                self.tape_open(name, mode)
+            }
+            0x303 => {
+                let op = self.r.pick(&[0, 1, 2, 3, 4, 5, 5, 6, 7, 8, u32::MAX]);
+                let count = self.r.pick(&[0, 1, 2, 4, 4096, 4097, u32::MAX, u32::MAX - 1, 1 << 31]);
+                self.words(message, &[op, count])
+            }
+            0x304 => {
+                let length = self.r.pick(&[0, 1, 2, 3, self.size as usize, 32_767, 32_768, 32_769, 36_836]);
+                let data = self.r.bytes(length);
+                self.opaque(&mut body, &data);
+                self.request(message, &body)
+            }
+            0x305 => {
+                let count = self.r.pick(&[0, 1, self.size, 32_767, 32_768, 32_769, u32::MAX]);
+                self.words(message, &[count])
+            }
+            0x401 | 0x402 => {
+                let method = self.r.pick(&[&b"dump"[..], b"dump", b"dump\0", b"tar", b"", b"dum"]);
+                self.start(message == 0x401, method)
+            }
+            0x409 | 0x40a | 0xa01 | 0xa09 => {
+                if message > 0xa00 {
+                    let mode = self.r.pick(&[0, 0, 1, 1, 2, 3, u32::MAX]);
+                    body.extend(mode.to_be_bytes());
+                }
+                let address = self.r.pick(&[0u32, 0, 0, 1, 2, 3, u32::MAX]);
+                body.extend(address.to_be_bytes());
+                if address != 0 {
+                    let rest = self.text(20);
+                    body.extend(rest);
+                }
+                self.request(message, &body)
+            }
+            0xa05 if self.r.percent(50) => self.window(s),
+            0xa05 | 0xa06 => {
+                if message == 0xa06 && self.r.percent(60) {
+                    return self.mover_read(s);
+                }
+                let size = s.mover.size.max(1) as u64;
+                let far = u64::MAX / size * size;
+                let offset = self.r.pick(&[0, 1, size, far, far - size, u64::MAX, s.mover.moved]);
+                let length = self.r.pick(&[0, 1, size, 2 * size, far, far - size, u64::MAX]);
+                self.quads(message, offset, length)
+            }
+            0xa08 => {
+                let size = self.r.pick(&[0, 1, self.size, 32_767, 32_768, 32_769, u32::MAX]);
+                self.words(message, &[size])
+            }
+            _ => self.plain(message),
+        }
+    }
+
+    /// A body that is too short or too long, or whose words are others; the record itself is whole.
+    fn bent(&mut self, step: Step) -> Step {
+        let Step::Request { time, room, mut input } = step else { return step };
+        match self.r.below(4) {
+            0 => {
+                let cut = self.r.within(1, 8) as usize;
+                input.truncate(input.len().saturating_sub(cut).max(28));
+            }
+            1 if input.len() < 36_000 => {
+                let more = self.r.within(1, 8) as usize;
+                input.extend(self.r.bytes(more));
+            }
+            _ if input.len() >= 32 => {
+                let words = (input.len() - 28) / 4;
+                let at = 28 + 4 * self.r.below(words as u64) as usize;
+                let x = self.r.pick(&[0, 1, 5, u32::MAX, u32::MAX - 3, 1 << 31]);
+                put_word(&mut input, at, x);
+            }
+            _ => {}
+        }
+        let mark = LAST | (input.len() - 4) as u32;
+        put_word(&mut input, 0, mark);
+        Step::Request { time, room, input }
+    }
+
+    fn badly_framed(&mut self, step: Step) -> Step {
+        let Step::Request { time, room, mut input } = step else { return step };
+        match self.r.below(6) {
+            0 => input[0] &= 0x7f,
+            1 => input.truncate(self.r.below(28) as usize),
+            2 => input.push(0),
+            3 => drop(input.pop()),
+            4 => input[3] ^= 4,
+            // Whole but for its length: one word above the most, or the most itself, which is well framed.
+            _ => {
+                input.resize(self.r.pick(&[36_868, 36_869, 36_872]), 0);
+                let mark = LAST | (input.len() - 4) as u32;
+                put_word(&mut input, 0, mark);
+            }
+        }
+        Step::Request { time, room, input }
+    }
+
+    /// Hands in a changed session. One that breaks the relation is put back after a call or two.
+    fn hand_in(&mut self, w: &World) {
+        let before = w.session;
+        let mut s = before;
+        let size = s.mover.size.max(1) as u64;
+        match self.r.below(12) {
+            0 => s.sequence = u32::MAX - self.r.below(3) as u32,
+            1 if s.mover.mode == 1 && s.mover.state > 1 => {
+                s.mover.moved = u64::MAX - self.r.below(2 * size);
+                s.source.processed = u64::MAX - self.r.below(2 * size);
+            }
+            2 if s.mover.mode == 0 && s.mover.state == 2 => {
+                let records = self.r.within(1, 4);
+                let start = u64::MAX / size - records - self.r.below(2).min(u64::MAX / size - records);
+                s.mover.offset = start * size;
+                s.mover.length = records * size;
+                s.mover.moved = s.mover.offset + self.r.within(0, records) * size;
+                s.source.processed = u64::MAX - self.r.below(2 * size);
+            }
+            3 if s.mover.state == 3 => s.source.state = 4,
+            4 => {
+                s.mover.seek = u64::MAX - self.r.below(4 * size);
+                s.mover.left = self.r.below((u64::MAX - s.mover.seek).saturating_add(2).max(1));
+            }
+            5 => s.tape.position = self.r.pick(&[0, 1, 5, 40, 41, 4096, 4097, usize::MAX]),
+            6 => s.mover.origin = self.r.pick(&[0, 1, s.tape.position, s.tape.position.wrapping_add(1), usize::MAX]),
+            _ => {
+                for _ in 0..self.r.within(1, 3) {
+                    let all = fields(&s);
+                    let (name, now) = self.r.pick(&all);
+                    let x = self.r.pick(&[
+                        0,
+                        1,
+                        2,
+                        3,
+                        4,
+                        5,
+                        now.wrapping_add(1),
+                        now.wrapping_sub(1),
+                        size,
+                        2 * size,
+                        32_769,
+                        u32::MAX as u64,
+                        u64::MAX,
+                    ]);
+                    set_field(&mut s, name, x);
+                }
+            }
+        }
+        self.queue.push_back(Step::Session(s));
+        if crate::model::relation::broken(&crate::convert::state(&s)).is_some() {
+            for _ in 0..self.r.within(1, 2) {
+                let call = match self.r.below(5) {
+                    0 => self.to_tape(&before),
+                    1 => self.from_tape(&before),
+                    2 => Step::End { time: self.time(), room: self.room(), ok: true },
+                    3 => {
+                        let message = self.r.pick(&HANDLED);
+                        self.some(w, message)
+                    }
+                    _ => {
+                        let step = self.plain(0x400);
+                        self.badly_framed(step)
+                    }
+                };
+                self.queue.push_back(call);
+            }
+            self.queue.push_back(Step::Session(before));
+        } else if self.r.percent(40) {
+            let message = self.r.pick(&[0xa00, 0x400, 0x302]);
+            let call = self.plain(message);
+            self.queue.push_back(call);
+        }
+    }
+}

@@ -1,0 +1,228 @@
+//! "Data and mover states": the DATA and MOVER requests.
+
+use super::record::Notice;
+use super::refusals::{Outcome, refuse};
+use super::state::{BACKUP, Data, Mover, RECOVER, State, data, mover};
+use super::xdr::Writer;
+
+fn done() -> Outcome {
+    Ok(Writer::words(&[0]))
+}
+
+/// A listen's reply: error, then the address, LOCAL.
+fn listening() -> Outcome {
+    Ok(Writer::words(&[0, 0]))
+}
+
+// Halts and pauses.
+
+/// "Every halt and pause sends its notice".
+pub fn halt_data(s: &mut State, reason: u32) -> Notice {
+    s.data.state = data::HALTED;
+    s.data.halt = reason;
+    Notice::DataHalted(reason)
+}
+
+pub fn halt_mover(s: &mut State, reason: u32) -> Notice {
+    s.mover.state = mover::HALTED;
+    s.mover.halt = reason;
+    s.mover.pause = 0;
+    Notice::MoverHalted(reason)
+}
+
+/// "A pause voids the window."
+pub fn pause(s: &mut State, reason: u32) -> Notice {
+    s.mover.state = mover::PAUSED;
+    s.mover.pause = reason;
+    s.mover.window = (0, 0);
+    Notice::MoverPaused(reason, s.mover.seek)
+}
+
+/// The ends become joined, or the mover goes on: "The tape position when the mover became ACTIVE stands for the
+/// window's offset."
+fn run_mover(s: &mut State) {
+    s.mover.state = mover::ACTIVE;
+    s.mover.pause = 0;
+    s.mover.origin = s.tape.position;
+}
+
+// DATA.
+
+/// "fields in 004's order, ... reasons only in their state; what is not kept is zero, and so are DATA's read offset and
+/// length always; DATA's two estimates are marked unsupported."
+pub fn data_state(s: &State) -> Outcome {
+    let d = &s.data;
+    let reason = if d.state == data::HALTED { d.halt } else { 0 };
+    let mut w = Writer::words(&[3, 0, d.operation, d.state, reason]);
+    w.hyper(d.processed);
+    // est_bytes_remain, est_time_remain, the address, read_offset, read_length
+    w.hyper(0);
+    w.word(0);
+    w.word(0);
+    w.hyper(0);
+    w.hyper(0);
+    Ok(w)
+}
+
+/// "Listen: IDLE to LISTEN." "Address types other than LOCAL: 9."
+pub fn data_listen(s: &mut State, address: u32) -> Outcome {
+    refuse(s.data.state != data::IDLE, 19)?;
+    refuse(address != 0, 9)?;
+    s.data.state = data::LISTEN;
+    listening()
+}
+
+/// "Connect: own end IDLE, other end LISTEN; data becomes CONNECTED, mover ACTIVE." "23: the other end is not in
+/// LISTEN"
+pub fn data_connect(s: &mut State, address: u32) -> Outcome {
+    refuse(s.data.state != data::IDLE, 19)?;
+    refuse(address != 0, 9)?;
+    refuse(s.mover.state != mover::LISTEN, 23)?;
+    s.data.state = data::CONNECTED;
+    run_mover(s);
+    done()
+}
+
+/// "Start: CONNECTED to ACTIVE; method name other than `dump`: 9."
+pub fn start(s: &mut State, method: &[u8], backup: bool) -> Outcome {
+    refuse(s.data.state != data::CONNECTED, 19)?;
+    refuse(method != b"dump", 9)?;
+    s.data.state = data::ACTIVE;
+    s.data.operation = if backup { BACKUP } else { RECOVER };
+    done()
+}
+
+/// "Stop: HALTED to IDLE, all variables of its own end reset but the record size."
+pub fn data_stop(s: &mut State) -> Outcome {
+    refuse(s.data.state != data::HALTED, 19)?;
+    s.data = Data::at_rest();
+    done()
+}
+
+/// "Abort: not from IDLE or HALTED; own reason ABORTED 2. Joined other end: data halts CONNECT_ERROR 4, mover halts
+/// CONNECT_CLOSED 1."
+pub fn data_abort(s: &mut State, notices: &mut Vec<Notice>) -> Outcome {
+    refuse(matches!(s.data.state, data::IDLE | data::HALTED), 19)?;
+    let joined = s.joined();
+    // "then its notices: data first, mover second"
+    notices.push(halt_data(s, 2));
+    if joined {
+        notices.push(halt_mover(s, 1));
+    }
+    done()
+}
+
+// MOVER.
+
+pub fn mover_state(s: &State) -> Outcome {
+    let m = &s.mover;
+    let pause = if m.state == mover::PAUSED { m.pause } else { 0 };
+    let halt = if m.state == mover::HALTED { m.halt } else { 0 };
+    // "record number is bytes moved divided by record size (0 if unset), modulo 2^32"
+    let number = m.moved.checked_div(m.record_size as u64).unwrap_or(0) as u32;
+    let mut w = Writer::words(&[0, m.mode, m.state, pause, halt, m.record_size, number]);
+    for quad in [m.moved, m.seek, m.left, m.window.0, m.window.1] {
+        w.hyper(quad);
+    }
+    w.word(0);
+    Ok(w)
+}
+
+/// What mover listen and connect share.
+fn may_join(s: &State, mode: u32, address: u32) -> Result<(), u32> {
+    let m = &s.mover;
+    // "6: ... mover listen, connect, continue with no tape"
+    refuse(!s.tape.open, 6)?;
+    refuse(m.state != mover::IDLE, 19)?;
+    // "5: tape open read-only: ... mover mode 0 at listen, connect, continue"
+    refuse(mode == 0 && !s.tape.writable, 5)?;
+    // "Mover listen and connect: 26 if record size or window is unset, or mode 0 with offset not 0."
+    refuse(m.record_size == 0 || m.window.1 == 0 || (mode == 0 && m.window.0 != 0), 26)?;
+    // "Mover mode 0 goes to tape, 1 from tape; others: 9."
+    refuse(address != 0 || mode > 1, 9)
+}
+
+pub fn mover_listen(s: &mut State, mode: u32, address: u32) -> Outcome {
+    may_join(s, mode, address)?;
+    s.mover.state = mover::LISTEN;
+    s.mover.mode = mode;
+    listening()
+}
+
+pub fn mover_connect(s: &mut State, mode: u32, address: u32) -> Outcome {
+    may_join(s, mode, address)?;
+    refuse(s.data.state != data::LISTEN, 23)?;
+    s.data.state = data::CONNECTED;
+    s.mover.mode = mode;
+    run_mover(s);
+    done()
+}
+
+/// "Continue: PAUSED only; 26 if no window was set since the pause."
+pub fn mover_continue(s: &mut State) -> Outcome {
+    refuse(!s.tape.open, 6)?;
+    refuse(s.mover.state != mover::PAUSED, 19)?;
+    refuse(s.mover.mode == 0 && !s.tape.writable, 5)?;
+    refuse(s.mover.window.1 == 0, 26)?;
+    run_mover(s);
+    done()
+}
+
+pub fn mover_abort(s: &mut State, notices: &mut Vec<Notice>) -> Outcome {
+    refuse(matches!(s.mover.state, mover::IDLE | mover::HALTED), 19)?;
+    if s.joined() {
+        notices.push(halt_data(s, 4));
+    }
+    notices.push(halt_mover(s, 2));
+    done()
+}
+
+/// "Mover close: PAUSED only; mover CONNECT_CLOSED, data CONNECT_ERROR."
+pub fn mover_close(s: &mut State, notices: &mut Vec<Notice>) -> Outcome {
+    refuse(s.mover.state != mover::PAUSED, 19)?;
+    notices.push(halt_data(s, 4));
+    notices.push(halt_mover(s, 1));
+    done()
+}
+
+pub fn mover_stop(s: &mut State) -> Outcome {
+    refuse(s.mover.state != mover::HALTED, 19)?;
+    s.mover = Mover::at_rest(s.mover.record_size);
+    done()
+}
+
+/// "Set window: IDLE or PAUSED. Record size 0: 26. 9: length 0, offset or length no multiple of the record size, offset
+/// + length above 2^64 - 1, or PAUSED in mode 0 an offset other than bytes moved."
+pub fn set_window(s: &mut State, offset: u64, length: u64) -> Outcome {
+    let m = &mut s.mover;
+    refuse(!matches!(m.state, mover::IDLE | mover::PAUSED), 19)?;
+    refuse(m.record_size == 0, 26)?;
+    let size = m.record_size as u64;
+    refuse(length == 0 || offset % size != 0 || length % size != 0, 9)?;
+    refuse(offset.checked_add(length).is_none(), 9)?;
+    refuse(m.state == mover::PAUSED && m.mode == 0 && offset != m.moved, 9)?;
+    m.window = (offset, length);
+    done()
+}
+
+/// "Mover read: ACTIVE in mode 1, else 19; length 0 or offset + length above 2^64 - 1: 9. It sets seek position and
+/// bytes left."
+pub fn mover_read(s: &mut State, offset: u64, length: u64) -> Outcome {
+    let m = &mut s.mover;
+    refuse(m.state != mover::ACTIVE || m.mode != 1, 19)?;
+    refuse(length == 0 || offset.checked_add(length).is_none(), 9)?;
+    // "25: mover read with bytes still left to read"
+    refuse(m.left != 0, 25)?;
+    m.seek = offset;
+    m.left = length;
+    done()
+}
+
+/// "Set record size: IDLE only, 1 to 32,768 (else 9); an accepted call voids the window, also with the same size."
+pub fn set_record_size(s: &mut State, size: u32) -> Outcome {
+    refuse(s.mover.state != mover::IDLE, 19)?;
+    refuse(!(1..=32_768).contains(&size), 9)?;
+    s.mover.record_size = size;
+    s.mover.window = (0, 0);
+    done()
+}

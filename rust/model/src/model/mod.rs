@@ -1,0 +1,19 @@
+//! The vault's rules in plain Rust, written from the papers. Each file is a section of paper 01 ("Build description and
+//! exact rules"), and each rule stands under its sentence. "004" is the NDMP draft. Where a sentence can be read in two
+//! ways, "reading" says which way is taken.
+
+pub mod calls;
+pub mod cartridge;
+pub mod changer;
+pub mod connection;
+pub mod ends;
+pub mod moves;
+pub mod record;
+pub mod refusals;
+pub mod relation;
+pub mod requests;
+pub mod state;
+pub mod tape;
+pub mod xdr;
+
+pub use state::State;

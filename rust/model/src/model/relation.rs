@@ -1,0 +1,57 @@
+//! "1002 if the session breaks a relation listed in docs/": the lines of docs/RELATION.md. Gives the number of the
+//! first broken line.
+
+use super::state::{State, data, mover};
+
+pub fn broken(s: &State) -> Option<u32> {
+    let m = &s.mover;
+    let (offset, length) = m.window;
+    let size = m.record_size as u64;
+    let in_force = length != 0;
+    let top = u64::MAX as u128;
+
+    // data's state is 0 to 4
+    if s.data.state > 4 {
+        return Some(1);
+    }
+    // mover's state is 0 to 4; record size at most 32,768; seek position plus bytes left at most 2^64 - 1
+    if m.state > 4 || size > 32_768 || m.seek as u128 + m.left as u128 > top {
+        return Some(2);
+    }
+    // a window in force (length not 0): record size not 0, offset and length its multiples, the end at most 2^64 - 1
+    if in_force && (size == 0 || offset % size != 0 || length % size != 0 || offset as u128 + length as u128 > top) {
+        return Some(3);
+    }
+    // IDLE and LISTEN: nothing has been moved
+    if matches!(m.state, mover::IDLE | mover::LISTEN) && m.moved != 0 {
+        return Some(4);
+    }
+    // LISTEN and ACTIVE: a window is in force, the tape is open, and for writing where the mode is 0
+    if matches!(m.state, mover::LISTEN | mover::ACTIVE)
+        && !(in_force && s.tape.open && (m.mode != 0 || s.tape.writable))
+    {
+        return Some(5);
+    }
+    // mode 0: LISTEN has offset 0; ACTIVE has moved whole records and stands within the window; PAUSED with a new
+    // window stands at its start
+    if m.mode == 0 {
+        let right = match m.state {
+            mover::LISTEN => offset == 0,
+            mover::ACTIVE => m.moved % size == 0 && offset <= m.moved && m.moved <= offset + length,
+            mover::PAUSED => !in_force || m.moved == offset,
+            _ => true,
+        };
+        if !right {
+            return Some(6);
+        }
+    }
+    // ACTIVE: the tape is at its origin or after it
+    if m.state == mover::ACTIVE && s.tape.position < m.origin {
+        return Some(7);
+    }
+    // data is CONNECTED or ACTIVE exactly when the mover is ACTIVE or PAUSED
+    if matches!(s.data.state, data::CONNECTED | data::ACTIVE) != matches!(m.state, mover::ACTIVE | mover::PAUSED) {
+        return Some(8);
+    }
+    None
+}

@@ -1,0 +1,121 @@
+//! What a session keeps.
+
+/// "Data: IDLE 0, ACTIVE 1, HALTED 2, LISTEN 3, CONNECTED 4."
+pub mod data {
+    pub const IDLE: u32 = 0;
+    pub const ACTIVE: u32 = 1;
+    pub const HALTED: u32 = 2;
+    pub const LISTEN: u32 = 3;
+    pub const CONNECTED: u32 = 4;
+}
+
+/// "Mover: IDLE 0, LISTEN 1, ACTIVE 2, PAUSED 3, HALTED 4."
+pub mod mover {
+    pub const IDLE: u32 = 0;
+    pub const LISTEN: u32 = 1;
+    pub const ACTIVE: u32 = 2;
+    pub const PAUSED: u32 = 3;
+    pub const HALTED: u32 = 4;
+}
+
+/// 004: NDMP_DATA_OP_BACKUP, NDMP_DATA_OP_RECOVER.
+pub const BACKUP: u32 = 1;
+pub const RECOVER: u32 = 2;
+
+/// 004: NDMP_MOVER_MODE_NOACTION, the mode of a mover at rest (reading).
+pub const NOACTION: u32 = 2;
+
+#[derive(Clone, PartialEq, Debug)]
+pub struct State {
+    pub closed: bool,
+    /// No request was answered yet.
+    pub fresh: bool,
+    pub authorized: bool,
+    /// The number of the next message sent.
+    pub number: u32,
+    pub data: Data,
+    pub mover: Mover,
+    pub tape: Tape,
+    pub changer: Changer,
+}
+
+#[derive(Clone, PartialEq, Debug)]
+pub struct Data {
+    pub state: u32,
+    pub operation: u32,
+    pub halt: u32,
+    pub processed: u64,
+}
+
+#[derive(Clone, PartialEq, Debug)]
+pub struct Mover {
+    pub state: u32,
+    pub mode: u32,
+    pub pause: u32,
+    pub halt: u32,
+    pub record_size: u32,
+    /// Offset and length; length 0 is no window.
+    pub window: (u64, u64),
+    pub moved: u64,
+    pub seek: u64,
+    pub left: u64,
+    /// "The tape position when the mover became ACTIVE."
+    pub origin: u64,
+}
+
+#[derive(Clone, PartialEq, Debug)]
+pub struct Tape {
+    pub open: bool,
+    pub writable: bool,
+    pub position: u64,
+}
+
+#[derive(Clone, PartialEq, Debug)]
+pub struct Changer {
+    pub open: bool,
+    pub pending: bool,
+}
+
+impl Data {
+    pub fn at_rest() -> Data {
+        Data { state: data::IDLE, operation: 0, halt: 0, processed: 0 }
+    }
+}
+
+impl Mover {
+    /// Record size: "It starts at 0, unset."
+    pub fn at_rest(record_size: u32) -> Mover {
+        Mover {
+            state: mover::IDLE,
+            mode: NOACTION,
+            pause: 0,
+            halt: 0,
+            record_size,
+            window: (0, 0),
+            moved: 0,
+            seek: 0,
+            left: 0,
+            origin: 0,
+        }
+    }
+}
+
+impl State {
+    pub fn at_rest() -> State {
+        State {
+            closed: false,
+            fresh: true,
+            authorized: false,
+            number: 1,
+            data: Data::at_rest(),
+            mover: Mover::at_rest(0),
+            tape: Tape { open: false, writable: false, position: 0 },
+            changer: Changer { open: false, pending: false },
+        }
+    }
+
+    /// "Data is CONNECTED or ACTIVE exactly when the mover is ACTIVE or PAUSED; then they are joined."
+    pub fn joined(&self) -> bool {
+        matches!(self.data.state, data::CONNECTED | data::ACTIVE)
+    }
+}

@@ -1,0 +1,99 @@
+//! Calls as lines of text, so that a difference can be replayed.
+//!
+//!     account ID PASSWORD              what auth is compared with from here on (hex, `-` is empty)
+//!     image LENGTH HEX                 this image is lent from here on; zeros follow the bytes given
+//!     session FIELD=VALUE ..           the session is replaced by this one
+//!     open TIME ROOM                   the calls; ROOM is the output's length
+//!     request TIME ROOM INPUT
+//!     to TIME ROOM LAST STREAM         move to tape
+//!     from TIME ROOM DESTINATION       move from tape; the destination's length
+//!     end TIME ROOM OK                 the method's end
+
+use crate::convert::{fields, set_field};
+use proved::Session;
+
+#[derive(Clone)]
+pub enum Step {
+    Account(Vec<u8>, Vec<u8>),
+    Image(Vec<u8>),
+    Session(Session),
+    Open { time: u32, room: usize },
+    Request { time: u32, room: usize, input: Vec<u8> },
+    To { time: u32, room: usize, last: bool, stream: Vec<u8> },
+    From { time: u32, room: usize, destination: usize },
+    End { time: u32, room: usize, ok: bool },
+}
+
+impl Step {
+    pub fn is_call(&self) -> bool {
+        !matches!(self, Step::Account(..) | Step::Image(_) | Step::Session(_))
+    }
+
+    pub fn line(&self) -> String {
+        match self {
+            Step::Account(id, password) => format!("account {} {}", hex(id), hex(password)),
+            Step::Image(image) => {
+                let end = image.iter().rposition(|b| *b != 0).map_or(0, |i| i + 1);
+                format!("image {} {}", image.len(), hex(&image[..end]))
+            }
+            Step::Session(s) => {
+                let all: Vec<String> = fields(s).iter().map(|(name, x)| format!("{name}={x}")).collect();
+                format!("session {}", all.join(" "))
+            }
+            Step::Open { time, room } => format!("open {time} {room}"),
+            Step::Request { time, room, input } => format!("request {time} {room} {}", hex(input)),
+            Step::To { time, room, last, stream } => format!("to {time} {room} {} {}", *last as u8, hex(stream)),
+            Step::From { time, room, destination } => format!("from {time} {room} {destination}"),
+            Step::End { time, room, ok } => format!("end {time} {room} {}", *ok as u8),
+        }
+    }
+
+    pub fn parse(line: &str, before: Session) -> Option<Step> {
+        let mut words = line.split_whitespace();
+        let kind = words.next()?;
+        if kind == "session" {
+            let mut s = before;
+            for word in words {
+                let (name, x) = word.split_once('=')?;
+                set_field(&mut s, name, x.parse().ok()?)?;
+            }
+            return Some(Step::Session(s));
+        }
+        let w: Vec<&str> = words.collect();
+        let whole = |i: usize| w.get(i)?.parse::<usize>().ok();
+        let bytes = |i: usize| unhex(w.get(i)?);
+        let time = || w.first()?.parse::<u32>().ok();
+        let room = || whole(1);
+        Some(match kind {
+            "account" => Step::Account(bytes(0)?, bytes(1)?),
+            "image" => {
+                let mut image = bytes(1)?;
+                image.resize(whole(0)?, 0);
+                Step::Image(image)
+            }
+            "open" => Step::Open { time: time()?, room: room()? },
+            "request" => Step::Request { time: time()?, room: room()?, input: bytes(2)? },
+            "to" => Step::To { time: time()?, room: room()?, last: whole(2)? != 0, stream: bytes(3)? },
+            "from" => Step::From { time: time()?, room: room()?, destination: whole(2)? },
+            "end" => Step::End { time: time()?, room: room()?, ok: whole(2)? != 0 },
+            _ => return None,
+        })
+    }
+}
+
+pub fn hex(bytes: &[u8]) -> String {
+    if bytes.is_empty() {
+        return "-".into();
+    }
+    bytes.iter().map(|b| format!("{b:02x}")).collect()
+}
+
+fn unhex(text: &str) -> Option<Vec<u8>> {
+    if text == "-" {
+        return Some(vec![]);
+    }
+    if text.len() % 2 != 0 || !text.is_ascii() {
+        return None;
+    }
+    (0..text.len() / 2).map(|i| u8::from_str_radix(&text[2 * i..2 * i + 2], 16).ok()).collect()
+}
