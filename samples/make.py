@@ -116,16 +116,16 @@ def text(lines):
 
 
 def main():
-    write('cartridge_list/stdin', PAPER)
-    write('cartridge_list/stdout', text(PAPER_LINES))
-    print(f'cartridge_list/stdin: {len(PAPER)} bytes: the image of sample paper')
+    write('run_lister/stdin', PAPER)
+    write('run_lister/stdout', text(PAPER_LINES))
+    print(f'run_lister/stdin: {len(PAPER)} bytes: the image of sample paper')
     lines = []
     for name, holds, data, expected in SAMPLES:
-        write(f'cartridge_samples/data/{name}', data)
+        write(f'run_samples/data/{name}', data)
         lines += [name] + expected
-        print(f'cartridge_samples/data/{name}: {len(data)} bytes: {holds}: {expected[0]}')
-    write('cartridge_samples/args', text(name for name, _, _, _ in SAMPLES))
-    write('cartridge_samples/stdout', text(lines))
+        print(f'run_samples/data/{name}: {len(data)} bytes: {holds}: {expected[0]}')
+    write('run_samples/args', text(name for name, _, _, _ in SAMPLES))
+    write('run_samples/stdout', text(lines))
 
 
 main()

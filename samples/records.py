@@ -1,5 +1,5 @@
 #!/usr/bin/env python3
-"""Writes records as a host may lend them, and what the program request_vectors is to print of each.
+"""Writes records as a host may lend them, and what the program run_requests is to print of each.
 
 The bodies are built from 004's layouts (Appendix C, by the lines named). Every expected line is written by hand beside its record, from
 004 and paper 01; none is taken from the program. A line has the sequence number and the request: numbers in decimal; a text as its
@@ -383,10 +383,10 @@ SAMPLES = HANDLED + FRAMES + UNKNOWN + CONNECT + BARE + SCSI + TAPE + DATA + MOV
 
 def main():
     for own, data, _ in SAMPLES:
-        write(f'request_vectors/data/{own}', data)
-    write('request_vectors/args', text(own for own, _, _ in SAMPLES))
-    write('request_vectors/stdout', text(f'{own}: {expected}' for own, _, expected in SAMPLES))
-    print(f'request_vectors: {len(SAMPLES)} records')
+        write(f'run_requests/data/{own}', data)
+    write('run_requests/args', text(own for own, _, _ in SAMPLES))
+    write('run_requests/stdout', text(f'{own}: {expected}' for own, _, expected in SAMPLES))
+    print(f'run_requests: {len(SAMPLES)} records')
 
 
 main()

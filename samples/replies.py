@@ -1,5 +1,5 @@
 #!/usr/bin/env python3
-"""Writes what the program reply_vectors is to print: replies and notices as they are sent.
+"""Writes what the program run_replies is to print: replies and notices as they are sent.
 
 The bodies are built from 004's layouts (Appendix C, by the lines named) with the values that paper 01 gives; none is taken from the
 program. Of each there is a line with its name and length, then its bytes, seven words to a line: the mark and the header, then the
@@ -150,8 +150,8 @@ def lines(own, data):
 
 
 def main():
-    write('reply_vectors/stdout', text(line for own, data in SAMPLES for line in lines(own, data)))
-    print(f'reply_vectors: {len(SAMPLES)} records')
+    write('run_replies/stdout', text(line for own, data in SAMPLES for line in lines(own, data)))
+    print(f'run_replies: {len(SAMPLES)} records')
 
 
 main()

@@ -2,22 +2,22 @@
 ghost use Prim.Native.Nat.{ℕ};
 ghost use mathlib.Core.List.{List, []};
 ghost use lib.ListN.{length};
-ghost use Rattle.session.specs.Answer.{held, answered};
-ghost use Rattle.session.specs.Calls.{opening};
-ghost use Rattle.answering.specs.Call.{CallTold};
-ghost use Rattle.server.specs.Call.{lent};
-ghost use Rattle.moves.specs.Events.{stamped, movedToTape, movedFromTape, methodEnded};
-ghost use Rattle.events.specs.Told.{MoveTold};
-use session::types::Answer;
-use session::types::Moved;
-use session::types::Session;
+ghost use Rattle.rules.specs.Answer.{held, answered};
+ghost use Rattle.rules.specs.Calls.{opening};
+ghost use Rattle.call_sending.specs.Call.{CallTold};
+ghost use Rattle.call_request.specs.Call.{lent};
+ghost use Rattle.rules_moves.specs.Events.{stamped, movedToTape, movedFromTape, methodEnded};
+ghost use Rattle.call_moves.specs.Told.{MoveTold};
+use rules::types::Answer;
+use rules::types::Moved;
+use rules::types::Session;
 
 // A new session.
 #[no_mangle]
 pub extern "C" fn mossgoblin_open(time: u32, out: &mut [u8]) -> Answer
     ensures { λ r. ⌜ CallTold (opening time (length (now (out .entry)))) r [] (now (out .entry)) (now (out .exit)) ⌝ }
 {
-    server::open(time, out)
+    call_request::open(time, out)
 }
 
 // One request: the session, the account's id and password, the cartridge, the record, the time stamp and the output.
@@ -33,7 +33,7 @@ pub extern "C" fn mossgoblin_request(
 ) -> Answer
     ensures { λ r. ⌜ CallTold (answered (held s (now (image .entry))) (lent (now (id .entry)) (now (password .entry)) time (now (out .entry))) (now (input .entry))) r (now (image .exit)) (now (out .entry)) (now (out .exit)) ⌝ }
 {
-    server::request(s, id, password, image, input, time, out)
+    call_request::request(s, id, password, image, input, time, out)
 }
 
 // One move to tape: the session, the cartridge, a part of the stream and whether it is the last, the time stamp and the output.
@@ -48,7 +48,7 @@ pub extern "C" fn mossgoblin_move_to_tape(
 ) -> Moved
     ensures { λ r. ⌜ MoveTold (movedToTape (held s (now (image .entry))) (stamped time (length (now (out .entry)))) (now (stream .entry)) last) r (now (image .exit)) [] (now (out .entry)) (now (out .exit)) ⌝ }
 {
-    events::move_to_tape(s, image, stream, last, time, out)
+    call_moves::move_to_tape(s, image, stream, last, time, out)
 }
 
 // One move from tape: the session, the cartridge, which is only read, the destination, the time stamp and the output.
@@ -62,7 +62,7 @@ pub extern "C" fn mossgoblin_move_from_tape(
 ) -> Moved
     ensures { λ r. ⌜ MoveTold (movedFromTape (held s (now (image .entry))) (stamped time (length (now (out .entry)))) (now (dest .entry))) r (now (image .entry)) (now (dest .exit)) (now (out .entry)) (now (out .exit)) ⌝ }
 {
-    events::move_from_tape(s, image, dest, time, out)
+    call_moves::move_from_tape(s, image, dest, time, out)
 }
 
 // The end of the method that reads or writes the stream, in success or not. It is handed no cartridge, and leaves it.
@@ -70,5 +70,5 @@ pub extern "C" fn mossgoblin_move_from_tape(
 pub extern "C" fn mossgoblin_end_method(s: Session, ok: bool, time: u32, out: &mut [u8]) -> Answer
     ensures { λ r. ⌜ ((image : List ℕ) → CallTold (methodEnded (held s image) (stamped time (length (now (out .entry)))) ok) r image (now (out .entry)) (now (out .exit))) ⌝ }
 {
-    events::end_method(s, ok, time, out)
+    call_moves::end_method(s, ok, time, out)
 }

@@ -9,9 +9,9 @@ use lib.Dec.{ltb}
 use borrow.Author.Tests.{lt-ltb, le-ltb}
 use Rattle.xdr.specs.Choose.{choose}
 use Rattle.xdr.specs.Xdr.{overlay}
-use Rattle.cartridge.specs.declared.Part.{Part}
-use Rattle.cartridge.specs.Operations.{part, readPart}
-use Rattle.cartridge.proofs.Reading.{Copied, read-copies}
+use Rattle.tape_ops.specs.declared.Part.{Part}
+use Rattle.tape_ops.specs.Operations.{part, readPart}
+use Rattle.tape_ops.proofs.Reading.{Copied, read-copies}
 use Rattle.cartridge_c.specs.Handing.{handedPart, handedOut, Handed}
 
 module _ (l : List ℕ) (p times : ℕ) (r : Part) (e : r ≡ readPart l p times) where

@@ -8,9 +8,9 @@ use lib.Dec.{ltb}
 use Rattle.codes.specs.Codes.{shortOutput}
 use Rattle.xdr.specs.Choose.{choose}
 use Rattle.xdr.specs.Xdr.{overlay}
-use Rattle.cartridge.specs.declared.Part.{Part}
-use Rattle.cartridge.specs.Operations.{part, readPart}
-use Rattle.cartridge.specs.Promises.{bytesOf}
+use Rattle.tape_ops.specs.declared.Part.{Part}
+use Rattle.tape_ops.specs.Operations.{part, readPart}
+use Rattle.tape_ops.specs.Promises.{bytesOf}
 
 -- the buffer o is shorter than the bytes that are read
 abbrev pub tooShort : List ℕ → ℕ → ℕ → List ℕ → Bool

@@ -1,19 +1,19 @@
 // The tape operations for a host in Rust or C. None asks anything of its caller: whatever is lent, there is an answer.
 ghost use mathlib.Core.Path.{_≡_};
-ghost use Rattle.image.specs.Image.{isSound};
-ghost use Rattle.cartridge.specs.Step.{Told};
-ghost use Rattle.cartridge.specs.Operations.{writeStep, mtioStep};
+ghost use Rattle.tape_image.specs.Image.{isSound};
+ghost use Rattle.tape_ops.specs.Step.{Told};
+ghost use Rattle.tape_ops.specs.Operations.{writeStep, mtioStep};
 ghost use Rattle.cartridge_c.specs.Handing.{Handed};
-use cartridge::Part;
-use cartridge::Wrote;
-use spacing::Spaced;
+use tape_ops::Part;
+use tape_ops::Wrote;
+use tape_spacing::Spaced;
 
 // The image is sound.
 #[no_mangle]
 pub extern "C" fn cartridge_sound(image: &[u8]) -> bool
     ensures { λ r. ⌜ r ≡ isSound (now (image .entry)) ⌝ }
 {
-    image::sound(image)
+    tape_image::sound(image)
 }
 
 // Writes a record at a position.
@@ -21,7 +21,7 @@ pub extern "C" fn cartridge_sound(image: &[u8]) -> bool
 pub extern "C" fn cartridge_write(image: &mut [u8], position: usize, bytes: &[u8]) -> Wrote
     ensures { λ r. ⌜ Told (writeStep (now (image .entry)) position (now (bytes .entry))) r (now (image .exit)) ⌝ }
 {
-    cartridge::write(image, position, bytes)
+    tape_ops::write(image, position, bytes)
 }
 
 // MTIO: spacing, rewinding and marks.
@@ -29,7 +29,7 @@ pub extern "C" fn cartridge_write(image: &mut [u8], position: usize, bytes: &[u8
 pub extern "C" fn cartridge_mtio(image: &mut [u8], op: u32, position: usize, times: u32) -> Spaced
     ensures { λ r. ⌜ Told (mtioStep (now (image .entry)) op position times) r (now (image .exit)) ⌝ }
 {
-    cartridge::mtio(image, op, position, times)
+    tape_ops::mtio(image, op, position, times)
 }
 
 // Reads the record at a position, up to a number of bytes, to the front of out. Where out is too short for them nothing is
@@ -38,7 +38,7 @@ pub extern "C" fn cartridge_mtio(image: &mut [u8], op: u32, position: usize, tim
 pub extern "C" fn cartridge_read(image: &[u8], position: usize, times: u32, out: &mut [u8]) -> Part
     ensures { λ r. ⌜ Handed (now (image .entry)) position times (now (out .entry)) r (now (out .exit)) ⌝ }
 {
-    let part = cartridge::read(image, position, times);
+    let part = tape_ops::read(image, position, times);
     let start = part.start;
     let len = part.len;
     if out.len() < len {

@@ -1,10 +1,10 @@
-//! The proved calls, for a host in Rust. The structs are the declarations of crates/session as they stand; that the
+//! The proved calls, for a host in Rust. The structs are the declarations of crates/rules as they stand; that the
 //! functions below are those of crates/capi is checked by nothing but the tests that call them.
 
 pub mod codes;
 mod names;
 mod types {
-    include!("../../../crates/session/src/types.rt");
+    include!("../../../crates/rules/src/types.rt");
 }
 
 use std::fmt;

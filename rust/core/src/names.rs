@@ -1,4 +1,4 @@
-//! States, modes and reasons by the names that crates/session gives them (`tests/names.rs` compares both), and in
+//! States, modes and reasons by the names that crates/rules gives them (`tests/names.rs` compares both), and in
 //! words.
 use crate::{Data, Mover};
 

@@ -99,7 +99,7 @@ fn made_listed_and_checked() {
 /// The image of the rules is listed as the proved lister prints it.
 #[test]
 fn lists_as_the_lister_does() {
-    let lister = Path::new(env!("CARGO_MANIFEST_DIR")).join("../../crates/cartridge_list");
+    let lister = Path::new(env!("CARGO_MANIFEST_DIR")).join("../../crates/run_lister");
     let (code, out, _) = run(&["list", text_of(&lister.join("stdin"))]);
     assert_eq!((code, out), (0, fs::read_to_string(lister.join("stdout")).unwrap()));
 }

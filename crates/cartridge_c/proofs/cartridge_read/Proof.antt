@@ -6,7 +6,7 @@ use Rattle.cartridge_c.proofs.cartridge_read.Statement.{statement}
 use Rattle.cartridge_c.proofs.cartridge_read.Tie as tie
 use Rattle.cartridge_c.proofs.cartridge_read.Reads as reads
 use Rattle.cartridge_c.proofs.cartridge_read.Lts as lts
-use Rattle.cartridge.proofs.read.Reads as read-reads
+use Rattle.tape_ops.proofs.read.Reads as read-reads
 use Rattle.xdr.proofs.copy_blocks.Reads as copy-blocks-reads
 
 read-requires : tie.Need-read-requires

@@ -1,0 +1,52 @@
+-- A call without a request, by what its guard found and by what its move came to. Assumes nothing.
+use Prim.Native.Nat.{ℕ}
+use mathlib.Core.Bool.{Bool}
+use mathlib.Core.List.{List, []}
+use mathlib.Core.Path.{_≡_}
+use Rattle.rules.specs.declared.types.Answer.{Answer}
+use Rattle.rules.specs.declared.types.Moved.{Moved}
+use Rattle.rules.specs.declared.Guard.the-variants.{Stop, Go}
+use Rattle.rules.specs.Answer.{Kept, Lent, Answered, silent, guarded}
+use Rattle.rules.proofs.Guarding.{when-stopped, when-goes}
+use Rattle.call_sending.specs.Call.{CallTold}
+use Rattle.rules_moves.specs.declared.Move.{Move}
+use Rattle.rules_moves.specs.Events.{Moving, idling, moved, feeding, handing, finishing, movedToTape, movedFromTape, methodEnded}
+use Rattle.call_moves.specs.Told.{MoveTold}
+
+module _ (k : Kept) (l : Lent) {image dest out out′ : List ℕ} where
+  module _ (stream : List ℕ) (last : Bool) {r : Moved} where
+    pub to-stopped : (code : ℕ) → Stop code ≡ guarded (k .session) (l .room) Stop Go → MoveTold (idling code k []) r image dest out out′
+        → MoveTold (movedToTape k l stream last) r image dest out out′
+    unfolding movedToTape
+    to-stopped code h t = when-stopped (λ (e : Moving). MoveTold e r image dest out out′) (k .session) (l .room) code _ _ h t
+
+    pub to-goes : Go ≡ guarded (k .session) (l .room) Stop Go → MoveTold (feeding k l stream last) r image dest out out′
+        → MoveTold (movedToTape k l stream last) r image dest out out′
+    unfolding movedToTape
+    to-goes h t = when-goes (λ (e : Moving). MoveTold e r image dest out out′) (k .session) (l .room) _ _ h t
+
+  module _ (into : List ℕ) {r : Moved} where
+    pub from-stopped : (code : ℕ) → Stop code ≡ guarded (k .session) (l .room) Stop Go → MoveTold (idling code k into) r image dest out out′
+        → MoveTold (movedFromTape k l into) r image dest out out′
+    unfolding movedFromTape
+    from-stopped code h t = when-stopped (λ (e : Moving). MoveTold e r image dest out out′) (k .session) (l .room) code _ _ h t
+
+    pub from-goes : Go ≡ guarded (k .session) (l .room) Stop Go → MoveTold (handing k l into) r image dest out out′
+        → MoveTold (movedFromTape k l into) r image dest out out′
+    unfolding movedFromTape
+    from-goes h t = when-goes (λ (e : Moving). MoveTold e r image dest out out′) (k .session) (l .room) _ _ h t
+
+module _ (k : Kept) (l : Lent) (ok : Bool) {r : Answer} {image out out′ : List ℕ} where
+  pub end-stopped : (code : ℕ) → Stop code ≡ guarded (k .session) (l .room) Stop Go → CallTold (silent code k) r image out out′
+      → CallTold (methodEnded k l ok) r image out out′
+  unfolding methodEnded
+  end-stopped code h t = when-stopped (λ (a : Answered). CallTold a r image out out′) (k .session) (l .room) code _ _ h t
+
+  pub end-goes : Go ≡ guarded (k .session) (l .room) Stop Go → CallTold (finishing k l ok) r image out out′ → CallTold (methodEnded k l ok) r image out out′
+  unfolding methodEnded
+  end-goes h t = when-goes (λ (a : Answered). CallTold a r image out out′) (k .session) (l .room) _ _ h t
+
+-- the same move, image and destination, whatever they are made of
+pub moved-as : (k : Kept) (l : Lent) (mv mv₂ : Move) (i i₂ b b₂ : List ℕ) (r : Moved) (image dest out out′ : List ℕ) → mv ≡ mv₂ → i ≡ i₂ → b ≡ b₂
+    → MoveTold (moved k l mv i b) r image dest out out′ → MoveTold (moved k l mv₂ i₂ b₂) r image dest out out′
+moved-as k l mv mv₂ i i₂ b b₂ r image dest out out′ e f g h = rw (e, f, g) at h

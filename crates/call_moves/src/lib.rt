@@ -1,0 +1,136 @@
+// The calls without a request: moves of the stream's bytes, and the method's end. No call has a requires: it refuses.
+ghost use mathlib.Core.Path.{_≡_};
+ghost use mathlib.Core.Bool.{true};
+ghost use mathlib.Core.List.{List, []};
+ghost use Prim.Native.Nat.{ℕ, _≤_};
+ghost use lib.ListN.{length};
+ghost use Rattle.rules.specs.Names.{leastRoom};
+ghost use Rattle.rules.specs.Relation.{keeps};
+ghost use Rattle.rules.specs.Answer.{held};
+ghost use Rattle.call_sending.specs.Call.{CallTold};
+ghost use Rattle.rules_moves.specs.Events.{stamped, idling, announced, moved, feeding, handing, movedToTape, movedFromTape, methodEnded};
+ghost use Rattle.call_moves.specs.Told.{MoveTold};
+use rules::Guard;
+use rules::types::Answer;
+use rules::types::Moved;
+use rules::types::Session;
+use rules_moves::Move;
+use wire_replies::Notice;
+
+// The session with a move's parts, and the notices of what it came to: data first, mover second.
+fn announce(s: Session, mv: Move, time: u32, out: &mut [u8]) -> Answer
+    requires { ⌜ leastRoom ≤ length (now out) ⌝ }
+    ensures { λ r. ⌜ ((before image : List ℕ) → CallTold (announced (held s before) (stamped time (length (now (out .entry)))) mv image) r image (now (out .entry)) (now (out .exit))) ⌝ }
+{
+    let g = s.login;
+    let d = mv.source;
+    let m = mv.mover;
+    let t = mv.tape;
+    let c = s.changer;
+    let session = s.with_parts(g, d, m, t, c);
+    let sent = call_sending::quiet(0, session);
+    let halted = call_sending::halts(sent, time, mv.dwhy, mv.mwhy, out);
+    call_sending::notify(
+        halted,
+        time,
+        mv.pause,
+        Notice::MoverPaused(mv.pause, m.seek),
+        out,
+    )
+}
+
+// The end of the method that reads or writes the stream, in success or not. No image is handed to it.
+pub fn end_method(s: Session, ok: bool, time: u32, out: &mut [u8]) -> Answer
+    ensures { λ r. ⌜ ((image : List ℕ) → CallTold (methodEnded (held s image) (stamped time (length (now (out .entry)))) ok) r image (now (out .entry)) (now (out .exit))) ⌝ }
+{
+    let guard = serve_relation::guard(s, out.len());
+    if let Guard::Stop(code) = guard {
+        return call_sending::quiet(code, s);
+    }
+    let d = s.source;
+    let m = s.mover;
+    let t = s.tape;
+    let mv = rules_moves::method_end(ok, d, m, t);
+    announce(s, mv, time, out)
+}
+
+// Nothing is moved or sent, and nothing changes.
+fn unmoved(code: u32, s: Session) -> Moved
+    ensures { λ r. ⌜ ((image dest l : List ℕ) → MoveTold (idling code (held s image) dest) r image dest l l) ⌝ }
+{
+    Moved {
+        code,
+        count: 0,
+        len: 0,
+        session: s,
+    }
+}
+
+// What a move came to, with its notices.
+fn report(s: Session, mv: Move, time: u32, out: &mut [u8]) -> Moved
+    requires { ⌜ leastRoom ≤ length (now out) ⌝ }
+    ensures { λ r. ⌜ ((before image dest : List ℕ) → MoveTold (moved (held s before) (stamped time (length (now (out .entry)))) mv image dest) r image dest (now (out .entry)) (now (out .exit))) ⌝ }
+{
+    let count = mv.count;
+    let sent = announce(s, mv, time, out);
+    let session = sent.session;
+    Moved {
+        code: sent.code,
+        count,
+        len: sent.len,
+        session,
+    }
+}
+
+// A move to tape of a session that is in order.
+fn feed(s: Session, image: &mut [u8], stream: &[u8], last: bool, time: u32, out: &mut [u8]) -> Moved
+    requires { ⌜ (keeps s ≡ true) × (leastRoom ≤ length (now out)) ⌝ }
+    ensures { λ r. ⌜ MoveTold (feeding (held s (now (image .entry))) (stamped time (length (now (out .entry)))) (now (stream .entry)) last) r (now (image .exit)) [] (now (out .entry)) (now (out .exit)) ⌝ }
+{
+    let d = s.source;
+    let m = s.mover;
+    let t = s.tape;
+    let mv = serve_to_tape::to_tape(d, m, t, image, stream, last);
+    report(s, mv, time, out)
+}
+
+// One move to tape: the session, the cartridge, a part of the stream and whether it is the last, the time stamp and the output.
+pub fn move_to_tape(
+    s: Session,
+    image: &mut [u8],
+    stream: &[u8],
+    last: bool,
+    time: u32,
+    out: &mut [u8],
+) -> Moved
+    ensures { λ r. ⌜ MoveTold (movedToTape (held s (now (image .entry))) (stamped time (length (now (out .entry)))) (now (stream .entry)) last) r (now (image .exit)) [] (now (out .entry)) (now (out .exit)) ⌝ }
+{
+    let guard = serve_relation::guard(s, out.len());
+    if let Guard::Stop(code) = guard {
+        return unmoved(code, s);
+    }
+    feed(s, image, stream, last, time, out)
+}
+
+// A move from tape of a session that is in order.
+fn hand(s: Session, image: &[u8], dest: &mut [u8], time: u32, out: &mut [u8]) -> Moved
+    requires { ⌜ (keeps s ≡ true) × (leastRoom ≤ length (now out)) ⌝ }
+    ensures { λ r. ⌜ MoveTold (handing (held s (now (image .entry))) (stamped time (length (now (out .entry)))) (now (dest .entry))) r (now (image .entry)) (now (dest .exit)) (now (out .entry)) (now (out .exit)) ⌝ }
+{
+    let d = s.source;
+    let m = s.mover;
+    let t = s.tape;
+    let mv = serve_from_tape::from_tape(d, m, t, image, dest);
+    report(s, mv, time, out)
+}
+
+// One move from tape: the session, the cartridge, which is only read, the destination, the time stamp and the output.
+pub fn move_from_tape(s: Session, image: &[u8], dest: &mut [u8], time: u32, out: &mut [u8]) -> Moved
+    ensures { λ r. ⌜ MoveTold (movedFromTape (held s (now (image .entry))) (stamped time (length (now (out .entry)))) (now (dest .entry))) r (now (image .entry)) (now (dest .exit)) (now (out .entry)) (now (out .exit)) ⌝ }
+{
+    let guard = serve_relation::guard(s, out.len());
+    if let Guard::Stop(code) = guard {
+        return unmoved(code, s);
+    }
+    hand(s, image, dest, time, out)
+}

@@ -1,0 +1,106 @@
+-- Requests at their services: what is answered can be sent, and a call of a service does what its outcome says. Assumes nothing.
+use Prim.Native.Nat.{ℕ}
+use mathlib.Core.Bool.{Bool, true, false}
+use mathlib.Core.List.{List, []}
+use mathlib.Core.Path.{_≡_, refl, sym, ap, _∙_}
+use lib.ListN.{drop}
+use Rattle.xdr.specs.Choose.{choose}
+use Rattle.wire_frame.specs.Frame.{wellFramed}
+use Rattle.wire_frame.specs.Messages.{rowOf}
+use Rattle.wire_frame.specs.declared.Message.{Message}
+use Rattle.wire_frame.specs.declared.Row.{Row}
+use Rattle.xdr.specs.Xdr.{word}
+use Rattle.wire_requests.specs.Within.{textsWithin, Decoded}
+use Rattle.wire_requests.specs.declared.Request.{Request}
+use Rattle.wire_replies.specs.declared.Reply.{Reply}
+use Rattle.wire_replies.specs.declared.Reply.the-variants as Reply
+use Rattle.wire_replies.specs.declared.Notice.the-variants as Notice
+use Rattle.wire_replies.specs.Fit.{Sendable}
+use Rattle.wire_requests.specs.declared.TapeRequest.{TapeRequest}
+use Rattle.wire_requests.specs.declared.MoverRequest.{MoverRequest}
+use Rattle.rules.specs.declared.types.Mover.{Mover}
+use Rattle.rules.specs.declared.Guard.the-variants.{Stop, Go}
+use Rattle.rules.specs.TapeService.{Loaded, TapePart, deviceStep, withLoaded, withMover, tapeStep, moverPartStep}
+use Rattle.rules.specs.MoverService.{moverStep}
+use Rattle.rules.specs.Judge.{Outcome, refuse, accept, onto, Accepts}
+use Rattle.rules.specs.Answer.{Kept, Lent, Answered, Done, silent, guarded, answered, requested, replying, halting, noticed, refusing, refusedIn, isUnread, settled, requestIn, messageIn, judged}
+use Rattle.rules.specs.Answer.{isLocked, isClose, closing, outcome}
+use Rattle.rules.proofs.Guarding.{when-stopped, when-goes}
+use Rattle.rules.proofs.Calls.{judged-locked, judged-free}
+use Rattle.rules.specs.declared.types.Answer.{Answer}
+use Rattle.call_sending.specs.Call.{CallTold}
+
+-- what is said of accepted answers, of the one that was given
+pub accepted-says : {A : Type 0} (P : Reply → A → Type 0) (o : Outcome A) (reply : Reply) (p : A) → accept reply p ≡ o → Accepts P o → P reply p
+unfolding Accepts
+accepted-says P o reply p e h = rw (← e) at h
+
+-- ---- a call by the outcome of its step: refused; accepted with no end halted; accepted
+module _ {A : Type 0} (k : Kept) (time : ℕ) (r : List ℕ) (q : Request) (put : A → Done) (o : Outcome A) {v : Answer} {image l l′ : List ℕ} where
+  pub call-refused : (e : ℕ) → isUnread q ≡ false → refuse e ≡ o → CallTold (replying r time (refusedIn r e) [] k) v image l l′
+      → CallTold (settled k time r q (onto put o)) v image l l′
+  unfolding settled onto refusing choose
+  call-refused e u h c = rw (← h, u) c
+
+  pub call-ended : (reply : Reply) (p : A) → accept reply p ≡ o
+      → CallTold (halting time (put p .dwhy) (put p .mwhy) (replying r time reply (put p .shown) (put p .kept))) v image l l′
+      → CallTold (settled k time r q (onto put o)) v image l l′
+  unfolding settled onto
+  call-ended reply p h c = rw (← h) c
+
+  pub call-accepted : (reply : Reply) (p : A) → put p .dwhy ≡ 0 → put p .mwhy ≡ 0 → accept reply p ≡ o
+      → CallTold (replying r time reply (put p .shown) (put p .kept)) v image l l′ → CallTold (settled k time r q (onto put o)) v image l l′
+  unfolding settled onto noticed choose
+  call-accepted reply p d m h c = rw (← h, d, m) c
+
+-- ---- the service TAPE and MOVER: what an interface of it came to, as the service's own outcome
+module _ (p : TapePart) where
+  pub tape-refuses : (q : TapeRequest) (body : List ℕ) (e : ℕ) → deviceStep (p .mover .state) (p .tape) (p .image) q body ≡ refuse e → refuse e ≡ tapeStep p q body
+  unfolding tapeStep onto
+  tape-refuses q body e h = rw h
+
+  pub tape-accepts : (q : TapeRequest) (body : List ℕ) (reply : Reply) (s : Loaded) → deviceStep (p .mover .state) (p .tape) (p .image) q body ≡ accept reply s
+      → accept reply (withLoaded p s) ≡ tapeStep p q body
+  unfolding tapeStep onto
+  tape-accepts q body reply s h = rw h
+
+  pub mover-refuses : (q : MoverRequest) (e : ℕ) → refuse e ≡ moverStep (p .mover) (p .tape) q → refuse e ≡ moverPartStep p q
+  unfolding moverPartStep onto
+  mover-refuses q e h = rw (← h)
+
+  pub mover-accepts : (q : MoverRequest) (reply : Reply) (m : Mover) → accept reply m ≡ moverStep (p .mover) (p .tape) q → accept reply (withMover p m) ≡ moverPartStep p q
+  unfolding moverPartStep onto
+  mover-accepts q reply m h = rw (← h)
+
+-- ---- the request of a record, by what was decoded from the part of it that is lent
+pub request-is : (r : List ℕ) {body : List ℕ} {m : ℕ} {row : Row} {kind : Message} {q : Request} → body ≡ drop 28 r → m ≡ word r 16 → row ≡ rowOf m → kind ≡ row .kind
+    → Decoded kind body q → q ≡ requestIn r
+request-is r hb hm hr hk d = d .is ∙ rw (hb, hk, hr, hm)
+
+pub texts-in : (r : List ℕ) {body : List ℕ} {m : Message} {q : Request} → body ≡ drop 28 r → Decoded m body q → textsWithin (drop 28 r) q
+texts-in r hb d = rw hb at (d .within)
+
+pub header-sends : (e : ℕ) (seen : List ℕ) → Sendable (Reply.Header e) seen
+unfolding Sendable
+header-sends e seen = tt
+
+-- a request that is locked is refused with 4; any other is at its service
+module _ (k : Kept) (l : Lent) (r : List ℕ) (q : Request) {v : Answer} {image out out′ : List ℕ} where
+  pub call-locked : q ≡ requestIn r → isLocked (k .session .login) q ≡ true → CallTold (replying r (l .time) (refusedIn r 4) [] k) v image out out′
+      → CallTold (judged k l r (requestIn r)) v image out out′
+  call-locked e h c = rw (← e, judged-locked k l r q h) c
+
+  pub call-free : q ≡ requestIn r → isLocked (k .session .login) q ≡ false
+      → CallTold (choose (isClose q) (closing k) (settled k (l .time) r q (outcome k l r q))) v image out out′ → CallTold (judged k l r (requestIn r)) v image out out′
+  call-free e h c = rw (← e, judged-free k l r q h) c
+
+-- a call by what its guard found
+module _ (k : Kept) (l : Lent) (r : List ℕ) {v : Answer} {image out out′ : List ℕ} where
+  pub call-stopped : (code : ℕ) → Stop code ≡ guarded (k .session) (l .room) Stop Go → CallTold (silent code k) v image out out′ → CallTold (answered k l r) v image out out′
+  unfolding answered
+  call-stopped code h c = when-stopped (λ (a : Answered). CallTold a v image out out′) (k .session) (l .room) code _ _ h c
+
+  pub call-goes : Go ≡ guarded (k .session) (l .room) Stop Go → CallTold (choose (wellFramed r) (requested k l r) (closing k)) v image out out′
+      → CallTold (answered k l r) v image out out′
+  unfolding answered
+  call-goes h c = when-goes (λ (a : Answered). CallTold a v image out out′) (k .session) (l .room) _ _ h c

@@ -1,0 +1,296 @@
+// The calls of the session core. No call has a requires: it refuses.
+ghost use mathlib.Core.Path.{_≡_};
+ghost use mathlib.Core.Bool.{Bool, true, false};
+ghost use mathlib.Core.List.{List, []};
+ghost use Prim.Native.Nat.{ℕ, _+_, _≤_};
+ghost use lib.ListN.{length};
+ghost use Rattle.xdr.specs.Choose.{choose};
+ghost use Rattle.xdr.specs.Xdr.{word};
+ghost use Rattle.wire_frame.specs.Frame.{bodyOf};
+ghost use Rattle.wire_requests.specs.Within.{textsWithin};
+ghost use Rattle.wire_requests.specs.declared.Request.{Request};
+ghost use Rattle.wire_requests.specs.declared.Request.the-variants as Request;
+ghost use Rattle.wire_replies.specs.Fit.{Sendable};
+ghost use Rattle.rules.specs.Judge.{Accepts, onto};
+ghost use Rattle.rules.specs.DataService.{dataStep};
+ghost use Rattle.rules.specs.TapeService.{tapeStep, moverPartStep};
+ghost use Rattle.rules.specs.ScsiService.{scsiStep};
+ghost use Rattle.rules.specs.Joint.{jointStep};
+ghost use Rattle.rules.specs.Connection.{connectStep};
+ghost use Rattle.rules.specs.Answer.{held, closing, tapePart, withData, withTape, withChanger, withLogin, withEnds, requestIn, outcome, isUnread, settled, isClose, judged, answered};
+ghost use Rattle.rules.specs.Calls.{opening};
+ghost use Rattle.serve_connect.specs.Done.{outcomeOf};
+ghost use Rattle.call_sending.specs.Call.{CallTold, Ready};
+ghost use Rattle.call_request.specs.Call.{lent, Sends};
+use rules::Guard;
+use rules::types::Answer;
+use rules::types::Session;
+use serve_changer::ScsiDone;
+use serve_connect::LoginDone;
+use serve_data::DataDone;
+use serve_joint::JointDone;
+use serve_mover::MoverDone;
+use serve_tape::TapeDone;
+use wire_frame::Framed;
+use wire_replies::Reply;
+use wire_requests::ConnectRequest;
+use wire_requests::DataRequest;
+use wire_requests::JointRequest;
+use wire_requests::MoverRequest;
+use wire_requests::Request;
+use wire_requests::ScsiRequest;
+use wire_requests::TapeRequest;
+
+fn data_call(s: Session, q: DataRequest, input: &[u8], time: u32, out: &mut [u8]) -> Answer
+    requires { ⌜ Ready (now input) (now out) × textsWithin (bodyOf (now input)) (Request.Data q) ⌝ }
+    ensures { λ r. ⌜ ((image : List ℕ) → CallTold (settled (held s image) time (now (input .entry)) (Request.Data q) (onto (withData (held s image)) (dataStep (s .source) q (bodyOf (now (input .entry)))))) r image (now (out .entry)) (now (out .exit))) ⌝ }
+{
+    let d = s.source;
+    let done = serve_data::serve(d, q, &input[28..]);
+    match done {
+        DataDone::Refuse(e) => call_sending::refuse(s, e, input, time, out),
+        DataDone::Accept(reply, next) => {
+            let g = s.login;
+            let m = s.mover;
+            let t = s.tape;
+            let c = s.changer;
+            let session = s.with_parts(g, next, m, t, c);
+            call_sending::finish(session, input, time, reply, b"", out)
+        }
+    }
+}
+
+fn scsi_call(s: Session, q: ScsiRequest, input: &[u8], time: u32, out: &mut [u8]) -> Answer
+    requires { ⌜ Ready (now input) (now out) × textsWithin (bodyOf (now input)) (Request.Scsi q) ⌝ }
+    ensures { λ r. ⌜ ((image : List ℕ) → CallTold (settled (held s image) time (now (input .entry)) (Request.Scsi q) (onto (withChanger (held s image)) (scsiStep (s .changer) q (bodyOf (now (input .entry)))))) r image (now (out .entry)) (now (out .exit))) ⌝ }
+{
+    let c = s.changer;
+    let done = serve_changer::serve(c, q, &input[28..]);
+    match done {
+        ScsiDone::Refuse(e) => call_sending::refuse(s, e, input, time, out),
+        ScsiDone::Accept(reply, next) => {
+            let g = s.login;
+            let d = s.source;
+            let m = s.mover;
+            let t = s.tape;
+            let session = s.with_parts(g, d, m, t, next);
+            call_sending::finish(session, input, time, reply, b"", out)
+        }
+    }
+}
+
+fn tape_call(
+    s: Session,
+    q: TapeRequest,
+    image: &mut [u8],
+    input: &[u8],
+    time: u32,
+    out: &mut [u8],
+) -> Answer
+    requires { ⌜ Ready (now input) (now out) × textsWithin (bodyOf (now input)) (Request.Tape q) ⌝ }
+    ensures { λ r. ⌜ CallTold (settled (held s (now (image .entry))) time (now (input .entry)) (Request.Tape q) (onto (withTape (held s (now (image .entry)))) (tapeStep (tapePart (held s (now (image .entry)))) q (bodyOf (now (input .entry)))))) r (now (image .exit)) (now (out .entry)) (now (out .exit)) ⌝ }
+{
+    let m = s.mover;
+    let t = s.tape;
+    let done = serve_tape::serve(m.state, t, image, q, &input[28..]);
+    match done {
+        TapeDone::Refuse(e) => call_sending::refuse(s, e, input, time, out),
+        TapeDone::Accept(reply, next) => {
+            let g = s.login;
+            let d = s.source;
+            let c = s.changer;
+            let session = s.with_parts(g, d, m, next, c);
+            call_sending::finish(session, input, time, reply, image, out)
+        }
+    }
+}
+
+fn mover_call(
+    s: Session,
+    q: MoverRequest,
+    image: &[u8],
+    input: &[u8],
+    time: u32,
+    out: &mut [u8],
+) -> Answer
+    requires { ⌜ Ready (now input) (now out) ⌝ }
+    ensures { λ r. ⌜ CallTold (settled (held s (now (image .entry))) time (now (input .entry)) (Request.Mover q) (onto (withTape (held s (now (image .entry)))) (moverPartStep (tapePart (held s (now (image .entry)))) q))) r (now (image .entry)) (now (out .entry)) (now (out .exit)) ⌝ }
+{
+    let m = s.mover;
+    let t = s.tape;
+    let done = serve_mover::serve(m, t, q);
+    match done {
+        MoverDone::Refuse(e) => call_sending::refuse(s, e, input, time, out),
+        MoverDone::Accept(reply, next) => {
+            let g = s.login;
+            let d = s.source;
+            let c = s.changer;
+            let session = s.with_parts(g, d, next, t, c);
+            call_sending::finish(session, input, time, reply, image, out)
+        }
+    }
+}
+
+// A joint request, and the notices of what halted: data first, mover second.
+fn joint_call(s: Session, q: JointRequest, input: &[u8], time: u32, out: &mut [u8]) -> Answer
+    requires { ⌜ Ready (now input) (now out) ⌝ }
+    ensures { λ r. ⌜ ((image : List ℕ) → CallTold (settled (held s image) time (now (input .entry)) (Request.Joint q) (onto (withEnds (held s image)) (jointStep (s .source) (s .mover) (s .tape) q))) r image (now (out .entry)) (now (out .exit))) ⌝ }
+{
+    let d = s.source;
+    let m = s.mover;
+    let t = s.tape;
+    let done = serve_joint::serve(d, m, t, q);
+    match done {
+        JointDone::Refuse(e) => call_sending::refuse(s, e, input, time, out),
+        JointDone::Accept(reply, ends) => {
+            let g = s.login;
+            let source = ends.source;
+            let mover = ends.mover;
+            let c = s.changer;
+            let session = s.with_parts(g, source, mover, t, c);
+            let sent = call_sending::finish(session, input, time, reply, b"", out);
+            call_sending::halts(sent, time, ends.dwhy, ends.mwhy, out)
+        }
+    }
+}
+
+// What CONNECT or CONFIG came to, answered.
+fn login_call(s: Session, done: LoginDone, input: &[u8], time: u32, out: &mut [u8]) -> Answer
+    requires { ⌜ Ready (now input) (now out) × Accepts Sends (outcomeOf done) ⌝ }
+    ensures { λ r. ⌜ ((image : List ℕ) (q : Request) → isUnread q ≡ false → CallTold (settled (held s image) time (now (input .entry)) q (onto (withLogin (held s image)) (outcomeOf done))) r image (now (out .entry)) (now (out .exit))) ⌝ }
+{
+    match done {
+        LoginDone::Refuse(e) => call_sending::refuse(s, e, input, time, out),
+        LoginDone::Accept(reply, next) => {
+            let d = s.source;
+            let m = s.mover;
+            let t = s.tape;
+            let c = s.changer;
+            let session = s.with_parts(next, d, m, t, c);
+            call_sending::finish(session, input, time, reply, b"", out)
+        }
+    }
+}
+
+// CONNECT; an accepted close has no reply.
+fn connect_call(
+    s: Session,
+    q: ConnectRequest,
+    id: &[u8],
+    password: &[u8],
+    input: &[u8],
+    time: u32,
+    out: &mut [u8],
+) -> Answer
+    requires { ⌜ Ready (now input) (now out) × textsWithin (bodyOf (now input)) (Request.Connect q) ⌝ }
+    ensures { λ r. ⌜ ((image : List ℕ) → CallTold (choose (isClose (Request.Connect q)) (closing (held s image)) (settled (held s image) time (now (input .entry)) (Request.Connect q) (onto (withLogin (held s image)) (connectStep (s .first) (s .login) (record { id = now (id .entry); password = now (password .entry) }) q (bodyOf (now (input .entry))))))) r image (now (out .entry)) (now (out .exit))) ⌝ }
+{
+    if serve_connect::is_close(q) {
+        return call_sending::shut(s);
+    }
+    let g = s.login;
+    let done = serve_connect::serve(s.first, g, q, &input[28..], id, password);
+    login_call(s, done, input, time, out)
+}
+
+// A request that is not locked, at its service.
+fn serve_call(
+    s: Session,
+    q: Request,
+    id: &[u8],
+    password: &[u8],
+    image: &mut [u8],
+    input: &[u8],
+    time: u32,
+    out: &mut [u8],
+) -> Answer
+    requires { ⌜ Ready (now input) (now out) × textsWithin (bodyOf (now input)) q ⌝ }
+    ensures { λ r. ⌜ CallTold (choose (isClose q) (closing (held s (now (image .entry)))) (settled (held s (now (image .entry))) time (now (input .entry)) q (outcome (held s (now (image .entry))) (lent (now (id .entry)) (now (password .entry)) time (now (out .entry))) (now (input .entry)) q))) r (now (image .exit)) (now (out .entry)) (now (out .exit)) ⌝ }
+{
+    match q {
+        Request::Connect(x) => connect_call(s, x, id, password, input, time, out),
+        Request::Config(x) => {
+            let g = s.login;
+            let done = serve_connect::config(g, x);
+            login_call(s, done, input, time, out)
+        }
+        Request::Scsi(x) => scsi_call(s, x, input, time, out),
+        Request::Tape(x) => tape_call(s, x, image, input, time, out),
+        Request::Data(x) => data_call(s, x, input, time, out),
+        Request::Mover(x) => mover_call(s, x, image, input, time, out),
+        Request::Joint(x) => joint_call(s, x, input, time, out),
+        Request::Unknown => call_sending::finish(
+            s,
+            input,
+            time,
+            Reply::Header(codes::NOT_SUPPORTED),
+            b"",
+            out,
+        ),
+        Request::Bad => call_sending::finish(
+            s,
+            input,
+            time,
+            Reply::Header(codes::UNDECODABLE),
+            b"",
+            out,
+        ),
+    }
+}
+
+// A well-framed request: decoded once, and judged.
+fn framed_call(
+    s: Session,
+    message: u32,
+    id: &[u8],
+    password: &[u8],
+    image: &mut [u8],
+    input: &[u8],
+    time: u32,
+    out: &mut [u8],
+) -> Answer
+    requires { ⌜ Ready (now input) (now out) × (message ≡ word (now input) 16) ⌝ }
+    ensures { λ r. ⌜ CallTold (judged (held s (now (image .entry))) (lent (now (id .entry)) (now (password .entry)) time (now (out .entry))) (now (input .entry)) (requestIn (now (input .entry)))) r (now (image .exit)) (now (out .entry)) (now (out .exit)) ⌝ }
+{
+    let row = wire_frame::row_of(message);
+    let kind = row.kind;
+    let q = wire_requests::decode(kind, &input[28..]);
+    let g = s.login;
+    if serve_connect::is_locked(g, q) {
+        return call_sending::refuse(s, codes::NOT_AUTHORIZED, input, time, out);
+    }
+    serve_call(s, q, id, password, image, input, time, out)
+}
+
+// A new session: the notice of the connection status is its message 1.
+pub fn open(time: u32, out: &mut [u8]) -> Answer
+    ensures { λ r. ⌜ CallTold (opening time (length (now (out .entry)))) r [] (now (out .entry)) (now (out .exit)) ⌝ }
+{
+    call_sending::begin(time, out)
+}
+
+// One request: the session, the account's id and password, the cartridge, the record, the time stamp and the output.
+pub fn request(
+    s: Session,
+    id: &[u8],
+    password: &[u8],
+    image: &mut [u8],
+    input: &[u8],
+    time: u32,
+    out: &mut [u8],
+) -> Answer
+    ensures { λ r. ⌜ CallTold (answered (held s (now (image .entry))) (lent (now (id .entry)) (now (password .entry)) time (now (out .entry))) (now (input .entry))) r (now (image .exit)) (now (out .entry)) (now (out .exit)) ⌝ }
+{
+    let guard = serve_relation::guard(s, out.len());
+    if let Guard::Stop(code) = guard {
+        return call_sending::quiet(code, s);
+    }
+    match wire_frame::read_frame(input) {
+        Framed::Broken => call_sending::shut(s),
+        Framed::NotRequest => call_sending::quiet(0, s),
+        Framed::Request {
+            sequence: _,
+            message,
+        } => { framed_call(s, message, id, password, image, input, time, out) }
+    }
+}

@@ -1,0 +1,120 @@
+// What a call returns, and how it comes about: a reply, a refusal, the notices behind it, or nothing. For the calls of the crates above.
+ghost use mathlib.Core.Path.{_≡_};
+ghost use mathlib.Core.List.{List, []};
+ghost use Prim.Native.Nat.{ℕ, _+_, _≤_};
+ghost use lib.ListN.{length};
+ghost use Rattle.wire_replies.specs.Fit.{Sendable};
+ghost use Rattle.rules.specs.Names.{leastRoom};
+ghost use Rattle.rules.specs.Answer.{held, Answered, silent, closing, replying, refusedIn, noticed, halting};
+ghost use Rattle.rules.specs.Calls.{opening};
+ghost use Rattle.call_sending.specs.Call.{CallTold, Ready};
+use rules::types::Answer;
+use rules::types::Session;
+use wire_replies::Notice;
+use wire_replies::Reply;
+
+// The reply to a record, and the session counted. For every service.
+pub fn finish(
+    next: Session,
+    input: &[u8],
+    time: u32,
+    reply: Reply,
+    seen: &[u8],
+    out: &mut [u8],
+) -> Answer
+    requires { ⌜ Ready (now input) (now out) × Sendable reply (now seen) ⌝ }
+    ensures { λ r. ⌜ (r .len ≤ 32804) × ((image : List ℕ) → CallTold (replying (now (input .entry)) time reply (now (seen .entry)) (held next image)) r image (now (out .entry)) (now (out .exit))) ⌝ }
+{
+    let message = xdr::read_word(input, 16);
+    let echo = xdr::read_word(input, 4);
+    let len = wire_replies::write_reply(out, next.sequence, time, message, echo, reply, seen);
+    let session = next.after_message(false);
+    Answer {
+        code: 0,
+        len,
+        session,
+    }
+}
+
+// A refused request, of any message: its number among zero words, as the row of the message says, and the session as it was but counted.
+pub fn refuse(s: Session, error: u32, input: &[u8], time: u32, out: &mut [u8]) -> Answer
+    requires { ⌜ Ready (now input) (now out) ⌝ }
+    ensures { λ r. ⌜ ((image : List ℕ) → CallTold (replying (now (input .entry)) time (refusedIn (now (input .entry)) error) [] (held s image)) r image (now (out .entry)) (now (out .exit))) ⌝ }
+{
+    let message = xdr::read_word(input, 16);
+    let row = wire_frame::row_of(message);
+    finish(
+        s,
+        input,
+        time,
+        Reply::Refused(row.before, error, row.after),
+        b"",
+        out,
+    )
+}
+
+// A notice behind what was sent, where there is a reason for one.
+pub fn notify(sent: Answer, time: u32, why: u32, notice: Notice, out: &mut [u8]) -> Answer
+    requires { ⌜ (sent .len ≤ 36000) × (leastRoom ≤ length (now out)) ⌝ }
+    ensures { λ r. ⌜ (r .len ≤ sent .len + 40) × ((a : Answered) (image l : List ℕ) → CallTold a sent image l (now (out .entry)) → CallTold (noticed time why notice a) r image l (now (out .exit))) ⌝ }
+{
+    if why == 0 {
+        return sent;
+    }
+    let s = sent.session;
+    let len = wire_replies::write_notice(out, sent.len, s.sequence, time, notice);
+    let session = s.after_message(s.first);
+    Answer {
+        code: sent.code,
+        len,
+        session,
+    }
+}
+
+// The notices of what halted behind what was sent: data first, mover second.
+pub fn halts(sent: Answer, time: u32, dwhy: u32, mwhy: u32, out: &mut [u8]) -> Answer
+    requires { ⌜ (sent .len ≤ 35000) × (leastRoom ≤ length (now out)) ⌝ }
+    ensures { λ r. ⌜ (r .len ≤ sent .len + 80) × ((a : Answered) (image l : List ℕ) → CallTold a sent image l (now (out .entry)) → CallTold (halting time dwhy mwhy a) r image l (now (out .exit))) ⌝ }
+{
+    let told = notify(sent, time, dwhy, Notice::DataHalted(dwhy), out);
+    notify(told, time, mwhy, Notice::MoverHalted(mwhy), out)
+}
+
+// Nothing is sent and nothing changes.
+pub fn quiet(code: u32, s: Session) -> Answer
+    ensures { λ r. ⌜ ((image l : List ℕ) → CallTold (silent code (held s image)) r image l l) ⌝ }
+{
+    Answer {
+        code,
+        len: 0,
+        session: s,
+    }
+}
+
+// A new session: the notice of the connection status is its message 1.
+pub fn begin(time: u32, out: &mut [u8]) -> Answer
+    ensures { λ r. ⌜ CallTold (opening time (length (now (out .entry)))) r [] (now (out .entry)) (now (out .exit)) ⌝ }
+{
+    if out.len() < codes::LARGEST_MESSAGE {
+        let unopened = Session::begins(true, 1);
+        return quiet(codes::SHORT_OUTPUT, unopened);
+    }
+    let len = wire_replies::write_notice(out, 0, 1, time, Notice::Connected);
+    let session = Session::begins(false, 2);
+    Answer {
+        code: 0,
+        len,
+        session,
+    }
+}
+
+// The session is closed, with no reply.
+pub fn shut(s: Session) -> Answer
+    ensures { λ r. ⌜ ((image l : List ℕ) → CallTold (closing (held s image)) r image l l) ⌝ }
+{
+    Answer {
+        code: 0,
+        len: 0,
+        session: s.shuts(),
+    }
+}

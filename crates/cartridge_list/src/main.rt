@@ -1,4 +1,0 @@
-// Lists the cartridge image on standard input.
-fn main() {
-    listing::list_from(0);
-}

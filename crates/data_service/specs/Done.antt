@@ -1,9 +1,0 @@
--- What the code of a data request hands back, as the definitions have it.
-use Rattle.session.specs.declared.types.Data.{Data}
-use Rattle.session.specs.Judge.{Outcome, refuse, accept}
-use Rattle.data_service.specs.declared.DataDone.{DataDone}
-use Rattle.data_service.specs.declared.DataDone.the-variants as DataDone
-
-abbrev pub outcomeOf : DataDone → Outcome Data
-outcomeOf (DataDone.Refuse e) = refuse e
-outcomeOf (DataDone.Accept reply next) = accept reply next

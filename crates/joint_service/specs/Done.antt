@@ -1,9 +1,0 @@
--- What the code of a joint request hands back, as the definitions have it.
-use Rattle.session.specs.declared.Ends.{Ends}
-use Rattle.session.specs.Judge.{Outcome, refuse, accept}
-use Rattle.joint_service.specs.declared.JointDone.{JointDone}
-use Rattle.joint_service.specs.declared.JointDone.the-variants as JointDone
-
-abbrev pub outcomeOf : JointDone → Outcome Ends
-outcomeOf (JointDone.Refuse e) = refuse e
-outcomeOf (JointDone.Accept reply next) = accept reply next

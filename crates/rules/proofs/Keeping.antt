@@ -1,0 +1,392 @@
+-- Every accepted request keeps the relation: one law for each service, and one for the joint requests. Assumes nothing.
+use Prim.Native.Nat.{ℕ, _+_, _%_, _≤_}
+use mathlib.Core.Bool.{Bool, true, false, not}
+use mathlib.Core.List.{List}
+use mathlib.Core.Path.{_≡_, refl, sym, ap, _∙_}
+use native.Mathlib.Omega.{arith}
+use lib.Dec.{eqb}
+use borrow.Author.Tests.{eq-eqb, ne-eqb, le-ltb, ltb-false}
+use Rattle.xdr.specs.Choose.{choose}
+use Rattle.xdr.proofs.Tests.{by-test, when, is, isnt, yes}
+use Rattle.wire_requests.specs.declared.DataRequest.{DataRequest}
+use Rattle.wire_requests.specs.declared.DataRequest.the-variants as DataRequest
+use Rattle.wire_requests.specs.declared.MoverRequest.{MoverRequest}
+use Rattle.wire_requests.specs.declared.MoverRequest.the-variants as MoverRequest
+use Rattle.wire_requests.specs.declared.TapeRequest.{TapeRequest}
+use Rattle.wire_requests.specs.declared.TapeRequest.the-variants as TapeRequest
+use Rattle.wire_requests.specs.declared.JointRequest.{JointRequest}
+use Rattle.wire_requests.specs.declared.JointRequest.the-variants as JointRequest
+use Rattle.wire_replies.specs.declared.Reply.{Reply}
+use Rattle.rules.specs.declared.types.Data.{Data}
+use Rattle.rules.specs.declared.types.Mover.{Mover}
+use Rattle.rules.specs.declared.types.Tape.{Tape}
+use Rattle.rules.specs.Names.{top}
+use Rattle.rules.specs.Judge.{Test, accept, judge, Accepts}
+use Rattle.rules.specs.Parts.{restData, restMover, dataTo, dataStarts, dataHalts, moverListens, moverRuns, moverWindow, moverSize, moverSeeks, moverHalts, dataJoined, moverJoined}
+use Rattle.rules.specs.Parts.{holdsTape, unwritable}
+use Rattle.rules.specs.DataService.{dataState, dataListen, dataStart, dataStop, dataStep}
+use Rattle.rules.specs.MoverService.{moverState, offsetWrong, moverListen, moverContinue, moverStop, busy, elsewhere, setWindow, moverRead, setSize, moverStep}
+use Rattle.rules.specs.TapeService.{Loaded, tapeOpen, tapeClose, tapeState, tapeMtio, tapeWrite, tapeRead, deviceStep, TapePart, withLoaded, withMover, tapeStep, moverPartStep}
+use Rattle.rules.specs.declared.Ends.{Ends}
+use Rattle.rules.specs.Joint.{joined, halted, dataConnect, moverConnect, dataAborted, dataAbort, moverAborted, moverAbort, moverClose, jointStep}
+use Rattle.rules.specs.Relation.{dataWrong, moverWrong, sameFlag, Legal, InWindow, MoverKept}
+use Rattle.rules.specs.Promises.{Keeps, JointKeeps, dataSide, partWrong, partSide}
+use Rattle.rules.proofs.JudgeLaws.{Clear, accepts, carried}
+use Rattle.rules.proofs.Kept.{mover-kept, kept-mover, past-top, writes}
+
+module _ {A : Type 0} (wrong side : A → Bool) (p : A) where
+  pub stays : Keeps wrong side p p
+  stays = record { good = λ h. h; sides = refl }
+
+-- ---- the data end
+abbrev DataKeeps : Data → Reply → Data → Type 0
+DataKeeps d _ next = Keeps dataWrong dataSide d next
+
+-- a change of state, from one that a test has found
+data-moves : (d next : Data) (k n : ℕ) → d .state ≡ k → next .state ≡ n → n ≤ 4 → dataJoined n ≡ dataJoined k → Keeps dataWrong dataSide d next
+unfolding dataWrong
+data-moves d next k n e f h j =
+    record { good = λ _. le-ltb 4 (next .state) (omega arith); sides = ap dataJoined f ∙ j ∙ ap dataJoined (sym e) }
+
+pub data-keeps : (d : Data) (q : DataRequest) (body : List ℕ) → Accepts (DataKeeps d) (dataStep d q body)
+unfolding dataStep dataState dataListen dataStart dataStop dataJoined choose
+data-keeps d DataRequest.State body = accepts (DataKeeps d) _ _ d (λ _. stays dataWrong dataSide d)
+data-keeps d (DataRequest.Backup name) body = accepts (DataKeeps d) _ _ (dataStarts 1 d) (λ g. data-moves d (dataStarts 1 d) 4 1 (is (g 0)) refl (omega arith) refl)
+data-keeps d (DataRequest.Recover name) body = accepts (DataKeeps d) _ _ (dataStarts 2 d) (λ g. data-moves d (dataStarts 2 d) 4 1 (is (g 0)) refl (omega arith) refl)
+data-keeps d DataRequest.Stop body = accepts (DataKeeps d) _ _ restData (λ g. data-moves d restData 2 0 (is (g 0)) refl (omega arith) refl)
+data-keeps d (DataRequest.Listen address) body = accepts (DataKeeps d) _ _ (dataTo 3 d) (λ g. data-moves d (dataTo 3 d) 0 3 (is (g 0)) refl (omega arith) refl)
+
+-- ---- the mover and the tape
+abbrev pub PartKeeps : TapePart → TapePart → Type 0
+PartKeeps p next = Keeps partWrong partSide p next
+
+-- by the facts
+by-facts : (p next : TapePart) → (MoverKept (p .mover) (p .tape) → MoverKept (next .mover) (next .tape)) → moverJoined (next .mover .state) ≡ moverJoined (p .mover .state)
+    → PartKeeps p next
+by-facts p next f s = record { good = λ h. kept-mover (next .mover) (next .tape) (f (mover-kept (p .mover) (p .tape) h)); sides = s }
+
+pub clash : {A : Type 0} (b : Bool) → b ≡ false → b ≡ true → A
+clash b h e = absurd (let z : _≡_ {A = ℕ} 0 1 = cc in omega arith)
+
+pub active-holds : (state : ℕ) → state ≡ 2 → holdsTape state ≡ true
+unfolding holdsTape choose
+active-holds state e = rw e refl
+
+-- the tape or the position may change while the mover does not hold the tape
+tape-free : (m : Mover) (t u : Tape) → (holdsTape (m .state) ≡ true → ⊥) → MoverKept m t → MoverKept m u
+tape-free m t u free k =
+    record {
+      states = k .states;
+      sizes = k .sizes;
+      seeks = k .seeks;
+      window = k .window;
+      start = k .start;
+      hold = λ e. absurd (free e);
+      listens = k .listens;
+      runs = k .runs;
+      resumes = k .resumes;
+      origins = λ e. absurd (free (active-holds (m .state) e));
+    }
+
+pub listen-holds : (state : ℕ) → state ≡ 1 → holdsTape state ≡ true
+unfolding holdsTape choose
+listen-holds state e = rw e refl
+
+none-holds : (state : ℕ) → (state ≡ 1 → ⊥) → (state ≡ 2 → ⊥) → holdsTape state ≡ false
+unfolding holdsTape choose
+none-holds state a b = rw (ne-eqb state 1 a) (ne-eqb state 2 b)
+
+offset-zero : (mode offset : ℕ) → offsetWrong mode offset ≡ false → mode ≡ 0 → offset ≡ 0
+unfolding offsetWrong
+offset-zero mode offset h e = is (when (eqb mode 0) _ h (eq-eqb mode 0 e))
+
+-- IDLE to LISTEN
+listen-kept : (m : Mover) (t : Tape) (mode : ℕ) → m .state ≡ 0 → t .opened ≡ true → unwritable mode (t .writable) ≡ false → (m .length ≡ 0 → ⊥)
+    → offsetWrong mode (m .offset) ≡ false → MoverKept m t → MoverKept (moverListens mode m) t
+listen-kept m t mode s o w n z k =
+    record {
+      states = omega arith;
+      sizes = k .sizes;
+      seeks = k .seeks;
+      window = k .window;
+      start = λ _. k .start (omega arith);
+      hold = λ _. record { window = n; opened = o; writes = writes mode (t .writable) w };
+      listens = λ e _. offset-zero mode (m .offset) z e;
+      runs = λ _ e. absurd (omega arith);
+      resumes = λ _ e. absurd (omega arith);
+      origins = λ e. absurd (omega arith);
+    }
+
+-- at the window's start
+at-start : (size offset length moved : ℕ) → offset ≡ moved → Legal size offset length → InWindow size offset length moved
+at-start size offset length moved e l =
+    let r : moved % size ≡ 0 = rw e at (l .offsets) in
+    record { some = l .some; from = omega arith; to = omega arith; records = r }
+
+-- to ACTIVE
+runs-kept : (m : Mover) (t : Tape) (mode : ℕ) → t .opened ≡ true → (mode ≡ 0 → t .writable ≡ true) → (m .length ≡ 0 → ⊥)
+    → (mode ≡ 0 → m .offset ≡ m .moved) → MoverKept m t → MoverKept (moverRuns mode (t .position) m) t
+runs-kept m t mode o w n z k =
+    record {
+      states = omega arith;
+      sizes = k .sizes;
+      seeks = k .seeks;
+      window = k .window;
+      start = λ e. absurd (omega arith);
+      hold = λ _. record { window = n; opened = o; writes = w };
+      listens = λ _ e. absurd (omega arith);
+      runs = λ e _. at-start (m .size) (m .offset) (m .length) (m .moved) (z e) (k .window n);
+      resumes = λ _ e. absurd (omega arith);
+      origins = λ _. omega arith;
+    }
+
+-- a mover at a state that holds no tape and is not LISTEN, ACTIVE or PAUSED, with a legal window or none
+pub halts-kept : (m : Mover) (t : Tape) (why : ℕ) → MoverKept m t → MoverKept (moverHalts why m) t
+unfolding holdsTape choose
+halts-kept m t why k =
+    record {
+      states = omega arith;
+      sizes = k .sizes;
+      seeks = k .seeks;
+      window = k .window;
+      start = λ e. absurd (omega arith);
+      hold = λ e. clash false refl e;
+      listens = λ _ e. absurd (omega arith);
+      runs = λ _ e. absurd (omega arith);
+      resumes = λ _ e. absurd (omega arith);
+      origins = λ e. absurd (omega arith);
+    }
+
+pub rest-kept : (size : ℕ) (t : Tape) → size ≤ 32768 → MoverKept (restMover size) t
+unfolding holdsTape choose
+rest-kept size t h =
+    record {
+      states = omega arith;
+      sizes = h;
+      seeks = omega arith;
+      window = λ n. absurd (n refl);
+      start = λ _. refl;
+      hold = λ e. clash false refl e;
+      listens = λ e _. absurd (omega arith);
+      runs = λ e _. absurd (omega arith);
+      resumes = λ e _. absurd (omega arith);
+      origins = λ e. absurd (omega arith);
+    }
+
+-- neither LISTEN nor ACTIVE where a window may be set
+not-busy : (state k : ℕ) → busy state ≡ false → state ≡ k → busy k ≡ false
+not-busy state k h e = rw e at h
+
+window-kept : (m : Mover) (t : Tape) (offset length : ℕ) → busy (m .state) ≡ false → (holdsTape (m .state) ≡ true → ⊥) → Legal (m .size) offset length
+    → elsewhere (m .state) (m .mode) (m .moved) offset ≡ false → MoverKept m t → MoverKept (moverWindow offset length m) t
+unfolding busy elsewhere choose
+window-kept m t offset length b free l z k =
+    record {
+      states = k .states;
+      sizes = k .sizes;
+      seeks = k .seeks;
+      window = λ _. l;
+      start = k .start;
+      hold = λ e. absurd (free e);
+      listens = λ _ e. absurd (free (listen-holds (m .state) e));
+      runs = λ _ e. absurd (free (active-holds (m .state) e));
+      resumes = λ e s _. is (rw (eq-eqb (m .state) 3 s, eq-eqb (m .mode) 0 e) at z);
+      origins = λ e. absurd (free (active-holds (m .state) e));
+    }
+
+size-kept : (m : Mover) (t : Tape) (size : ℕ) → m .state ≡ 0 → (holdsTape (m .state) ≡ true → ⊥) → size ≤ 32768 → MoverKept m t → MoverKept (moverSize size m) t
+size-kept m t size s free h k =
+    record {
+      states = k .states;
+      sizes = h;
+      seeks = k .seeks;
+      window = λ n. absurd (n refl);
+      start = k .start;
+      hold = λ e. absurd (free e);
+      listens = λ _ e. absurd (omega arith);
+      runs = λ _ e. absurd (omega arith);
+      resumes = λ _ e. absurd (omega arith);
+      origins = λ e. absurd (omega arith);
+    }
+
+seek-kept : (m : Mover) (t : Tape) (seek left : ℕ) → seek + left ≤ top → MoverKept m t → MoverKept (moverSeeks seek left m) t
+seek-kept m t seek left h k =
+    record {
+      states = k .states;
+      sizes = k .sizes;
+      seeks = h;
+      window = k .window;
+      start = k .start;
+      hold = λ e. let g = k .hold e in record { window = g .window; opened = g .opened; writes = g .writes };
+      listens = k .listens;
+      runs = k .runs;
+      resumes = k .resumes;
+      origins = k .origins;
+    }
+
+-- free of the tape: IDLE, and where a window may be set
+idle-free : (state : ℕ) → state ≡ 0 → holdsTape state ≡ true → ⊥
+unfolding holdsTape choose
+idle-free state e h = clash false refl (rw e at h)
+
+module _ (state : ℕ) (h : busy state ≡ false) where
+  not-listening : state ≡ 1 → ⊥
+  unfolding busy choose
+  not-listening e = clash true (not-busy state 1 h e) refl
+
+  not-active : state ≡ 2 → ⊥
+  unfolding busy choose
+  not-active e = clash true (not-busy state 2 h e) refl
+
+  busy-free : holdsTape state ≡ true → ⊥
+  unfolding holdsTape
+  busy-free e =
+      let z : holdsTape state ≡ false = none-holds state not-listening not-active in
+      clash (holdsTape state) z e
+
+-- ---- the mover's requests
+module _ (m : Mover) (t : Tape) (l : List ℕ) where
+  there : Mover → TapePart
+  there n = record { mover = n; tape = t; image = l }
+
+  MoverKeeps : Reply → Mover → Type 0
+  MoverKeeps _ n = PartKeeps (there m) (there n)
+
+  -- a request of the mover that is judged by tests
+  mover-judged : (ts : List Test) (r : Reply) (next : Mover)
+      → (Clear ts → MoverKept m t → MoverKept next t)
+      → (Clear ts → moverJoined (next .state) ≡ moverJoined (m .state))
+      → Accepts MoverKeeps (judge ts (accept r next))
+  unfolding there MoverKeeps
+  mover-judged ts r next f s = accepts MoverKeeps ts r next (λ g. by-facts (there m) (there next) (f g) (s g))
+
+  joined-at : (a b : ℕ) → m .state ≡ b → moverJoined a ≡ moverJoined b → moverJoined a ≡ moverJoined (m .state)
+  joined-at a b e j = j ∙ ap moverJoined (sym e)
+
+  mover-keeps : (q : MoverRequest) → Accepts MoverKeeps (moverStep m t q)
+  unfolding moverStep moverState moverListen moverContinue moverStop setWindow moverRead setSize moverJoined choose
+  mover-keeps MoverRequest.State = mover-judged _ _ m (λ _ k. k) (λ _. refl)
+  mover-keeps (MoverRequest.Listen mode address) =
+      mover-judged _ _ (moverListens mode m)
+      (λ g. listen-kept m t mode (is (g 1)) (yes (g 0)) (g 2) (isnt (g 4)) (g 5))
+      (λ g. joined-at 1 0 (is (g 1)) refl)
+  mover-keeps MoverRequest.Continue =
+      mover-judged _ _ (moverRuns (m .mode) (t .position) m)
+      (λ g k. runs-kept m t (m .mode) (yes (g 0)) (writes (m .mode) (t .writable) (g 2)) (isnt (g 3)) (λ e. k .resumes e (is (g 1)) (isnt (g 3))) k)
+      (λ g. joined-at 2 3 (is (g 1)) refl)
+  mover-keeps MoverRequest.Stop =
+      mover-judged _ _ (restMover (m .size)) (λ _ k. rest-kept (m .size) t (k .sizes)) (λ g. joined-at 0 4 (is (g 0)) refl)
+  mover-keeps (MoverRequest.Window offset length) =
+      mover-judged _ _ (moverWindow offset length m)
+      (λ g. let n : m .size ≡ 0 → ⊥ = isnt (g 1) in
+      let s : 1 ≤ m .size = omega arith in
+      window-kept m t offset length (g 0) (busy-free (m .state) (g 0))
+      (record { some = s; offsets = is (g 3); lengths = is (g 4); fits = past-top offset length (g 5) }) (g 6))
+      (λ _. refl)
+  mover-keeps (MoverRequest.Read offset length) =
+      mover-judged _ _ (moverSeeks offset length m) (λ g. seek-kept m t offset length (past-top offset length (g 3))) (λ _. refl)
+  mover-keeps (MoverRequest.Size size) =
+      mover-judged _ _ (moverSize size m)
+      (λ g. size-kept m t size (is (g 0)) (idle-free (m .state) (is (g 0))) (ltb-false 32768 size (g 2))) (λ _. refl)
+
+-- ---- the tape's requests
+module _ (p : TapePart) where
+  Reloads : Reply → Loaded → Type 0
+  Reloads _ s = PartKeeps p (withLoaded p s)
+
+  -- a request of the tape after which the mover is as it was
+  loaded-keeps : (s : Loaded) → (holdsTape (p .mover .state) ≡ true → ⊥) → PartKeeps p (withLoaded p s)
+  loaded-keeps s free = by-facts p (withLoaded p s) (tape-free (p .mover) (p .tape) (s .tape) free) refl
+
+  -- while the mover holds the tape it is open
+  open-free : p .tape .opened ≡ false → MoverKept (p .mover) (p .tape) → holdsTape (p .mover .state) ≡ true → ⊥
+  open-free h k e = clash (p .tape .opened) h (k .hold e .opened)
+
+  opens-keeps : (s : Loaded) → p .tape .opened ≡ false → PartKeeps p (withLoaded p s)
+  opens-keeps s h = by-facts p (withLoaded p s) (λ k. tape-free (p .mover) (p .tape) (s .tape) (open-free h k) k) refl
+
+  busy-tape : holdsTape (p .mover .state) ≡ false → holdsTape (p .mover .state) ≡ true → ⊥
+  busy-tape h e = clash (holdsTape (p .mover .state)) h e
+
+  device-keeps : (q : TapeRequest) (body : List ℕ) → Accepts Reloads (deviceStep (p .mover .state) (p .tape) (p .image) q body)
+  unfolding deviceStep tapeOpen tapeClose tapeState tapeMtio tapeWrite tapeRead Reloads
+  device-keeps (TapeRequest.Open name mode) body = accepts Reloads _ _ _ (λ g. opens-keeps _ (g 2))
+  device-keeps TapeRequest.Close body = accepts Reloads _ _ _ (λ g. loaded-keeps _ (busy-tape (g 1)))
+  device-keeps TapeRequest.State body = accepts Reloads _ _ _ (λ _. stays partWrong partSide p)
+  device-keeps (TapeRequest.Mtio op times) body = accepts Reloads _ _ _ (λ g. loaded-keeps _ (busy-tape (g 1)))
+  device-keeps (TapeRequest.Write bytes) body = accepts Reloads _ _ _ (λ g. loaded-keeps _ (busy-tape (g 1)))
+  device-keeps (TapeRequest.Read times) body = accepts Reloads _ _ _ (λ g. loaded-keeps _ (busy-tape (g 1)))
+
+-- ---- the two interfaces of the service
+pub tape-keeps : (p : TapePart) (q : TapeRequest) (body : List ℕ) → Accepts (λ _ next. PartKeeps p next) (tapeStep p q body)
+unfolding tapeStep Reloads
+tape-keeps p q body = carried (λ _ next. PartKeeps p next) (withLoaded p) _ (device-keeps p q body)
+
+pub mover-part-keeps : (p : TapePart) (q : MoverRequest) → Accepts (λ _ next. PartKeeps p next) (moverPartStep p q)
+unfolding moverPartStep there MoverKeeps
+mover-part-keeps p q = carried (λ _ next. PartKeeps p next) (withMover p) _ (mover-keeps (p .mover) (p .tape) (p .image) q)
+
+-- ---- the joint requests
+not-joined : (a b : Bool) → sameFlag a b ≡ true → a ≡ false → b ≡ false
+unfolding sameFlag
+not-joined true b h e = absurd (let z : _≡_ {A = ℕ} 0 1 = cc in omega arith)
+not-joined false true h e = absurd (let z : _≡_ {A = ℕ} 0 1 = cc in omega arith)
+not-joined false false h e = refl
+
+not-joined-back : (a b : Bool) → sameFlag a b ≡ true → b ≡ false → a ≡ false
+unfolding sameFlag
+not-joined-back true b h e = absurd (let z : _≡_ {A = ℕ} 0 1 = cc in omega arith)
+not-joined-back false b h e = refl
+
+flag-none : (a : Bool) → a ≡ false → sameFlag a false ≡ true
+unfolding sameFlag
+flag-none a e = rw e refl
+
+module _ (d : Data) (m : Mover) (t : Tape) (hd : dataWrong d ≡ false) (hm : moverWrong m t ≡ false)
+    (hj : sameFlag (dataJoined (d .state)) (moverJoined (m .state)) ≡ true) where
+  abbrev EndsKeep : Reply → Ends → Type 0
+  EndsKeep _ next = JointKeeps t next
+
+  facts : MoverKept m t
+  facts = mover-kept m t hm
+
+  -- both ends joined
+  connects : (mode : ℕ) → t .opened ≡ true → (mode ≡ 0 → t .writable ≡ true) → (m .length ≡ 0 → ⊥) → (mode ≡ 0 → m .offset ≡ m .moved)
+      → JointKeeps t (joined d m mode (t .position))
+  unfolding dataWrong dataJoined moverJoined sameFlag choose
+  connects mode o w n z = record { source = refl; mover = kept-mover (moverRuns mode (t .position) m) t (runs-kept m t mode o w n z facts); joined = refl }
+
+  -- both ends halted
+  halt : (dwhy mwhy : ℕ) → JointKeeps t (halted dwhy mwhy d m)
+  unfolding dataWrong dataJoined moverJoined sameFlag choose
+  halt dwhy mwhy = record { source = refl; mover = kept-mover (moverHalts mwhy m) t (halts-kept m t mwhy facts); joined = refl }
+
+  -- one end halted that was not joined
+  halt-data : (a b : ℕ) → dataJoined (d .state) ≡ false → JointKeeps t (record { source = dataHalts 2 d; mover = m; dwhy = a; mwhy = b })
+  unfolding dataWrong dataJoined sameFlag choose
+  halt-data a b h = record { source = refl; mover = hm; joined = ap not (not-joined (dataJoined (d .state)) (moverJoined (m .state)) hj h) }
+
+  halt-mover : (a b : ℕ) → moverJoined (m .state) ≡ false → JointKeeps t (record { source = d; mover = moverHalts 2 m; dwhy = a; mwhy = b })
+  unfolding moverJoined choose
+  halt-mover a b h =
+      record {
+        source = hd;
+        mover = kept-mover (moverHalts 2 m) t (halts-kept m t 2 facts);
+        joined = flag-none (dataJoined (d .state)) (not-joined-back (dataJoined (d .state)) (moverJoined (m .state)) hj h);
+      }
+
+  pub joint-keeps : (q : JointRequest) → Accepts EndsKeep (jointStep d m t q)
+  unfolding jointStep dataAbort dataConnect moverAbort moverClose moverConnect dataAborted moverAborted
+  joint-keeps JointRequest.DataAbort =
+      accepts EndsKeep _ _ _ (λ _. by-test (JointKeeps t) (dataJoined (d .state)) _ _ (λ _. halt 2 1) (λ h. halt-data 2 0 h))
+  joint-keeps (JointRequest.DataConnect address) =
+      accepts EndsKeep _ _ _
+      (λ g. let s : m .state ≡ 1 = is (g 2) in let h = facts .hold (listen-holds (m .state) s) in
+      connects (m .mode) (h .opened) (h .writes) (h .window) (λ e. facts .listens e s ∙ sym (facts .start (omega arith))))
+  joint-keeps JointRequest.MoverAbort =
+      accepts EndsKeep _ _ _ (λ _. by-test (JointKeeps t) (moverJoined (m .state)) _ _ (λ _. halt 4 2) (λ h. halt-mover 0 2 h))
+  joint-keeps JointRequest.MoverClose = accepts EndsKeep _ _ _ (λ _. halt 4 1)
+  joint-keeps (JointRequest.MoverConnect mode address) =
+      accepts EndsKeep _ _ _
+      (λ g. let s : m .state ≡ 0 = is (g 1) in
+      connects mode (yes (g 0)) (writes mode (t .writable) (g 2)) (isnt (g 4)) (λ e. offset-zero mode (m .offset) (g 5) e ∙ sym (facts .start (omega arith))))

@@ -1,0 +1,317 @@
+-- The reply of an accepted request has the number 0, or an outcome of the tape, and a refusal's is one of the table's. Assumes nothing.
+use Prim.Native.Nat.{ℕ, _+_}
+use mathlib.Core.Bool.{Bool, true, not}
+use mathlib.Core.List.{List, [], _∷_}
+use mathlib.Core.Path.{_≡_, refl, ap}
+use native.Mathlib.Omega.{arith}
+use lib.ListN.{length, getD}
+use lib.Dec.{eqb, ltb}
+use Rattle.xdr.specs.Choose.{choose}
+use Rattle.xdr.proofs.Tests.{by-test}
+use Rattle.tape_image.specs.Image.{capacity, count, entryLen, faulty}
+use Rattle.tape_spacing.specs.declared.Spaced.{Spaced}
+use Rattle.tape_spacing.specs.Spacing.{spacing}
+use Rattle.tape_spacing.proofs.Laws.{spaced-error}
+use Rattle.tape_writing.specs.Writing.{roomFor}
+use Rattle.tape_ops.specs.declared.Wrote.{Wrote}
+use Rattle.tape_ops.specs.declared.Part.{Part}
+use Rattle.tape_ops.specs.declared.Standing.{Standing}
+use Rattle.tape_ops.specs.Step.{Step, keeping}
+use Rattle.tape_ops.specs.Operations.{writeStep, readPart, entryPart, markStep, mtioStep, standingAt}
+use Rattle.tape_ops.specs.Promises.{Refused}
+use Rattle.wire_requests.specs.Within.{bytesAt}
+use Rattle.wire_requests.specs.declared.ConnectRequest.{ConnectRequest}
+use Rattle.wire_requests.specs.declared.ConnectRequest.the-variants as ConnectRequest
+use Rattle.wire_requests.specs.declared.ConfigRequest.{ConfigRequest}
+use Rattle.wire_requests.specs.declared.ConfigRequest.the-variants as ConfigRequest
+use Rattle.wire_requests.specs.declared.DataRequest.{DataRequest}
+use Rattle.wire_requests.specs.declared.DataRequest.the-variants as DataRequest
+use Rattle.wire_requests.specs.declared.MoverRequest.{MoverRequest}
+use Rattle.wire_requests.specs.declared.MoverRequest.the-variants as MoverRequest
+use Rattle.wire_requests.specs.declared.TapeRequest.{TapeRequest}
+use Rattle.wire_requests.specs.declared.TapeRequest.the-variants as TapeRequest
+use Rattle.wire_requests.specs.declared.ScsiRequest.{ScsiRequest}
+use Rattle.wire_requests.specs.declared.ScsiRequest.the-variants as ScsiRequest
+use Rattle.wire_requests.specs.declared.JointRequest.{JointRequest}
+use Rattle.wire_requests.specs.declared.JointRequest.the-variants as JointRequest
+use Rattle.wire_requests.specs.declared.Request.{Request}
+use Rattle.wire_requests.specs.declared.Request.the-variants as Request
+use Rattle.wire_replies.specs.declared.Reply.{Reply}
+use Rattle.wire_replies.specs.Replies.{numberOf}
+use Rattle.rules.specs.declared.types.Data.{Data}
+use Rattle.rules.specs.declared.types.Mover.{Mover}
+use Rattle.rules.specs.declared.types.Tape.{Tape}
+use Rattle.rules.specs.declared.types.Changer.{Changer}
+use Rattle.rules.specs.declared.types.Login.{Login}
+use Rattle.codes.specs.Codes.{longestRecord, deviceOpened, permissionDenied, notOpen, illegalArguments, badFile, noDevice, illegalState}
+use Rattle.rules.specs.Judge.{test, refuse, accept, judge, Accepts, Refuses}
+use Rattle.rules.specs.DataService.{dataState, dataListen, dataStart, dataStop, dataStep}
+use Rattle.rules.specs.MoverService.{moverState, moverListen, moverContinue, moverStop, setWindow, moverRead, setSize, moverStep}
+use Rattle.rules.specs.TapeService.{Loaded, isRefusal, tapeOpen, tapeClose, tapeState, tapeMtio, tapeWrite, tapeRead, deviceStep, withLoaded, withMover, tapeStep, moverPartStep}
+use Rattle.rules.specs.ScsiService.{scsiOpen, scsiClear, scsiState, runCdb, scsiCdb, scsiStep}
+use Rattle.rules.specs.Joint.{dataConnect, moverConnect, dataAbort, moverAbort, moverClose, jointStep}
+use Rattle.rules.specs.Connection.{Account, connectOpen, clientAuth, connectStep, configStep}
+use Rattle.rules.specs.Answer.{Kept, Lent, Done, outcome, verdict, tapePart, withData, withTape, withChanger, withLogin, withEnds}
+use Rattle.rules.specs.Order.{isOneOf}
+use Rattle.rules.specs.Calls.{isRun, isDone, isNumber}
+use Rattle.rules.proofs.JudgeLaws.{judged-by, accepts, refusal-says, carried, refuses-behind, accepts-all, refuses-after, refuses-onto, numbersRight}
+
+abbrev Zero : {A : Type 0} → Reply → A → Type 0
+Zero r _ = eqb (numberOf r) 0 ≡ true
+
+data-zero : (d : Data) (q : DataRequest) (body : List ℕ) → Accepts Zero (dataStep d q body)
+unfolding dataStep dataState dataListen dataStart dataStop numberOf
+data-zero d DataRequest.State body = accepts Zero _ _ _ (λ _. refl)
+data-zero d (DataRequest.Backup name) body = accepts Zero _ _ _ (λ _. refl)
+data-zero d (DataRequest.Recover name) body = accepts Zero _ _ _ (λ _. refl)
+data-zero d DataRequest.Stop body = accepts Zero _ _ _ (λ _. refl)
+data-zero d (DataRequest.Listen address) body = accepts Zero _ _ _ (λ _. refl)
+
+mover-zero : (m : Mover) (t : Tape) (q : MoverRequest) → Accepts Zero (moverStep m t q)
+unfolding moverStep moverState moverListen moverContinue moverStop setWindow moverRead setSize numberOf
+mover-zero m t MoverRequest.State = accepts Zero _ _ _ (λ _. refl)
+mover-zero m t (MoverRequest.Listen mode address) = accepts Zero _ _ _ (λ _. refl)
+mover-zero m t MoverRequest.Continue = accepts Zero _ _ _ (λ _. refl)
+mover-zero m t MoverRequest.Stop = accepts Zero _ _ _ (λ _. refl)
+mover-zero m t (MoverRequest.Window offset length) = accepts Zero _ _ _ (λ _. refl)
+mover-zero m t (MoverRequest.Read offset length) = accepts Zero _ _ _ (λ _. refl)
+mover-zero m t (MoverRequest.Size size) = accepts Zero _ _ _ (λ _. refl)
+
+joint-zero : (d : Data) (m : Mover) (t : Tape) (q : JointRequest) → Accepts Zero (jointStep d m t q)
+unfolding jointStep dataAbort dataConnect moverAbort moverClose moverConnect numberOf
+joint-zero d m t JointRequest.DataAbort = accepts Zero _ _ _ (λ _. refl)
+joint-zero d m t (JointRequest.DataConnect address) = accepts Zero _ _ _ (λ _. refl)
+joint-zero d m t JointRequest.MoverAbort = accepts Zero _ _ _ (λ _. refl)
+joint-zero d m t JointRequest.MoverClose = accepts Zero _ _ _ (λ _. refl)
+joint-zero d m t (JointRequest.MoverConnect mode address) = accepts Zero _ _ _ (λ _. refl)
+
+run-zero : (c : Changer) (cdb : List ℕ) (room : ℕ) → Accepts Zero (runCdb c cdb room)
+unfolding runCdb numberOf Accepts
+run-zero c cdb room =
+    by-test (Accepts Zero) (eqb (getD cdb 0 0) 0) _ _ (λ _. refl) (λ _. by-test (Accepts Zero) (eqb (getD cdb 0 0) 3) _ _ (λ _. refl) (λ _. refl))
+
+scsi-zero : (c : Changer) (q : ScsiRequest) (body : List ℕ) → Accepts Zero (scsiStep c q body)
+unfolding scsiStep scsiOpen scsiClear scsiState scsiCdb numberOf
+scsi-zero c (ScsiRequest.Open name) body = accepts Zero _ _ _ (λ _. refl)
+scsi-zero c ScsiRequest.Close body = accepts Zero _ _ _ (λ _. refl)
+scsi-zero c ScsiRequest.State body = accepts Zero _ _ _ (λ _. refl)
+scsi-zero c ScsiRequest.Reset body = accepts Zero _ _ _ (λ _. refl)
+scsi-zero c (ScsiRequest.Cdb cdb room) body = judged-by Zero _ _ (λ _. run-zero c (bytesAt body cdb) room)
+
+connect-zero : (fresh : Bool) (g : Login) (a : Account) (q : ConnectRequest) (body : List ℕ) → Accepts Zero (connectStep fresh g a q body)
+unfolding connectStep connectOpen clientAuth numberOf Accepts
+connect-zero fresh g a (ConnectRequest.Open version) body = accepts Zero _ _ _ (λ _. refl)
+connect-zero fresh g a (ConnectRequest.Auth id password) body = accepts Zero _ _ _ (λ _. refl)
+connect-zero fresh g a ConnectRequest.OtherAuth body = tt
+connect-zero fresh g a ConnectRequest.Close body = refl
+
+config-zero : (g : Login) (q : ConfigRequest) → Accepts Zero (configStep g q)
+unfolding configStep numberOf Accepts
+config-zero g ConfigRequest.ConnectionType = refl
+config-zero g ConfigRequest.ServerInfo = refl
+
+-- of the tape: 0, or what the last test lets pass
+abbrev Ran : TapeRequest → {A : Type 0} → Reply → A → Type 0
+Ran q r _ = isRun q (numberOf r) ≡ true
+
+tape-ran : (mover : ℕ) (t : Tape) (l : List ℕ) (q : TapeRequest) (body : List ℕ) → Accepts (Ran q) (deviceStep mover t l q body)
+unfolding deviceStep tapeOpen tapeClose tapeState tapeMtio tapeWrite tapeRead numberOf isRun
+tape-ran mover t l (TapeRequest.Open name mode) body = accepts (Ran (TapeRequest.Open name mode)) _ _ _ (λ _. refl)
+tape-ran mover t l TapeRequest.Close body = accepts (Ran TapeRequest.Close) _ _ _ (λ _. refl)
+tape-ran mover t l TapeRequest.State body = accepts (Ran TapeRequest.State) _ _ _ (λ _. refl)
+tape-ran mover t l (TapeRequest.Mtio op times) body = accepts (Ran (TapeRequest.Mtio op times)) _ _ _ (λ g. ap not (g 3))
+tape-ran mover t l (TapeRequest.Write bytes) body = accepts (Ran (TapeRequest.Write bytes)) _ _ _ (λ g. ap not (g 3))
+tape-ran mover t l (TapeRequest.Read times) body = accepts (Ran (TapeRequest.Read times)) _ _ _ (λ g. ap not (g 3))
+
+module _ (k : Kept) (l : Lent) (r : List ℕ) where
+  Right : Request → Reply → Done → Type 0
+  Right q reply _ = isDone q (numberOf reply) ≡ true
+
+  outcome-number : (q : Request) → Accepts (Right q) (outcome k l r q)
+  unfolding outcome Right isDone tapeStep moverPartStep
+  outcome-number Request.Unknown = refusal-says (Right Request.Unknown) _
+  outcome-number Request.Bad = refusal-says (Right Request.Bad) _
+  outcome-number (Request.Connect q) = carried Zero (withLogin k) _ (connect-zero _ _ _ q _)
+  outcome-number (Request.Config q) = carried Zero (withLogin k) _ (config-zero _ q)
+  outcome-number (Request.Scsi q) = carried Zero (withChanger k) _ (scsi-zero _ q _)
+  outcome-number (Request.Tape q) = carried (Ran q) (withTape k) _ (carried (Ran q) (withLoaded (tapePart k)) _ (tape-ran _ _ _ q _))
+  outcome-number (Request.Data q) = carried Zero (withData k) _ (data-zero _ q _)
+  outcome-number (Request.Mover q) = carried Zero (withTape k) _ (carried Zero (withMover (tapePart k)) _ (mover-zero _ _ q))
+  outcome-number (Request.Joint q) = carried Zero (withEnds k) _ (joint-zero _ _ _ q)
+
+  pub number-right : (q : Request) → Accepts (λ reply _. isDone q (numberOf reply) ≡ true) (verdict k l r q)
+  unfolding verdict Right
+  number-right q = judged-by (Right q) _ _ (λ _. outcome-number q)
+
+-- ---- a refusal's number: of each request every test's is one of the table's, and the tape's own is where it is given
+abbrev Refusal : ℕ → Type 0
+Refusal e = isNumber e ≡ true
+
+data-refuses : (d : Data) (q : DataRequest) (body : List ℕ) → Refuses Refusal (dataStep d q body)
+unfolding dataStep dataState dataListen dataStart dataStop isNumber isOneOf isRefusal choose
+data-refuses d DataRequest.State body = accepts-all isNumber _ _ _ refl
+data-refuses d (DataRequest.Backup name) body = accepts-all isNumber _ _ _ refl
+data-refuses d (DataRequest.Recover name) body = accepts-all isNumber _ _ _ refl
+data-refuses d DataRequest.Stop body = accepts-all isNumber _ _ _ refl
+data-refuses d (DataRequest.Listen address) body = accepts-all isNumber _ _ _ refl
+
+mover-refuses : (m : Mover) (t : Tape) (q : MoverRequest) → Refuses Refusal (moverStep m t q)
+unfolding moverStep moverState moverListen moverContinue moverStop setWindow moverRead setSize isNumber isOneOf isRefusal choose
+mover-refuses m t MoverRequest.State = accepts-all isNumber _ _ _ refl
+mover-refuses m t (MoverRequest.Listen mode address) = accepts-all isNumber _ _ _ refl
+mover-refuses m t MoverRequest.Continue = accepts-all isNumber _ _ _ refl
+mover-refuses m t MoverRequest.Stop = accepts-all isNumber _ _ _ refl
+mover-refuses m t (MoverRequest.Window offset length) = accepts-all isNumber _ _ _ refl
+mover-refuses m t (MoverRequest.Read offset length) = accepts-all isNumber _ _ _ refl
+mover-refuses m t (MoverRequest.Size size) = accepts-all isNumber _ _ _ refl
+
+joint-refuses : (d : Data) (m : Mover) (t : Tape) (q : JointRequest) → Refuses Refusal (jointStep d m t q)
+unfolding jointStep dataAbort dataConnect moverAbort moverClose moverConnect isNumber isOneOf isRefusal choose
+joint-refuses d m t JointRequest.DataAbort = accepts-all isNumber _ _ _ refl
+joint-refuses d m t (JointRequest.DataConnect address) = accepts-all isNumber _ _ _ refl
+joint-refuses d m t JointRequest.MoverAbort = accepts-all isNumber _ _ _ refl
+joint-refuses d m t JointRequest.MoverClose = accepts-all isNumber _ _ _ refl
+joint-refuses d m t (JointRequest.MoverConnect mode address) = accepts-all isNumber _ _ _ refl
+
+run-refuses : (c : Changer) (cdb : List ℕ) (room : ℕ) → Refuses Refusal (runCdb c cdb room)
+unfolding runCdb Refuses
+run-refuses c cdb room =
+    by-test (Refuses Refusal) (eqb (getD cdb 0 0) 0) _ _ (λ _. tt) (λ _. by-test (Refuses Refusal) (eqb (getD cdb 0 0) 3) _ _ (λ _. tt) (λ _. tt))
+
+scsi-refuses : (c : Changer) (q : ScsiRequest) (body : List ℕ) → Refuses Refusal (scsiStep c q body)
+unfolding scsiStep scsiOpen scsiClear scsiState scsiCdb isNumber isOneOf isRefusal choose
+scsi-refuses c (ScsiRequest.Open name) body = accepts-all isNumber _ _ _ refl
+scsi-refuses c ScsiRequest.Close body = accepts-all isNumber _ _ _ refl
+scsi-refuses c ScsiRequest.State body = accepts-all isNumber _ _ _ refl
+scsi-refuses c ScsiRequest.Reset body = accepts-all isNumber _ _ _ refl
+scsi-refuses c (ScsiRequest.Cdb cdb room) body = refuses-behind isNumber _ (run-refuses c (bytesAt body cdb) room) _ refl
+
+connect-refuses : (fresh : Bool) (g : Login) (a : Account) (q : ConnectRequest) (body : List ℕ) → Refuses Refusal (connectStep fresh g a q body)
+unfolding connectStep connectOpen clientAuth isNumber isOneOf isRefusal Refuses choose
+connect-refuses fresh g a (ConnectRequest.Open version) body = accepts-all isNumber _ _ _ refl
+connect-refuses fresh g a (ConnectRequest.Auth id password) body = accepts-all isNumber _ _ _ refl
+connect-refuses fresh g a ConnectRequest.OtherAuth body = refl
+connect-refuses fresh g a ConnectRequest.Close body = tt
+
+config-refuses : (g : Login) (q : ConfigRequest) → Refuses Refusal (configStep g q)
+unfolding configStep Refuses
+config-refuses g ConfigRequest.ConnectionType = tt
+config-refuses g ConfigRequest.ServerInfo = tt
+
+-- ---- the tape's: its own number is given only where it is a refusal
+pub refusal-facts : (e : ℕ) → isRefusal e ≡ true → Refused e
+unfolding isRefusal choose
+refusal-facts e h = (
+  λ z. let w = rw z at h in absurd (let z : _≡_ {A = ℕ} 0 1 = cc in omega arith),
+  λ z. let w = rw z at h in absurd (let z : _≡_ {A = ℕ} 0 1 = cc in omega arith),
+  λ z. let w = rw z at h in absurd (let z : _≡_ {A = ℕ} 0 1 = cc in omega arith),
+)
+
+-- a number of the cartridge that is a refusal is one of the table's
+abbrev Listed : ℕ → Type 0
+Listed e = isRefusal e ≡ true → isNumber e ≡ true
+
+module _ (l : List ℕ) (p : ℕ) where
+  WriteListed : Step Wrote → Type 0
+  WriteListed s = Listed (s .gives .error)
+
+  write-listed : (b : List ℕ) → WriteListed (writeStep l p b)
+  unfolding writeStep WriteListed isNumber isOneOf isRefusal choose
+  write-listed b =
+      by-test WriteListed (ltb longestRecord (length b)) _ _ (λ _ h. h)
+      (λ _. by-test WriteListed (faulty l p) _ _ (λ _ h. h)
+      (λ _. by-test WriteListed (eqb (length b) 0) _ _ (λ _ h. h)
+      (λ _. by-test WriteListed (roomFor l p (length b)) _ _ (λ _ h. h) (λ _ h. h))))
+
+  ReadListed : Part → Type 0
+  ReadListed r = Listed (r .error)
+
+  read-listed : (times : ℕ) → ReadListed (readPart l p times)
+  unfolding readPart entryPart ReadListed isNumber isOneOf isRefusal choose
+  read-listed times =
+      by-test ReadListed (ltb longestRecord times) _ _ (λ _ h. h)
+      (λ _. by-test ReadListed (faulty l p) _ _ (λ _ h. h)
+      (λ _. by-test ReadListed (eqb times 0) _ _ (λ _ h. h)
+      (λ _. by-test ReadListed (eqb p (count l)) _ _ (λ _ h. h)
+      (λ _. by-test ReadListed (eqb (entryLen l p) 0) _ _ (λ _ h. h) (λ _ h. h)))))
+
+  MtioListed : Step Spaced → Type 0
+  MtioListed s = Listed (s .gives .error)
+
+  mark-listed : (times : ℕ) → MtioListed (markStep l p times)
+  unfolding markStep MtioListed isNumber isOneOf isRefusal choose
+  mark-listed times = by-test MtioListed (ltb (capacity l) (p + times)) _ _ (λ _ h. h) (λ _ h. h)
+
+  space-listed : (op times : ℕ) → MtioListed (keeping l (spacing l op p times))
+  unfolding MtioListed
+  space-listed op times h = absurd (spaced-error l op p times (refusal-facts _ h))
+
+  mtio-listed : (op times : ℕ) → MtioListed (mtioStep l op p times)
+  unfolding mtioStep MtioListed isNumber isOneOf isRefusal choose
+  mtio-listed op times =
+      by-test MtioListed (ltb 6 op) _ _ (λ _ h. h)
+      (λ _. by-test MtioListed (eqb op 6) _ _ (λ _ h. h)
+      (λ _. by-test MtioListed (faulty l p) _ _ (λ _ h. h)
+      (λ _. by-test MtioListed (eqb op 5) _ _ (λ _. mark-listed times)
+      (λ _. by-test MtioListed (eqb op 4) _ _ (λ _ h. h) (λ _. space-listed op times)))))
+
+  StateListed : Standing → Type 0
+  StateListed s = Listed (s .error)
+
+  state-listed : StateListed (standingAt l p)
+  unfolding standingAt StateListed isNumber isOneOf isRefusal choose
+  state-listed = by-test StateListed (faulty l p) _ _ (λ _ h. h) (λ _ h. h)
+
+-- a test by the cartridge's own number
+own-test : (e : ℕ) (r : Reply) (s : Loaded) → Listed e → Refuses Refusal (judge (test (isRefusal e) e ∷ []) (accept r s))
+unfolding judge Refuses
+own-test e r s h = by-test (Refuses Refusal) (isRefusal e) (refuse e) (accept r s) h (λ _. tt)
+
+own-refuses : (b c d : Bool) (e : ℕ) (r : Reply) (s : Loaded) → Listed e
+    → Refuses Refusal (judge (test b notOpen ∷ test c illegalState ∷ test d permissionDenied ∷ test (isRefusal e) e ∷ []) (accept r s))
+unfolding isNumber isOneOf isRefusal choose
+own-refuses b c d e r s h =
+    refuses-after isNumber b _ _ (accept r s) refl
+    (refuses-after isNumber c _ _ (accept r s) refl (refuses-after isNumber d _ _ (accept r s) refl (own-test e r s h)))
+
+state-refuses : (b : Bool) (e : ℕ) (r : Reply) (s : Loaded) → Listed e → Refuses Refusal (judge (test b notOpen ∷ test (isRefusal e) e ∷ []) (accept r s))
+unfolding isNumber isOneOf isRefusal choose
+state-refuses b e r s h = refuses-after isNumber b _ _ (accept r s) refl (own-test e r s h)
+
+opened-right : (a b c d : Bool) → numbersRight isNumber (test a illegalArguments ∷ test b noDevice ∷ test c deviceOpened ∷ test d badFile ∷ []) ≡ true
+unfolding isNumber isOneOf isRefusal choose
+opened-right a b c d = refl
+
+closed-right : (a b : Bool) → numbersRight isNumber (test a notOpen ∷ test b illegalState ∷ []) ≡ true
+unfolding isNumber isOneOf isRefusal choose
+closed-right a b = refl
+
+unread-right : (e : ℕ) → isNumber e ≡ true → Refuses {A = Done} Refusal (refuse e)
+unfolding Refuses
+unread-right e h = h
+
+tape-refuses : (mover : ℕ) (t : Tape) (l : List ℕ) (q : TapeRequest) (body : List ℕ) → Refuses Refusal (deviceStep mover t l q body)
+unfolding deviceStep tapeOpen tapeClose tapeState tapeMtio tapeWrite tapeRead WriteListed ReadListed MtioListed StateListed
+tape-refuses mover t l (TapeRequest.Open name mode) body = accepts-all isNumber _ _ _ (opened-right true true true true)
+tape-refuses mover t l TapeRequest.Close body = accepts-all isNumber _ _ _ (closed-right true true)
+tape-refuses mover t l TapeRequest.State body = state-refuses _ _ _ _ (state-listed l (t .position))
+tape-refuses mover t l (TapeRequest.Mtio op times) body = own-refuses _ _ _ _ _ _ (mtio-listed l (t .position) op times)
+tape-refuses mover t l (TapeRequest.Write bytes) body = own-refuses _ _ _ _ _ _ (write-listed l (t .position) (bytesAt body bytes))
+tape-refuses mover t l (TapeRequest.Read times) body = own-refuses _ _ _ _ _ _ (read-listed l (t .position) times)
+
+module _ (k : Kept) (l : Lent) (r : List ℕ) where
+  outcome-refuses : (q : Request) → Refuses Refusal (outcome k l r q)
+  unfolding outcome tapeStep moverPartStep isNumber isOneOf isRefusal choose
+  outcome-refuses Request.Unknown = unread-right 1 refl
+  outcome-refuses Request.Bad = unread-right 18 refl
+  outcome-refuses (Request.Connect q) = refuses-onto Refusal (withLogin k) _ (connect-refuses _ _ _ q _)
+  outcome-refuses (Request.Config q) = refuses-onto Refusal (withLogin k) _ (config-refuses _ q)
+  outcome-refuses (Request.Scsi q) = refuses-onto Refusal (withChanger k) _ (scsi-refuses _ q _)
+  outcome-refuses (Request.Tape q) = refuses-onto Refusal (withTape k) _ (refuses-onto Refusal (withLoaded (tapePart k)) _ (tape-refuses _ _ _ q _))
+  outcome-refuses (Request.Data q) = refuses-onto Refusal (withData k) _ (data-refuses _ q _)
+  outcome-refuses (Request.Mover q) = refuses-onto Refusal (withTape k) _ (refuses-onto Refusal (withMover (tapePart k)) _ (mover-refuses _ _ q))
+  outcome-refuses (Request.Joint q) = refuses-onto Refusal (withEnds k) _ (joint-refuses _ _ _ q)
+
+  pub refusal-right : (q : Request) → Refuses Refusal (verdict k l r q)
+  unfolding verdict isNumber isOneOf isRefusal choose
+  refusal-right q = refuses-after isNumber _ _ [] _ refl (refuses-behind isNumber _ (outcome-refuses q) [] refl)

@@ -1,0 +1,114 @@
+-- Every answer can be sent: what its reply copies is there. Assumes nothing.
+use Prim.Native.Nat.{ℕ, _≤_}
+use mathlib.Core.Bool.{Bool}
+use mathlib.Core.List.{List, []}
+use lib.ListN.{getD}
+use lib.Dec.{eqb}
+use Rattle.codes.specs.Codes.{senseBytes}
+use Rattle.xdr.specs.Choose.{least}
+use Rattle.xdr.proofs.Tests.{by-test, least-right}
+use Rattle.tape_ops.proofs.Reading.{Copied, read-copies}
+use Rattle.wire_requests.specs.Within.{bytesAt}
+use Rattle.wire_requests.specs.declared.ConnectRequest.{ConnectRequest}
+use Rattle.wire_requests.specs.declared.ConnectRequest.the-variants as ConnectRequest
+use Rattle.wire_requests.specs.declared.ConfigRequest.{ConfigRequest}
+use Rattle.wire_requests.specs.declared.ConfigRequest.the-variants as ConfigRequest
+use Rattle.wire_requests.specs.declared.DataRequest.{DataRequest}
+use Rattle.wire_requests.specs.declared.DataRequest.the-variants as DataRequest
+use Rattle.wire_requests.specs.declared.MoverRequest.{MoverRequest}
+use Rattle.wire_requests.specs.declared.MoverRequest.the-variants as MoverRequest
+use Rattle.wire_requests.specs.declared.TapeRequest.{TapeRequest}
+use Rattle.wire_requests.specs.declared.TapeRequest.the-variants as TapeRequest
+use Rattle.wire_requests.specs.declared.ScsiRequest.{ScsiRequest}
+use Rattle.wire_requests.specs.declared.ScsiRequest.the-variants as ScsiRequest
+use Rattle.wire_requests.specs.declared.JointRequest.{JointRequest}
+use Rattle.wire_requests.specs.declared.JointRequest.the-variants as JointRequest
+use Rattle.wire_replies.specs.declared.Reply.{Reply}
+use Rattle.wire_replies.specs.Fit.{Sendable}
+use Rattle.rules.specs.declared.types.Data.{Data}
+use Rattle.rules.specs.declared.types.Mover.{Mover}
+use Rattle.rules.specs.declared.types.Tape.{Tape}
+use Rattle.rules.specs.declared.types.Changer.{Changer}
+use Rattle.rules.specs.declared.types.Login.{Login}
+use Rattle.rules.specs.Judge.{Accepts}
+use Rattle.rules.specs.DataService.{dataState, dataListen, dataStart, dataStop, dataStep}
+use Rattle.rules.specs.MoverService.{moverState, moverListen, moverContinue, moverStop, setWindow, moverRead, setSize, moverStep}
+use Rattle.rules.specs.TapeService.{Loaded, tapeOpen, tapeClose, tapeState, tapeMtio, tapeWrite, tapeRead, deviceStep}
+use Rattle.rules.specs.ScsiService.{scsiOpen, scsiClear, scsiState, senseLength, runCdb, scsiCdb, scsiStep}
+use Rattle.rules.specs.Joint.{dataConnect, moverConnect, dataAbort, moverAbort, moverClose, jointStep}
+use Rattle.rules.specs.Connection.{Account, connectOpen, clientAuth, connectStep, configStep}
+use Rattle.rules.proofs.JudgeLaws.{judged-by, accepts}
+
+sense-length : (cdb : List ℕ) (room : ℕ) → senseLength cdb room ≤ senseBytes
+unfolding senseLength
+sense-length cdb room = least-right (least (getD cdb 4 0) room) senseBytes
+
+-- of the services that show nothing of an image
+abbrev Sends : {A : Type 0} → Reply → A → Type 0
+Sends r _ = Sendable r []
+
+pub data-sends : (d : Data) (q : DataRequest) (body : List ℕ) → Accepts Sends (dataStep d q body)
+unfolding dataStep dataState dataListen dataStart dataStop Sendable
+data-sends d DataRequest.State body = accepts Sends _ _ _ (λ _. tt)
+data-sends d (DataRequest.Backup name) body = accepts Sends _ _ _ (λ _. tt)
+data-sends d (DataRequest.Recover name) body = accepts Sends _ _ _ (λ _. tt)
+data-sends d DataRequest.Stop body = accepts Sends _ _ _ (λ _. tt)
+data-sends d (DataRequest.Listen address) body = accepts Sends _ _ _ (λ _. tt)
+
+pub joint-sends : (d : Data) (m : Mover) (t : Tape) (q : JointRequest) → Accepts Sends (jointStep d m t q)
+unfolding jointStep dataAbort dataConnect moverAbort moverClose moverConnect Sendable
+joint-sends d m t JointRequest.DataAbort = accepts Sends _ _ _ (λ _. tt)
+joint-sends d m t (JointRequest.DataConnect address) = accepts Sends _ _ _ (λ _. tt)
+joint-sends d m t JointRequest.MoverAbort = accepts Sends _ _ _ (λ _. tt)
+joint-sends d m t JointRequest.MoverClose = accepts Sends _ _ _ (λ _. tt)
+joint-sends d m t (JointRequest.MoverConnect mode address) = accepts Sends _ _ _ (λ _. tt)
+
+run-sends : (c : Changer) (cdb : List ℕ) (room : ℕ) → Accepts Sends (runCdb c cdb room)
+unfolding runCdb Sendable Accepts
+run-sends c cdb room =
+    by-test (Accepts Sends) (eqb (getD cdb 0 0) 0) _ _ (λ _. tt)
+    (λ _. by-test (Accepts Sends) (eqb (getD cdb 0 0) 3) _ _ (λ _. sense-length cdb room) (λ _. tt))
+
+pub scsi-sends : (c : Changer) (q : ScsiRequest) (body : List ℕ) → Accepts Sends (scsiStep c q body)
+unfolding scsiStep scsiOpen scsiClear scsiState scsiCdb Sendable
+scsi-sends c (ScsiRequest.Open name) body = accepts Sends _ _ _ (λ _. tt)
+scsi-sends c ScsiRequest.Close body = accepts Sends _ _ _ (λ _. tt)
+scsi-sends c ScsiRequest.State body = accepts Sends _ _ _ (λ _. tt)
+scsi-sends c ScsiRequest.Reset body = accepts Sends _ _ _ (λ _. tt)
+scsi-sends c (ScsiRequest.Cdb cdb room) body = judged-by Sends _ _ (λ _. run-sends c (bytesAt body cdb) room)
+
+pub connect-sends : (fresh : Bool) (g : Login) (a : Account) (q : ConnectRequest) (body : List ℕ) → Accepts Sends (connectStep fresh g a q body)
+unfolding connectStep connectOpen clientAuth Sendable Accepts
+connect-sends fresh g a (ConnectRequest.Open version) body = accepts Sends _ _ _ (λ _. tt)
+connect-sends fresh g a (ConnectRequest.Auth id password) body = accepts Sends _ _ _ (λ _. tt)
+connect-sends fresh g a ConnectRequest.OtherAuth body = tt
+connect-sends fresh g a ConnectRequest.Close body = tt
+
+pub config-sends : (g : Login) (q : ConfigRequest) → Accepts Sends (configStep g q)
+unfolding configStep Sendable Accepts
+config-sends g ConfigRequest.ConnectionType = tt
+config-sends g ConfigRequest.ServerInfo = tt
+
+-- of the mover, whatever the image
+pub mover-sends : (m : Mover) (t : Tape) (q : MoverRequest) (image : List ℕ) → Accepts (λ r _. Sendable r image) (moverStep m t q)
+unfolding moverStep moverState moverListen moverContinue moverStop setWindow moverRead setSize Sendable
+mover-sends m t MoverRequest.State image = accepts (λ r _. Sendable r image) _ _ _ (λ _. tt)
+mover-sends m t (MoverRequest.Listen mode address) image = accepts (λ r _. Sendable r image) _ _ _ (λ _. tt)
+mover-sends m t MoverRequest.Continue image = accepts (λ r _. Sendable r image) _ _ _ (λ _. tt)
+mover-sends m t MoverRequest.Stop image = accepts (λ r _. Sendable r image) _ _ _ (λ _. tt)
+mover-sends m t (MoverRequest.Window offset length) image = accepts (λ r _. Sendable r image) _ _ _ (λ _. tt)
+mover-sends m t (MoverRequest.Read offset length) image = accepts (λ r _. Sendable r image) _ _ _ (λ _. tt)
+mover-sends m t (MoverRequest.Size size) image = accepts (λ r _. Sendable r image) _ _ _ (λ _. tt)
+
+-- a reply of the tape, with the image after it
+abbrev SendsHere : Reply → Loaded → Type 0
+SendsHere r s = Sendable r (s .image)
+
+pub tape-sends : (mover : ℕ) (t : Tape) (l : List ℕ) (q : TapeRequest) (body : List ℕ) → Accepts SendsHere (deviceStep mover t l q body)
+unfolding deviceStep tapeOpen tapeClose tapeState tapeMtio tapeWrite tapeRead Sendable Copied
+tape-sends mover t l (TapeRequest.Open name mode) body = accepts SendsHere _ _ _ (λ _. tt)
+tape-sends mover t l TapeRequest.Close body = accepts SendsHere _ _ _ (λ _. tt)
+tape-sends mover t l TapeRequest.State body = accepts SendsHere _ _ _ (λ _. tt)
+tape-sends mover t l (TapeRequest.Mtio op times) body = accepts SendsHere _ _ _ (λ _. tt)
+tape-sends mover t l (TapeRequest.Write bytes) body = accepts SendsHere _ _ _ (λ _. tt)
+tape-sends mover t l (TapeRequest.Read times) body = accepts SendsHere _ _ _ (λ _. read-copies l (t .position) times)

@@ -1,0 +1,19 @@
+use borrow.Author.Needs.{needs}
+use Rattle.rules.proofs.types.Session.begins.Statement.{statement}
+use Rattle.rules.proofs.types.Session.begins.Tie as tie
+use Rattle.rules.proofs.types.Session.begins.Reads as reads
+use Rattle.rules.proofs.types.Session.begins.Lts as lts
+use Rattle.rules.proofs.types.Data.rests.Reads as types-Data-rests-reads
+use Rattle.rules.proofs.types.Mover.at_rest.Reads as types-Mover-at-rest-reads
+
+rests-requires : tie.Need-rests-requires
+rests-requires c κs = search needs
+
+at-rest-requires : tie.Need-at-rest-requires
+at-rest-requires c κs = search needs
+
+returns : tie.Need-returns
+returns c = cc
+
+pub begins-spec : {M : Type 1} → statement M
+begins-spec = tie.close (tie.spec rests-requires at-rest-requires returns)

@@ -1,0 +1,66 @@
+-- The instance is computed: each premise is decided, and the definitions that it meets unfold. Assumes nothing.
+use mathlib.Core.Path.{refl}
+use native.Mathlib.Omega.{arith}
+use lib.ListN.{length}
+use Rattle.xdr.specs.Choose.{choose, allOf, least}
+use Rattle.xdr.specs.Xdr.{be32, be32s, word, be64, hyper, overlay, sameBytes}
+use Rattle.xdr_opaque.specs.Opaque.{allZero, opaqueAt}
+use Rattle.xdr_opaque.specs.Put.{opaque}
+use Rattle.tape_image.specs.Image.{headerOk, tableOk, isSound, faulty, withEntry, entryBytes}
+use Rattle.tape_writing.specs.Writing.{kept, roomFor, written, fillTo}
+use Rattle.tape_ops.specs.Operations.{writeStep, mtioStep}
+use Rattle.wire_frame.specs.Frame.{wellFramed, recordBytes}
+use Rattle.wire_frame.specs.Messages.{look, rowOf}
+use Rattle.wire_layouts.specs.Layout as layout
+use Rattle.wire_layouts.specs.Scans.{put, puts, summed, scanned}
+use Rattle.wire_requests.specs.Bodies.{decoded, connectBody, tapeBody, dataBody, moverBody, jointBody}
+use Rattle.wire_replies.specs.Replies.{opaques, bodyBytes, shapeOf, headerError, replyBytes}
+use Rattle.rules.specs.Answer.{guarded, noticed, outcome, needsLogin, isLocked, verdict, isUnread, refusing, settled, isClose, judged, requested, answered}
+use Rattle.rules.specs.Connection.{connectOpen, matches, clientAuth, connectStep}
+use Rattle.rules.specs.DataService.{dump, dataStart, dataStop, dataStep}
+use Rattle.rules.specs.Joint.{dataConnect, jointStep}
+use Rattle.rules.specs.Judge.{judge, onto, isAccepted}
+use Rattle.rules.specs.MoverService.{offsetWrong, moverListen, moverContinue, moverStop, moverRead, busy, elsewhere, setWindow, setSize, moverStep}
+use Rattle.rules.specs.Parts.{windowEnd, pastTop, dataJoined, moverJoined, holdsTape, unwritable}
+use Rattle.rules.specs.Relation.{dataWrong, numbersWrong, windowWrong, startWrong, holdWrong, strays, resumeWrong, placeWrong, originWrong, moverWrong, sameFlag, keeps}
+use Rattle.rules.specs.TapeService.{tape0, tapeOpen, isRefusal, protects, tapeMtio, tapeWrite, deviceStep, tapeStep, moverPartStep}
+use Rattle.rules_moves.specs.Events.{movedToTape, movedFromTape}
+use Rattle.rules_moves.specs.Moves.{idle, streamEnds, scant, filling, toTape, outside, seekFrom, amount, reading, onFound, seeking, fromTape}
+use Rattle.rules_moves.specs.Sequence.{Asked, step, runs, isHeard, moverAsked, dataAsked, jointAsked, asked, moveShown, seen}
+use Rattle.rules_moves.specs.Counts.{trace, recordsIn, sum}
+use Rattle.rules_annex.specs.RoundTrip.{padding, filled, handedOver, moverNote, note, noted, askedAfter, endAfter}
+use Rattle.rules_annex.specs.Example.{call, blank, started, stream, backup, rewind, between, recover, ExampleHolds}
+use Rattle.rules_annex.proofs.Deciding.{untouched, asideRequest, aside, asides, asides-hold, atSize, lasts, backs, backs-hold, backs-feed, inTurn, recovers, recovers-hold}
+
+pub example-holds : ExampleHolds
+unfolding
+    choose allOf be32 be32s word be64 hyper overlay sameBytes allZero opaqueAt opaque headerOk
+    tableOk isSound faulty kept roomFor withEntry entryBytes written fillTo least writeStep mtioStep wellFramed
+    recordBytes look rowOf layout.textOf layout.partAt layout.prepend layout.andPart layout.andGot layout.partsAt layout.timesAt layout.single
+    layout.counted layout.fieldAt layout.first layout.andRead layout.readAs put puts summed scanned decoded connectBody tapeBody dataBody moverBody jointBody
+    opaques bodyBytes shapeOf headerError replyBytes guarded noticed outcome needsLogin isLocked verdict isUnread refusing settled isClose judged
+    requested answered connectOpen matches clientAuth connectStep dump dataStart dataStop dataStep dataConnect jointStep judge onto isAccepted offsetWrong
+    moverListen moverContinue moverStop moverRead busy elsewhere setWindow setSize moverStep pastTop dataJoined moverJoined holdsTape unwritable dataWrong
+    numbersWrong windowWrong startWrong holdWrong strays resumeWrong placeWrong originWrong moverWrong sameFlag keeps tape0 tapeOpen isRefusal
+    protects tapeMtio tapeWrite deviceStep tapeStep moverPartStep movedToTape movedFromTape idle streamEnds scant filling toTape
+    outside seekFrom amount reading onFound seeking fromTape step runs isHeard moverAsked dataAsked jointAsked asked moveShown seen trace recordsIn sum
+    padding filled handedOver moverNote note noted askedAfter endAfter call blank
+    untouched asideRequest aside asides atSize lasts backs inTurn recovers
+example-holds =
+    record {
+      trip = record {
+        session = refl;
+        some = omega arith;
+        empty = refl;
+        backs = backs-hold 4 stream started backup refl;
+        rewinds = record { heard = refl; request = refl; accepted = refl };
+        aside = asides-hold (step (Asked rewind) (runs started backup)) between refl;
+        rests = refl;
+        recovers = recovers-hold (length (filled 4 stream)) 0 (windowEnd 0 0) 0 (runs (step (Asked rewind) (runs started backup)) between) recover refl;
+      };
+      stands = refl;
+      fed = backs-feed 4 stream started backup (backs-hold 4 stream started backup refl);
+      records = refl;
+      uses = refl;
+      out = refl;
+    }

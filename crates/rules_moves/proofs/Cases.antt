@@ -1,0 +1,51 @@
+-- The cases are computed: every definition that they meet unfolds, and both sides are one term. Assumes nothing.
+use mathlib.Core.Path.{refl}
+use Rattle.xdr.specs.Choose.{choose, allOf, least}
+use Rattle.xdr.specs.Xdr.{be32, be32s, word, be64, hyper, overlay, sameBytes}
+use Rattle.xdr_opaque.specs.Opaque.{allZero, opaqueAt}
+use Rattle.xdr_opaque.specs.Put.{opaque}
+use Rattle.tape_image.specs.Image.{entryBytes, headerOk, tableOk, isSound, faulty, withEntry}
+use Rattle.tape_image.specs.Place.{marksBefore, recordsSince}
+use Rattle.tape_spacing.specs.Spacing.{aheadOf, passes, positionAfter, leftAfter, stops, walk, spacing}
+use Rattle.tape_writing.specs.Writing.{kept, roomFor, written, fillTo}
+use Rattle.tape_ops.specs.Operations.{mtioStep, standingAt}
+use Rattle.wire_frame.specs.Frame.{wellFramed, recordBytes}
+use Rattle.wire_frame.specs.Messages.{look, rowOf}
+use Rattle.wire_layouts.specs.Layout as layout
+use Rattle.wire_layouts.specs.Scans.{put, puts, summed, scanned}
+use Rattle.wire_requests.specs.Bodies.{decoded, connectBody, tapeBody, dataBody, moverBody, jointBody}
+use Rattle.wire_replies.specs.Replies.{opaques, bodyBytes, shapeOf, headerError, replyBytes, noticeNumber, noticeWords, noticeBytes}
+use Rattle.rules.specs.Answer.{guarded, noticed, outcome, needsLogin, isLocked, verdict, isUnread, refusing, settled, isClose, judged, requested, answered}
+use Rattle.rules.specs.Calls.{opening}
+use Rattle.rules.specs.Connection.{connectOpen, matches, clientAuth, connectStep}
+use Rattle.rules.specs.DataService.{dump, dataStart, dataState, dataStop, dataStep}
+use Rattle.rules.specs.Joint.{dataConnect, moverClose, jointStep}
+use Rattle.rules.specs.Judge.{judge, onto}
+use Rattle.rules.specs.MoverService.{recordNumber, moverState, offsetWrong, moverListen, moverContinue, moverStop, busy, elsewhere}
+use Rattle.rules.specs.MoverService.{setWindow, moverRead, setSize, moverStep}
+use Rattle.rules.specs.Parts.{pastTop, toldIn, dataJoined, moverJoined, holdsTape, unwritable}
+use Rattle.rules.specs.Relation.{dataWrong, numbersWrong, windowWrong, startWrong, holdWrong, strays, resumeWrong, placeWrong}
+use Rattle.rules.specs.Relation.{originWrong, moverWrong, sameFlag, keeps}
+use Rattle.rules.specs.TapeService.{tape0, tapeOpen, isRefusal, protects, tapeState, tapeMtio, deviceStep, tapeStep, moverPartStep}
+use Rattle.rules_moves.specs.Cases.{bytesOf, wire, wide, runLine, run, notices, expect, streamed}
+use Rattle.rules_moves.specs.Events.{movedToTape, movedFromTape, methodEnded}
+use Rattle.rules_moves.specs.Examples.{ExamplesHold}
+use Rattle.rules_moves.specs.RecoverCases.{RecoverCasesHold}
+use Rattle.rules_moves.specs.Moves.{idle, streamEnds, scant, filling, toTape, outside, seekFrom, amount, reading, onFound, seeking, fromTape, methodEnd}
+
+pub cases-hold : ExamplesHold × RecoverCasesHold
+unfolding
+    choose allOf be32 be32s word be64 hyper overlay sameBytes allZero opaqueAt opaque
+    entryBytes headerOk tableOk isSound faulty marksBefore recordsSince aheadOf passes positionAfter leftAfter stops walk spacing
+    kept roomFor withEntry written fillTo least mtioStep standingAt wellFramed recordBytes look rowOf layout.textOf layout.partAt layout.prepend
+    layout.andPart layout.andGot layout.partsAt layout.timesAt layout.single layout.counted layout.fieldAt layout.first layout.andRead
+    layout.readAs put puts summed scanned decoded connectBody tapeBody dataBody moverBody jointBody opaques bodyBytes shapeOf headerError
+    replyBytes noticeNumber noticeWords noticeBytes guarded noticed outcome needsLogin isLocked verdict isUnread refusing settled
+    isClose judged requested answered opening connectOpen matches clientAuth connectStep dump dataStart dataState dataStop
+    dataStep dataConnect moverClose jointStep judge onto recordNumber moverState offsetWrong moverListen moverContinue moverStop
+    busy elsewhere setWindow moverRead setSize moverStep pastTop toldIn dataJoined moverJoined holdsTape unwritable dataWrong
+    numbersWrong windowWrong startWrong holdWrong strays resumeWrong placeWrong originWrong moverWrong sameFlag keeps tape0
+    tapeOpen isRefusal protects tapeState tapeMtio deviceStep tapeStep moverPartStep movedToTape movedFromTape methodEnded bytesOf
+    wire wide runLine run notices expect streamed idle streamEnds scant filling toTape outside seekFrom amount reading onFound
+    seeking fromTape methodEnd
+cases-hold = (refl, refl)

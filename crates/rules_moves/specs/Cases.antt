@@ -1,0 +1,330 @@
+-- What a case is: a list of calls on a new session, each request a record as it stands on the wire, each line with what comes of it. All that
+-- is sent is compared, byte for byte, and so are the bytes taken or handed over, the destination, the cartridge and the tape's position. What
+-- is expected is written out here, from 004's structures and numbers, and not by the definitions of replies, notices and codes.
+use Prim.Native.Nat.{ℕ, zero, suc, _+_, _-_, _/_, _%_}
+use mathlib.Core.Bool.{Bool}
+use mathlib.Core.List.{List, [], _∷_, _++_}
+use lib.ListN.{length, take, drop, replicate}
+use Rattle.rules.specs.Answer.{Kept, Lent, held, Answered, answered}
+use Rattle.rules.specs.Calls.{opening}
+use Rattle.rules_moves.specs.Events.{Moving, movedToTape, movedFromTape, methodEnded}
+
+-- ---- the bytes of a record
+-- words, each of four bytes, the most significant first
+unfoldable pub bytesOf : List ℕ → List ℕ
+bytesOf [] = []
+bytesOf (v ∷ vs) = v / 0x100_0000 ∷ v / 0x1_0000 % 0x100 ∷ v / 0x100 % 0x100 ∷ v % 0x100 ∷ bytesOf vs
+
+-- the mark; sequence, time stamp, type (0 request, 1 reply), message, reply sequence, error 0; the body, which is words
+unfoldable pub wire : ℕ → ℕ → ℕ → ℕ → ℕ → List ℕ → List ℕ
+wire sequence time kind message echo body = bytesOf ((0x8000_0018 + length (bytesOf body)) ∷ sequence ∷ time ∷ kind ∷ message ∷ echo ∷ 0 ∷ body)
+
+-- two words that are a hyper
+unfoldable pub wide : ℕ → List ℕ
+wide v = v / 0x1_0000_0000 ∷ v % 0x1_0000_0000 ∷ []
+
+-- ---- a line: what goes in, and what comes of it
+-- a notice: its number, and the words of its body
+pub data Told : Type 0 where
+  tell : ℕ → List ℕ → Told
+
+pub data Line : Type 0 where
+  -- a request: its number and the words of its body; the words of the reply's body, and the notices behind it
+  Ask : ℕ → List ℕ → List ℕ → List Told → Line
+  -- a move to tape: so many bytes of what is left of the stream, the last part or not; how many are taken, and the notices
+  Feed : ℕ → Bool → ℕ → List Told → Line
+  -- a move from tape: the length of the destination; the bytes handed over, and the notices
+  Fetch : ℕ → List ℕ → List Told → Line
+  -- the method's end, in success or not; the notices
+  End : Bool → List Told → Line
+  -- another cartridge is put in: the one taken out, as it should be by then, and the one that the calls which follow are handed
+  Insert : List ℕ → List ℕ → Line
+
+pub record Case : Type 0 where
+  pub image : List ℕ
+  pub stream : List ℕ
+  pub lines : List Line
+  -- the cartridge and the tape's position at the end
+  pub last : List ℕ
+  pub position : ℕ
+
+-- what is seen of a call: its code, all that is sent, the bytes taken or handed over, the destination (or the cartridge that is taken out)
+pub record Shown : Type 0 where
+  pub code : ℕ
+  pub sent : List ℕ
+  pub count : ℕ
+  pub dest : List ℕ
+
+pub record Final : Type 0 where
+  pub shown : List Shown
+  pub image : List ℕ
+  pub position : ℕ
+
+-- ---- what the definitions give
+-- what is passed on, and what is left of the stream
+pub record World : Type 0 where
+  pub kept : Kept
+  pub stream : List ℕ
+
+pub record Ran : Type 0 where
+  pub shown : Shown
+  pub world : World
+
+-- what is lent: the account `v`, `pw`; the time stamp; an output of 36,864 bytes
+abbrev pub stamp : ℕ
+stamp = 33
+
+abbrev pub lending : Lent
+lending = record { account = record { id = 0x76 ∷ []; password = 0x70 ∷ 0x77 ∷ [] }; time = stamp; room = 36864 }
+
+-- a destination before a move
+abbrev pub unused : ℕ → List ℕ
+unused n = replicate n 0xEE
+
+abbrev pub showing : Answered → ℕ → List ℕ → Shown
+showing a count dest = record { code = a .code; sent = a .reply ++ a .notices; count = count; dest = dest }
+
+abbrev pub calling : World → Answered → Ran
+calling w a = record { shown = showing a 0 []; world = record { kept = a .next; stream = w .stream } }
+
+abbrev pub moving : Moving → List ℕ → Ran
+moving e stream = record { shown = showing (e .answer) (e .count) (e .dest); world = record { kept = e .answer .next; stream = stream } }
+
+-- the sequence number of every request, which its reply echoes; its time stamp is 5
+abbrev pub echoed : ℕ
+echoed = 7
+
+unfoldable pub runLine : World → Line → Ran
+runLine w (Ask message body reply notices) = calling w (answered (w .kept) lending (wire echoed 5 0 message 0 body))
+runLine w (Feed n last taken notices) =
+    let e = movedToTape (w .kept) lending (take n (w .stream)) last in
+    moving e (drop (e .count) (w .stream))
+runLine w (Fetch n handed notices) = moving (movedFromTape (w .kept) lending (unused n)) (w .stream)
+runLine w (End ok notices) = calling w (methodEnded (w .kept) lending ok)
+runLine w (Insert out image) =
+    let k = w .kept in
+    record { shown = record { code = 0; sent = []; count = 0; dest = k .image }; world = record { kept = held (k .session) image; stream = w .stream } }
+
+unfoldable pub run : World → List Line → Final
+run w [] = record { shown = []; image = w .kept .image; position = w .kept .session .tape .position }
+run w (l ∷ ls) =
+    let n = runLine w l in
+    let r = run (n .world) ls in
+    record { shown = n .shown ∷ r .shown; image = r .image; position = r .position }
+
+abbrev pub played : Case → Final
+played c =
+    let a = opening (lending .time) (lending .room) in
+    let r = run (record { kept = held (a .next .session) (c .image); stream = c .stream }) (c .lines) in
+    record { shown = showing a 0 [] ∷ r .shown; image = r .image; position = r .position }
+
+-- ---- what they should give. "The vault numbers what it sends from 1": n is the next number
+-- notices: "type 0 with reply sequence 0"
+unfoldable pub notices : ℕ → List Told → List ℕ
+notices n [] = []
+notices n (tell message body ∷ ts) = wire n stamp 0 message 0 body ++ notices (n + 1) ts
+
+abbrev pub shows : List ℕ → ℕ → List ℕ → Shown
+shows sent count dest = record { code = 0; sent = sent; count = count; dest = dest }
+
+unfoldable pub expect : ℕ → List Line → List Shown
+expect n [] = []
+expect n (Ask message body reply told ∷ ls) =
+    shows (wire n stamp 1 message echoed reply ++ notices (n + 1) told) 0 [] ∷ expect (n + 1 + length told) ls
+expect n (Feed m last taken told ∷ ls) = shows (notices n told) taken [] ∷ expect (n + length told) ls
+expect n (Fetch m handed told ∷ ls) =
+    shows (notices n told) (length handed) (handed ++ unused (m - length handed)) ∷ expect (n + length told) ls
+expect n (End ok told ∷ ls) = shows (notices n told) 0 [] ∷ expect (n + length told) ls
+expect n (Insert out image ∷ ls) = shows [] 0 out ∷ expect n ls
+
+-- "Opening a session sends connection status (connected 0, version 4, empty text) as number 1."
+abbrev pub wanted : Case → Final
+wanted c =
+    record {
+      shown = shows (notices 1 (tell 0x502 (0 ∷ 4 ∷ 0 ∷ []) ∷ [])) 0 [] ∷ expect 2 (c .lines);
+      image = c .last;
+      position = c .position;
+    }
+
+abbrev pub allPlayed : List Case → List Final
+allPlayed [] = []
+allPlayed (c ∷ cs) = played c ∷ allPlayed cs
+
+abbrev pub allWanted : List Case → List Final
+allWanted [] = []
+allWanted (c ∷ cs) = wanted c ∷ allWanted cs
+
+-- ---- 004's numbers, as paper 01 has them
+-- "Mover mode 0 goes to tape, 1 from tape"; a mover at rest has none, which is 2
+abbrev pub toTapeMode : ℕ
+toTapeMode = 0
+
+abbrev pub fromTapeMode : ℕ
+fromTapeMode = 1
+
+abbrev pub noMode : ℕ
+noMode = 2
+
+-- "PAUSED EOM 1", "PAUSED EOF 2", "PAUSED SEEK 3", "PAUSED EOW 5"
+abbrev pub eom : ℕ
+eom = 1
+
+abbrev pub eof : ℕ
+eof = 2
+
+abbrev pub seek : ℕ
+seek = 3
+
+abbrev pub eow : ℕ
+eow = 5
+
+-- why the mover halts: "CONNECT_CLOSED 1", "MEDIA_ERROR 5"
+abbrev pub connectClosed : ℕ
+connectClosed = 1
+
+abbrev pub mediaError : ℕ
+mediaError = 5
+
+-- why data halts: "SUCCESSFUL 1", "INTERNAL_ERROR 3", "CONNECT_ERROR 4"
+abbrev pub successful : ℕ
+successful = 1
+
+abbrev pub internalError : ℕ
+internalError = 3
+
+abbrev pub connectError : ℕ
+connectError = 4
+
+-- what the data end runs
+abbrev pub backupRuns : ℕ
+backupRuns = 1
+
+abbrev pub recoverRuns : ℕ
+recoverRuns = 2
+
+-- "MTIO ops: 0 FSF, .. 2 FSR, .. 4 REW"
+abbrev pub fsf : ℕ
+fsf = 0
+
+abbrev pub fsr : ℕ
+fsr = 2
+
+abbrev pub rew : ℕ
+rew = 4
+
+-- ---- lines of the cases
+-- a request that gets the error word e and no more
+abbrev pub says : ℕ → List ℕ → ℕ → Line
+says message body e = Ask message body (e ∷ []) []
+
+-- CONNECT open with version 4, and auth in text
+abbrev pub login : List Line
+login = says 0x900 (4 ∷ []) 0 ∷ says 0x901 (1 ∷ 1 ∷ 0x7600_0000 ∷ 2 ∷ 0x7077_0000 ∷ []) 0 ∷ []
+
+abbrev pub setSize : ℕ → Line
+setSize n = says 0xA08 (n ∷ []) 0
+
+abbrev pub setWindow : ℕ → ℕ → ℕ → Line
+setWindow offset length e = says 0xA05 (wide offset ++ wide length) e
+
+-- tape open of `tape0`: mode 0 reads, 1 also writes
+abbrev pub openTape : ℕ → Line
+openTape mode = says 0x300 (5 ∷ 0x7461_7065 ∷ 0x3000_0000 ∷ mode ∷ []) 0
+
+-- MTIO: operation and count; error and residue
+abbrev pub mtio : ℕ → ℕ → ℕ → ℕ → Line
+mtio op n e residue = Ask 0x303 (op ∷ n ∷ []) (e ∷ residue ∷ []) []
+
+-- mover listen at LOCAL; the address told is LOCAL
+abbrev pub listen : ℕ → ℕ → Line
+listen mode e = Ask 0xA01 (mode ∷ 0 ∷ []) (e ∷ 0 ∷ []) []
+
+-- data connect at LOCAL
+abbrev pub connect : Line
+connect = says 0x40A (0 ∷ []) 0
+
+-- start backup by `dump` with no environment; start recover with no environment and no names, by `dump`
+abbrev pub startBackup : Line
+startBackup = says 0x401 (4 ∷ 0x6475_6D70 ∷ 0 ∷ []) 0
+
+abbrev pub startRecover : Line
+startRecover = says 0x402 (0 ∷ 0 ∷ 4 ∷ 0x6475_6D70 ∷ []) 0
+
+-- mover read, continue, stop; data stop
+abbrev pub read : ℕ → ℕ → Line
+read offset length = says 0xA06 (wide offset ++ wide length) 0
+
+abbrev pub continue : Line
+continue = says 0xA02 [] 0
+
+abbrev pub stopMover : Line
+stopMover = says 0xA04 [] 0
+
+abbrev pub stopData : Line
+stopData = says 0x407 [] 0
+
+-- mover paused: reason and seek position; "data first, mover second" where both halt
+abbrev pub pauses : ℕ → ℕ → List Told
+pauses why at = tell 0x504 (why ∷ wide at) ∷ []
+
+abbrev pub halts : ℕ → ℕ → List Told
+halts dwhy mwhy = tell 0x501 (dwhy ∷ []) ∷ tell 0x503 (mwhy ∷ []) ∷ []
+
+-- mover close: its reply, then why each end halts
+abbrev pub closeMover : ℕ → ℕ → Line
+closeMover dwhy mwhy = Ask 0xA07 [] (0 ∷ []) (halts dwhy mwhy)
+
+-- the mover's state with its pause and halt reason: IDLE 0, ACTIVE 2, PAUSED 3, HALTED 4
+abbrev pub idle : List ℕ
+idle = 0 ∷ 0 ∷ 0 ∷ []
+
+abbrev pub active : List ℕ
+active = 2 ∷ 0 ∷ 0 ∷ []
+
+abbrev pub pausedFor : ℕ → List ℕ
+pausedFor why = 3 ∷ why ∷ 0 ∷ []
+
+abbrev pub haltedFor : ℕ → List ℕ
+haltedFor why = 4 ∷ 0 ∷ why ∷ []
+
+-- record size, record number and bytes moved; seek position and bytes left; window
+abbrev pub counts : ℕ → ℕ → ℕ → List ℕ
+counts size number moved = size ∷ number ∷ wide moved
+
+abbrev pub reads : ℕ → ℕ → List ℕ
+reads at left = wide at ++ wide left
+
+abbrev pub window : ℕ → ℕ → List ℕ
+window offset length = wide offset ++ wide length
+
+-- mover get state; the address is LOCAL
+abbrev pub moverIs : ℕ → List ℕ → List ℕ → List ℕ → List ℕ → Line
+moverIs mode state counted reading in-force = Ask 0xA00 [] (0 ∷ mode ∷ state ++ (counted ++ (reading ++ (in-force ++ (0 ∷ []))))) []
+
+-- the data end's state with its halt reason: IDLE 0, ACTIVE 1, HALTED 2
+abbrev pub dataIdle : List ℕ
+dataIdle = 0 ∷ 0 ∷ []
+
+abbrev pub dataActive : List ℕ
+dataActive = 1 ∷ 0 ∷ []
+
+abbrev pub dataHaltedFor : ℕ → List ℕ
+dataHaltedFor why = 2 ∷ why ∷ []
+
+-- data get state: what runs, state, bytes processed; its two estimates are marked unsupported (3), all else is zero
+abbrev pub dataIs : ℕ → List ℕ → ℕ → Line
+dataIs operation state processed = Ask 0x400 [] (3 ∷ 0 ∷ operation ∷ state ++ (wide processed ++ replicate 8 0)) []
+
+-- tape get state: file and block number
+abbrev pub tapeIs : ℕ → ℕ → Line
+tapeIs file block = Ask 0x302 [] (0 ∷ 0 ∷ 0 ∷ file ∷ 0 ∷ 0 ∷ block ∷ 0 ∷ 0 ∷ 0 ∷ 0 ∷ []) []
+
+-- ---- streams and cartridges
+-- n bytes from i on, no two near ones alike
+unfoldable pub streamed : ℕ → ℕ → List ℕ
+streamed zero i = []
+streamed (suc n) i = i % 251 ∷ streamed n (i + 1)
+
+-- a cartridge: its words (1, C, n, bytes used, then length and start of each of C entries) and its body
+abbrev pub cartridge : List ℕ → List ℕ → List ℕ
+cartridge header body = bytesOf header ++ body

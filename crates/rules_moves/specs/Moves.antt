@@ -1,0 +1,159 @@
+-- Moving bytes (paper 01, "Moving bytes"): one move to tape, one move from tape, the method's end. Each is a chain of tests in paper 01's
+-- order; the first that applies decides.
+use Prim.Native.Nat.{ℕ, zero, suc, _+_, _-_, _/_, _%_}
+use mathlib.Core.Bool.{Bool, true, false, not}
+use mathlib.Core.List.{List}
+use mathlib.Core.Path.{_≡_}
+use lib.ListN.{length, take, drop}
+use lib.Dec.{eqb, ltb}
+use Rattle.xdr.specs.Choose.{choose, least}
+use Rattle.xdr.specs.Xdr.{overlay}
+use Rattle.tape_image.specs.Image.{count, entryLen, entryBytes, faulty}
+use Rattle.tape_writing.specs.Writing.{roomFor, written, fillTo}
+use Rattle.tape_ops.specs.Step.{Step, keeping}
+use Rattle.rules.specs.declared.types.Data.{Data}
+use Rattle.rules.specs.declared.types.Mover.{Mover}
+use Rattle.rules.specs.declared.types.Tape.{Tape}
+use Rattle.rules.specs.Names.{dataActive, moverActive, toTapeMode, fromTapeMode, backupOperation, recoverOperation}
+use Rattle.rules.specs.Names.{dataSuccessful, dataInternalError, dataConnectError, moverConnectClosed, moverMediaError, endOfMedium, endOfFile, seekOutside, endOfWindow}
+use Rattle.rules.specs.Parts.{dataHalts, dataFed, moverPauses, moverHalts, moverRecords, moverHands, windowEnd}
+use Rattle.rules.specs.TapeService.{movedTo}
+use Rattle.rules_moves.specs.declared.Move.{Move}
+use Rattle.rules_moves.specs.declared.Found.{Found}
+
+-- ---- what a move can come to
+abbrev pub still : Data → Mover → Tape → Move
+still d m t = record { count = 0; dwhy = 0; mwhy = 0; pause = 0; source = d; mover = m; tape = t }
+
+abbrev pub pauses : ℕ → Data → Mover → Tape → Move
+pauses why d m t = record { count = 0; dwhy = 0; mwhy = 0; pause = why; source = d; mover = moverPauses why m; tape = t }
+
+abbrev pub halts : ℕ → ℕ → Data → Mover → Tape → Move
+halts dwhy mwhy d m t = record { count = 0; dwhy = dwhy; mwhy = mwhy; pause = 0; source = dataHalts dwhy d; mover = moverHalts mwhy m; tape = t }
+
+-- a record to tape, n of whose bytes are the stream's: processed "leaves the fill out"
+abbrev pub takes : ℕ → Data → Mover → Tape → Move
+takes n d m t = record { count = n; dwhy = 0; mwhy = 0; pause = 0; source = dataFed n d; mover = moverRecords m; tape = movedTo (t .position + 1) t }
+
+-- n bytes of record i from tape: "the tape stands after that record"
+abbrev pub hands : ℕ → ℕ → Data → Mover → Tape → Move
+hands n i d m t = record { count = n; dwhy = 0; mwhy = 0; pause = 0; source = dataFed n d; mover = moverHands n m; tape = movedTo (i + 1) t }
+
+-- ---- to tape
+-- "mover not ACTIVE in mode 0, or data not ACTIVE in a backup"; and likewise from tape, with mode 1 and a recover
+unfoldable pub idle : ℕ → ℕ → Data → Mover → Bool
+idle mode operation d m =
+    choose (not (eqb (m .state) moverActive)) true
+    (choose (not (eqb (m .mode) mode)) true
+    (choose (not (eqb (d .state) dataActive)) true
+    (not (eqb (d .operation) operation))))
+
+-- "stream part empty and marked last"
+unfoldable pub streamEnds : Bool → ℕ → Bool
+streamEnds last n = choose last (eqb n 0) false
+
+-- "less than a record and not last"
+unfoldable pub scant : Bool → ℕ → ℕ → Bool
+scant last n size = choose last false (ltb n size)
+
+-- "one record is taken and written, the last short one filled with zeros"
+abbrev pub writing : Data → Mover → Tape → List ℕ → List ℕ → Step Move
+writing d m t l s =
+    record {
+      gives = takes (least (length s) (m .size)) d m t;
+      image = written l (t .position) (fillTo (take (least (length s) (m .size)) s) (m .size));
+    }
+
+-- rules (4) to (7): "(4) bytes moved at the window's end: PAUSED EOW 5; (5) less than a record and not last: nothing; (6) no room: PAUSED
+-- EOM 1; (7) one record is taken and written"
+unfoldable pub filling : Data → Mover → Tape → List ℕ → List ℕ → Bool → Step Move
+filling d m t l s last =
+    choose (eqb (m .moved) (windowEnd (m .offset) (m .length))) (keeping l (pauses endOfWindow d m t))
+    (choose (scant last (length s) (m .size)) (keeping l (still d m t))
+    (choose (not (roomFor l (t .position) (m .size))) (keeping l (pauses endOfMedium d m t))
+    (writing d m t l s)))
+
+-- "To tape, first that applies: (1) mover not ACTIVE in mode 0, or data not ACTIVE in a backup: nothing; (2) image unsound or position
+-- above n: mover halts MEDIA_ERROR 5, data CONNECT_ERROR; (3) stream part empty and marked last: data halts SUCCESSFUL 1, mover
+-- CONNECT_CLOSED", then (4) to (7)
+unfoldable pub toTape : Data → Mover → Tape → List ℕ → List ℕ → Bool → Step Move
+toTape d m t l s last =
+    choose (idle toTapeMode backupOperation d m) (keeping l (still d m t))
+    (choose (faulty l (t .position)) (keeping l (halts dataConnectError moverMediaError d m t))
+    (choose (streamEnds last (length s)) (keeping l (halts dataSuccessful moverConnectClosed d m t))
+    (filling d m t l s last)))
+
+-- ---- from tape
+-- "seek position outside the window"
+unfoldable pub outside : ℕ → ℕ → ℕ → Bool
+outside seek offset length = choose (ltb seek offset) true (not (ltb seek (windowEnd offset length)))
+
+-- the record of the window that the seek position is in, counted from the window's start, and the place in it
+abbrev pub ordinal : Mover → ℕ
+ordinal m = (m .seek - m .offset) / m .size
+
+abbrev pub inRecord : Mover → ℕ
+inRecord m = (m .seek - m .offset) % m .size
+
+-- "Walking from there (each record passed counts one record size)": `ahead` entries from entry i on, and k records to pass
+unfoldable pub seekFrom : List ℕ → ℕ → ℕ → ℕ → Found
+seekFrom l zero i k = Found.End
+seekFrom l (suc ahead) i k =
+    choose (eqb (entryLen l i) 0) (Found.Mark (i + 1)) (choose (eqb k 0) (Found.Target i) (seekFrom l ahead (i + 1) (k - 1)))
+
+-- "the least of bytes left, rest of that record and destination room"
+unfoldable pub amount : Mover → ℕ → ℕ
+amount m room = least (least (m .left) (m .size - inRecord m)) room
+
+-- a move's result, and the destination after it
+pub record Handing : Type 0 where
+  pub move : Move
+  pub dest : List ℕ
+
+abbrev pub untouched : List ℕ → Move → Handing
+untouched b r = record { move = r; dest = b }
+
+-- "a target record of another length the halt of (2), tape unmoved. Otherwise the least .. is handed over"
+unfoldable pub reading : ℕ → Data → Mover → Tape → List ℕ → List ℕ → Handing
+reading i d m t l b =
+    choose (not (eqb (entryLen l i) (m .size))) (untouched b (halts dataConnectError moverMediaError d m t))
+    (record {
+      move = hands (amount m (length b)) i d m t;
+      dest = overlay 0 (take (amount m (length b)) (drop (inRecord m) (entryBytes l i))) b;
+    })
+
+-- "a mark gives PAUSED EOF 2 (tape after the mark), the end PAUSED EOM (tape at the end)"
+unfoldable pub onFound : Found → Data → Mover → Tape → List ℕ → List ℕ → Handing
+onFound (Found.Target i) d m t l b = reading i d m t l b
+onFound (Found.Mark j) d m t l b = untouched b (pauses endOfFile d m (movedTo j t))
+onFound Found.End d m t l b = untouched b (pauses endOfMedium d m (movedTo (count l) t))
+
+-- "The tape position when the mover became ACTIVE stands for the window's offset."
+abbrev pub sought : Mover → List ℕ → Found
+sought m l = seekFrom l (count l - m .origin) (m .origin) (ordinal m)
+
+-- "seek position outside the window: PAUSED SEEK 3", then the walk
+unfoldable pub seeking : Data → Mover → Tape → List ℕ → List ℕ → Handing
+seeking d m t l b =
+    choose (outside (m .seek) (m .offset) (m .length)) (untouched b (pauses seekOutside d m t))
+    (onFound (sought m l) d m t l b)
+
+-- "From tape (mover ACTIVE in mode 1, data ACTIVE in a recover; otherwise nothing): fault as (2); nothing left to read or no destination
+-- room: nothing", then the seek position
+unfoldable pub fromTape : Data → Mover → Tape → List ℕ → List ℕ → Handing
+fromTape d m t l b =
+    choose (idle fromTapeMode recoverOperation d m) (untouched b (still d m t))
+    (choose (faulty l (t .position)) (untouched b (halts dataConnectError moverMediaError d m t))
+    (choose (eqb (m .left) 0) (untouched b (still d m t))
+    (choose (eqb (length b) 0) (untouched b (still d m t))
+    (seeking d m t l b))))
+
+-- what it is for code to move from tape: the result and the destination are the definition's
+pub record HandedAs (st : Handing) (r : Move) (b′ : List ℕ) : Type 0 where
+  pub is : r ≡ st .move
+  pub dest : b′ ≡ st .dest
+
+-- ---- "The method's end, while data is ACTIVE, halts it SUCCESSFUL or INTERNAL_ERROR 3 and the mover CONNECT_CLOSED; otherwise it does nothing."
+unfoldable pub methodEnd : Bool → Data → Mover → Tape → Move
+methodEnd ok d m t =
+    choose (eqb (d .state) dataActive) (halts (choose ok dataSuccessful dataInternalError) moverConnectClosed d m t) (still d m t)

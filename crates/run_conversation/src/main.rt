@@ -1,0 +1,72 @@
+// Opens a session and lends it the record, in hex, of each file that an argument names: of each a line with its name, the code and the bytes sent.
+mod hex; // hex.rt: bytes from hex digits
+mod line; // line.rt: the parts of a line
+
+use line::put;
+use line::put_first;
+use line::put_number;
+use rules::types::Session;
+
+// 1,700,000,000 seconds
+const TIME: u32 = 0x6553F100;
+
+// The code of an answer and the bytes sent.
+fn show(code: u32, len: usize, out: &[u8]) {
+    put_number(b": ", code as u64);
+    if len > 0 {
+        put(b" ");
+        put_first(out, len);
+    }
+    put(b"\n");
+}
+
+// A new session.
+fn begin() -> Session {
+    let mut out = [0u8; codes::LARGEST_MESSAGE];
+    let a = call_request::open(TIME, &mut out);
+    put(b"open");
+    show(a.code, a.len, &out);
+    a.session
+}
+
+// One record.
+fn ask(s: Session, image: &mut [u8], input: &[u8]) -> Session {
+    let mut out = [0u8; codes::LARGEST_MESSAGE];
+    let a = call_request::request(s, b"vault", b"noon", image, input, TIME, &mut out);
+    show(a.code, a.len, &out);
+    a.session
+}
+
+fn ask_file(i: usize, s: Session, image: &mut [u8]) -> Session {
+    let mut path = io::buffer();
+    let n = os::arg(i, &mut path);
+    put(&path[..n]);
+    let fd = os::open_read(&path[..n]);
+    if fd < 0 {
+        os::fail(&path[..n]);
+        return s;
+    }
+    let mut text = [0u8; 4096];
+    let len = io::read_full(fd, &mut text);
+    libc::close(fd);
+    let mut record = [0u8; 2048];
+    let size = hex::read(&text[..len], &mut record);
+    if record.len() < size {
+        return s;
+    }
+    ask(s, image, &record[0..size])
+}
+
+// The cartridge is empty: 1, a capacity of 8, no entries, no bytes used; then room for 8 entries and 2,048 bytes.
+fn main() {
+    let mut image = [0u8; 2128];
+    image[3] = 1;
+    image[7] = 8;
+    let count = os::arg_count();
+    let mut s = begin();
+    let mut i: usize = 1;
+    while i < count {
+        s = ask_file(i, s, &mut image);
+        i += 1;
+    }
+}

@@ -1,0 +1,123 @@
+// The calls of a case, each printed with what it gave. The session and the cartridge are passed on.
+ghost use mathlib.Core.Path.{_≡_};
+ghost use Prim.Native.Nat.{_≤_};
+ghost use lib.ListN.{length};
+use super::line::put;
+use super::line::put_body;
+use super::line::put_number;
+use rules::types::Session;
+
+// The record of a request.
+fn write_request(out: &mut [u8], message: u32, body: &[u32])
+    requires { ⌜ (length (now out) ≡ 60) × (length (now body) ≤ 8) ⌝ }
+{
+    let size = body.len() as u32 * 4;
+    let header = [2147483672 + size, 7, 0, 0, message, 0, 0];
+    xdr::write_words(out, 0, &header);
+    xdr::write_words(out, 28, body);
+}
+
+// A request: its message number and the words of its body.
+pub fn ask(label: &[u8], s: Session, image: &mut [u8], message: u32, body: &[u32]) -> Session
+    requires { ⌜ length (now body) ≤ 8 ⌝ }
+{
+    let mut record = [0u8; 60];
+    write_request(&mut record, message, body);
+    let end = 28 + body.len() * 4;
+    put(label);
+    answer(s, image, &record[..end])
+}
+
+// A record, and the body of its reply.
+fn answer(s: Session, image: &mut [u8], record: &[u8]) -> Session {
+    let mut out = [0u8; codes::LARGEST_MESSAGE];
+    let a = call_request::request(s, b"v", b"pw", image, record, 0, &mut out);
+    put(b":");
+    put_body(&out, a.len);
+    a.session
+}
+
+// A new session that has logged in.
+pub fn login(image: &mut [u8]) -> Session {
+    let mut out = [0u8; codes::LARGEST_MESSAGE];
+    let a = call_request::open(0, &mut out);
+    let s = ask(b"  connect open", a.session, image, 2304, &[4]);
+    ask(
+        b"  client auth",
+        s,
+        image,
+        2305,
+        &[1, 1, 1979711488, 2, 1886846976],
+    )
+}
+
+// A new session that has logged in and set a record size of 1,024.
+pub fn prepare(image: &mut [u8]) -> Session {
+    let s = login(image);
+    set_size(s, image)
+}
+
+pub fn set_size(s: Session, image: &mut [u8]) -> Session {
+    ask(b"  set record size 1024", s, image, 2568, &[1024])
+}
+
+pub fn set_window(s: Session, image: &mut [u8], offset: u64, length: u64) -> Session {
+    put_number(b"  set window ", offset);
+    put_number(b" ", length);
+    let body = [
+        (offset / 4294967296) as u32,
+        (offset % 4294967296) as u32,
+        (length / 4294967296) as u32,
+        (length % 4294967296) as u32,
+    ];
+    ask(b"", s, image, 2565, &body)
+}
+
+// Tape open, of `tape0`, for writing.
+pub fn open_tape(s: Session, image: &mut [u8]) -> Session {
+    ask(
+        b"  tape open",
+        s,
+        image,
+        768,
+        &[5, 1952542821, 805306368, 1],
+    )
+}
+
+// Mover listen, in mode 0 at LOCAL.
+pub fn listen(s: Session, image: &mut [u8]) -> Session {
+    ask(b"  mover listen", s, image, 2561, &[0, 0])
+}
+
+// What a move came to.
+fn show(s: Session, count: usize) {
+    put_number(b": taken ", count as u64);
+    put_number(b", state ", s.mover.state as u64);
+    put_number(b", pause ", s.mover.pause as u64);
+    put_number(b", halt ", s.mover.halt as u64);
+    put_number(b", moved ", s.mover.moved);
+    put_number(b", processed ", s.source.processed);
+    put_number(b", position ", s.tape.position as u64);
+    put(b"\n");
+}
+
+// A move to tape.
+fn feed(s: Session, image: &mut [u8], stream: &[u8], last: bool) -> Session {
+    let mut out = [0u8; codes::LARGEST_MESSAGE];
+    let r = call_moves::move_to_tape(s, image, stream, last, 0, &mut out);
+    put_number(b"  move of ", stream.len() as u64);
+    if last {
+        put(b", the last");
+    }
+    let next = r.session;
+    show(next, r.count);
+    next
+}
+
+// A move to tape of the stream from a place on.
+pub fn feed_from(s: Session, image: &mut [u8], stream: &[u8], at: usize, last: bool) -> Session {
+    if stream.len() < at {
+        return s;
+    }
+    feed(s, image, &stream[at..], last)
+}

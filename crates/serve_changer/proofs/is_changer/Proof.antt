@@ -1,0 +1,44 @@
+-- The part of the body that is lent holds the text's bytes.
+use denote.Ref.{now}
+use Rattle.rules.proofs.Serving.{named}
+use Rattle.rules.specs.ScsiService.{changer0}
+use borrow.Author.Needs.{needs}
+use Rattle.serve_changer.proofs.is_changer.Statement.{statement}
+use Rattle.serve_changer.proofs.is_changer.Tie as tie
+use Rattle.serve_changer.proofs.is_changer.Reads as reads
+use Rattle.serve_changer.proofs.is_changer.Lts as lts
+use Rattle.xdr.proofs.same.Reads as same-reads
+
+add-end : tie.Need-add-end
+add-end c = search needs
+
+sub-same : tie.Need-sub-same
+sub-same c = search needs
+
+part-same-start : tie.Need-part-same-start
+part-same-start c = search needs
+
+part-same-end : tie.Need-part-same-end
+part-same-end c = search needs
+
+slice-aggregate-same : tie.Need-slice-aggregate-same
+slice-aggregate-same c = search needs
+
+same-requires : tie.Need-same-requires
+same-requires c κs = search needs
+
+returns : tie.Need-returns
+unfolding changer0
+returns c = let a = c .before .before .before .before .before .args in named (now (a .body)) (a .name) _ _ (c .same .ensures)
+
+pub is-changer-spec : {M : Type 1} → statement M
+is-changer-spec =
+    tie.close
+    (tie.spec
+    add-end
+    sub-same
+    part-same-start
+    part-same-end
+    slice-aggregate-same
+    same-requires
+    returns)

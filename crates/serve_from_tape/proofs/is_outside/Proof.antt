@@ -1,0 +1,23 @@
+-- Each return is a case of the tests, by arithmetic.
+use native.Mathlib.Omega.{arith}
+use Rattle.serve_from_tape.proofs.Handing.{before-it, in-it, after-it}
+use borrow.Author.Needs.{needs}
+use Rattle.serve_from_tape.proofs.is_outside.Statement.{statement}
+use Rattle.serve_from_tape.proofs.is_outside.Tie as tie
+use Rattle.serve_from_tape.proofs.is_outside.Reads as reads
+use Rattle.serve_from_tape.proofs.is_outside.Lts as lts
+
+returns : tie.Need-returns
+returns c = before-it _ _ _ (c .if1 .taken)
+
+add-if2 : tie.Need-add-if2
+add-if2 c = search needs
+
+returns-2 : tie.Need-returns-2
+returns-2 c = let a = c .before .before .args in in-it (a .seek) (a .offset) (a .length) (c .before .if1 .left) (omega arith)
+
+returns-3 : tie.Need-returns-3
+returns-3 c = let a = c .before .before .args in after-it (a .seek) (a .offset) (a .length) (c .before .if1 .left) (omega arith)
+
+pub is-outside-spec : {M : Type 1} → statement M
+is-outside-spec = tie.close (tie.spec returns add-if2 returns-2 returns-3)

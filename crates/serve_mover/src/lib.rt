@@ -1,0 +1,229 @@
+// The requests of the mover that are not joint.
+ghost use mathlib.Core.Path.{_≡_};
+ghost use Rattle.rules.specs.Judge.{first};
+ghost use Rattle.rules.specs.MoverService.{recordNumber, moverState, offsetWrong, joinTests, moverListen, moverContinue, moverStop, busy, elsewhere, setWindow, moverRead, setSize, moverStep};
+ghost use Rattle.serve_mover.specs.Done.{outcomeOf};
+use rules::types::Mover;
+use rules::types::Tape;
+use wire_replies::MoverView;
+use wire_replies::Reply;
+use wire_requests::MoverRequest;
+
+// A refusal, or a reply and the mover after it.
+pub enum MoverDone {
+    Refuse(u32),
+    Accept(Reply, Mover),
+}
+
+// The record number that is told.
+fn record_number(moved: u64, size: u32) -> u32
+    ensures { λ r. ⌜ r ≡ recordNumber moved size ⌝ }
+{
+    if size == 0 {
+        return 0;
+    }
+    (moved / size as u64 % 4294967296) as u32
+}
+
+fn get_state(m: Mover) -> MoverDone
+    ensures { λ r. ⌜ outcomeOf r ≡ moverState m ⌝ }
+{
+    let view = MoverView {
+        mode: m.mode,
+        state: m.state,
+        pause: rules::told_in(Mover::PAUSED, m.state, m.pause),
+        halt: rules::told_in(Mover::HALTED, m.state, m.halt),
+        size: m.size,
+        number: record_number(m.moved, m.size),
+        moved: m.moved,
+        seek: m.seek,
+        left: m.left,
+        offset: m.offset,
+        length: m.length,
+    };
+    MoverDone::Accept(Reply::MoverState(view), m)
+}
+
+// Whether a mode begins at 0, and the window does not.
+fn is_offset_wrong(mode: u32, offset: u64) -> bool
+    ensures { λ r. ⌜ r ≡ offsetWrong mode offset ⌝ }
+{
+    if mode == Mover::TO_TAPE {
+        return offset != 0;
+    }
+    false
+}
+
+// What listen and connect both ask of the mover: the number of the first test that applies, or 0.
+pub fn join_error(m: Mover, t: Tape, mode: u32, address: u32) -> u32
+    ensures { λ r. ⌜ r ≡ first (joinTests m t mode address) ⌝ }
+{
+    if !t.opened {
+        return codes::NOT_OPEN;
+    }
+    if m.state != Mover::IDLE {
+        return codes::ILLEGAL_STATE;
+    }
+    if Mover::is_unwritable(mode, t.writable) {
+        return codes::PERMISSION_DENIED;
+    }
+    if m.size == 0 {
+        return codes::PRECONDITION;
+    }
+    if m.length == 0 {
+        return codes::PRECONDITION;
+    }
+    if is_offset_wrong(mode, m.offset) {
+        return codes::PRECONDITION;
+    }
+    if address != codes::LOCAL_ADDRESS {
+        return codes::ILLEGAL_ARGUMENTS;
+    }
+    if Mover::FROM_TAPE < mode {
+        return codes::ILLEGAL_ARGUMENTS;
+    }
+    0
+}
+
+fn listen(m: Mover, t: Tape, mode: u32, address: u32) -> MoverDone
+    ensures { λ r. ⌜ outcomeOf r ≡ moverListen m t mode address ⌝ }
+{
+    let e = join_error(m, t, mode, address);
+    if e != 0 {
+        return MoverDone::Refuse(e);
+    }
+    let next = m.listens(mode);
+    MoverDone::Accept(Reply::Listening, next)
+}
+
+fn go_on(m: Mover, t: Tape) -> MoverDone
+    ensures { λ r. ⌜ outcomeOf r ≡ moverContinue m t ⌝ }
+{
+    if !t.opened {
+        return MoverDone::Refuse(codes::NOT_OPEN);
+    }
+    if m.state != Mover::PAUSED {
+        return MoverDone::Refuse(codes::ILLEGAL_STATE);
+    }
+    if Mover::is_unwritable(m.mode, t.writable) {
+        return MoverDone::Refuse(codes::PERMISSION_DENIED);
+    }
+    if m.length == 0 {
+        return MoverDone::Refuse(codes::PRECONDITION);
+    }
+    let next = m.runs(m.mode, t.position);
+    MoverDone::Accept(Reply::Plain, next)
+}
+
+fn stop(m: Mover) -> MoverDone
+    ensures { λ r. ⌜ outcomeOf r ≡ moverStop m ⌝ }
+{
+    if m.state != Mover::HALTED {
+        return MoverDone::Refuse(codes::ILLEGAL_STATE);
+    }
+    let next = m.rests();
+    MoverDone::Accept(Reply::Plain, next)
+}
+
+// Whether it is neither IDLE nor PAUSED.
+fn is_busy(state: u32) -> bool
+    ensures { λ r. ⌜ r ≡ busy state ⌝ }
+{
+    if state == Mover::IDLE {
+        return false;
+    }
+    state != Mover::PAUSED
+}
+
+// Whether a window would leave a gap in what is written.
+fn is_elsewhere(state: u32, mode: u32, moved: u64, offset: u64) -> bool
+    ensures { λ r. ⌜ r ≡ elsewhere state mode moved offset ⌝ }
+{
+    if state == Mover::PAUSED {
+        if mode == Mover::TO_TAPE {
+            return offset != moved;
+        }
+    }
+    false
+}
+
+fn set_window(m: Mover, offset: u64, length: u64) -> MoverDone
+    ensures { λ r. ⌜ outcomeOf r ≡ setWindow m offset length ⌝ }
+{
+    if is_busy(m.state) {
+        return MoverDone::Refuse(codes::ILLEGAL_STATE);
+    }
+    if m.size == 0 {
+        return MoverDone::Refuse(codes::PRECONDITION);
+    }
+    if length == 0 {
+        return MoverDone::Refuse(codes::ILLEGAL_ARGUMENTS);
+    }
+    if offset % m.size as u64 != 0 {
+        return MoverDone::Refuse(codes::ILLEGAL_ARGUMENTS);
+    }
+    if length % m.size as u64 != 0 {
+        return MoverDone::Refuse(codes::ILLEGAL_ARGUMENTS);
+    }
+    if Mover::is_past_top(offset, length) {
+        return MoverDone::Refuse(codes::ILLEGAL_ARGUMENTS);
+    }
+    if is_elsewhere(m.state, m.mode, m.moved, offset) {
+        return MoverDone::Refuse(codes::ILLEGAL_ARGUMENTS);
+    }
+    let next = m.windowed(offset, length);
+    MoverDone::Accept(Reply::Plain, next)
+}
+
+fn mover_read(m: Mover, offset: u64, length: u64) -> MoverDone
+    ensures { λ r. ⌜ outcomeOf r ≡ moverRead m offset length ⌝ }
+{
+    if m.state != Mover::ACTIVE {
+        return MoverDone::Refuse(codes::ILLEGAL_STATE);
+    }
+    if m.mode != Mover::FROM_TAPE {
+        return MoverDone::Refuse(codes::ILLEGAL_STATE);
+    }
+    if length == 0 {
+        return MoverDone::Refuse(codes::ILLEGAL_ARGUMENTS);
+    }
+    if Mover::is_past_top(offset, length) {
+        return MoverDone::Refuse(codes::ILLEGAL_ARGUMENTS);
+    }
+    if m.left != 0 {
+        return MoverDone::Refuse(codes::READ_IN_PROGRESS);
+    }
+    let next = m.seeks(offset, length);
+    MoverDone::Accept(Reply::Plain, next)
+}
+
+fn set_record_size(m: Mover, size: u32) -> MoverDone
+    ensures { λ r. ⌜ outcomeOf r ≡ setSize m size ⌝ }
+{
+    if m.state != Mover::IDLE {
+        return MoverDone::Refuse(codes::ILLEGAL_STATE);
+    }
+    if size == 0 {
+        return MoverDone::Refuse(codes::ILLEGAL_ARGUMENTS);
+    }
+    if Mover::LARGEST_SIZE < size {
+        return MoverDone::Refuse(codes::ILLEGAL_ARGUMENTS);
+    }
+    let next = m.sized(size);
+    MoverDone::Accept(Reply::Plain, next)
+}
+
+// A request of the mover.
+pub fn serve(m: Mover, t: Tape, q: MoverRequest) -> MoverDone
+    ensures { λ r. ⌜ outcomeOf r ≡ moverStep m t q ⌝ }
+{
+    match q {
+        MoverRequest::State => get_state(m),
+        MoverRequest::Listen(mode, address) => listen(m, t, mode, address),
+        MoverRequest::Continue => go_on(m, t),
+        MoverRequest::Stop => stop(m),
+        MoverRequest::Window(offset, length) => set_window(m, offset, length),
+        MoverRequest::Read(offset, length) => mover_read(m, offset, length),
+        MoverRequest::Size(size) => set_record_size(m, size),
+    }
+}

@@ -1,0 +1,58 @@
+-- Both joined flags are put back for what the two methods found, behind the two tests.
+use Rattle.xdr.proofs.Tests.{asked, pick-else, picking}
+use Rattle.rules.specs.Relation.{keeps}
+use borrow.Author.Needs.{needs}
+use Rattle.serve_relation.proofs.is_kept.Statement.{statement}
+use Rattle.serve_relation.proofs.is_kept.Tie as tie
+use Rattle.serve_relation.proofs.is_kept.Reads as reads
+use Rattle.serve_relation.proofs.is_kept.Lts as lts
+use Rattle.rules.proofs.types.Data.is_joined.Reads as is-joined-reads
+use Rattle.rules.proofs.types.Mover.is_joined.Reads as is-joined2-reads
+use Rattle.serve_relation.proofs.is_data_wrong.Reads as is-data-wrong-reads
+use Rattle.serve_relation.proofs.is_mover_wrong.Reads as is-mover-wrong-reads
+use Rattle.serve_relation.proofs.same_flag.Reads as same-flag-reads
+
+is-data-wrong-requires : tie.Need-is-data-wrong-requires
+is-data-wrong-requires c κs = search needs
+
+returns : tie.Need-returns
+unfolding keeps
+returns c = search picking depth 10
+
+is-mover-wrong-requires : tie.Need-is-mover-wrong-requires
+is-mover-wrong-requires c κs = search needs
+
+returns-2 : tie.Need-returns-2
+unfolding keeps
+returns-2 c = search picking depth 10
+
+is-joined-requires : tie.Need-is-joined-requires
+is-joined-requires c κs = search needs
+
+is-joined-requires-2 : tie.Need-is-joined-requires-2
+is-joined-requires-2 c κs = search needs
+
+same-flag-requires : tie.Need-same-flag-requires
+same-flag-requires c κs = search needs
+
+returns-3 : tie.Need-returns-3
+unfolding keeps
+returns-3 c =
+    let c2 = c .before .before .before in
+    let c1 = c2 .before .before in
+    pick-else _ (asked (c1 .before .is-data-wrong .ensures) (c1 .if1 .left))
+    (pick-else _ (asked (c2 .before .is-mover-wrong .ensures) (c2 .if2 .left))
+    (rw (← (c .before .before .is-joined .ensures), ← (c .before .is-joined2 .ensures)) (c .same-flag .ensures)))
+
+pub is-kept-spec : {M : Type 1} → statement M
+is-kept-spec =
+    tie.close
+    (tie.spec
+    is-data-wrong-requires
+    returns
+    is-mover-wrong-requires
+    returns-2
+    is-joined-requires
+    is-joined-requires-2
+    same-flag-requires
+    returns-3)

@@ -1,0 +1,47 @@
+-- What rules (4) to (7) lean on, from the tests before them, and what rules (6) and (7) say, from what the write gave. Assumes nothing.
+use Prim.Native.Nat.{ℕ}
+use mathlib.Core.Bool.{Bool, true, false, not}
+use mathlib.Core.List.{List}
+use mathlib.Core.Path.{_≡_, sym, ap, _∙_}
+use lib.ListN.{length, take}
+use borrow.Author.Tests.{not-true, not-false}
+use Rattle.xdr.specs.Choose.{choose, least}
+use Rattle.tape_image.specs.Image.{faulty}
+use Rattle.tape_image.proofs.Laws.{placed}
+use Rattle.tape_writing.specs.Writing.{roomFor, FilledWrite}
+use Rattle.tape_ops.specs.Step.{Step, Told, keeping}
+use Rattle.rules.specs.declared.types.Data.{Data}
+use Rattle.rules.specs.declared.types.Mover.{Mover}
+use Rattle.rules.specs.declared.types.Tape.{Tape}
+use Rattle.rules.specs.Names.{toTapeMode, backupOperation}
+use Rattle.rules.specs.Relation.{moverWrong}
+use Rattle.rules.proofs.Kept.{mover-kept}
+use Rattle.rules.proofs.Keeping.{active-holds}
+use Rattle.rules_moves.proofs.Moving.{running}
+use Rattle.rules_moves.specs.declared.Move.{Move}
+use Rattle.rules_moves.specs.Moves.{idle, takes, writing}
+use Rattle.serve_to_tape.specs.Fillable.{Fillable}
+
+-- where the mover is in order and runs, and the tape has no fault, records can go to it
+pub fillable : (d : Data) (m : Mover) (t : Tape) (l : List ℕ) (r f : Bool) → moverWrong m t ≡ false → r ≡ idle toTapeMode backupOperation d m → r ≡ false
+    → f ≡ faulty l (t .position) → f ≡ false → Fillable m l (t .position)
+fillable d m t l r f w e h g k =
+    let q = mover-kept m t w in
+    let held = q .hold (active-holds (m .state) (running toTapeMode backupOperation d m (sym e ∙ h) .active)) in
+    record { small = q .sizes; fits = q .window (held .window) .fits; place = placed l (t .position) (sym g ∙ k) }
+
+-- rules (6) and (7), from what the write gave
+pub told-full : {l l′ s : List ℕ} {p n : ℕ} {r : Bool} {q got : Move} (y : Step Move) → FilledWrite l p s n r l′ → not r ≡ true → got ≡ q
+    → Told (choose (not (roomFor l p n)) (keeping l q) y) got l′
+unfolding choose
+told-full {l} {l′} {s} {p} {n} {r} {q} {got} y w h e =
+    let no : roomFor l p n ≡ false = sym (w .room) ∙ not-true r h in
+    rw no (record { is = e; image = rw no at (w .image) })
+
+pub told-wrote : (d : Data) (m : Mover) (t : Tape) (s : List ℕ) {l l′ : List ℕ} {part : ℕ} {r : Bool} {got : Move} (x : Step Move)
+    → FilledWrite l (t .position) (take part s) (m .size) r l′ → not r ≡ false → part ≡ least (length s) (m .size) → got ≡ takes part d m t
+    → Told (choose (not (roomFor l (t .position) (m .size))) x (writing d m t l s)) got l′
+unfolding choose
+told-wrote d m t s {l} {l′} {part} {r} {got} x w h k e =
+    let yes : roomFor l (t .position) (m .size) ≡ true = sym (w .room) ∙ not-false r h in
+    rw yes (record { is = e ∙ ap (λ (j : ℕ). takes j d m t) k; image = rw k at (rw yes at (w .image)) })

@@ -1,0 +1,71 @@
+// One move to tape, on the parts of a session: the rules are asked in the order of `toTape`, and the first that applies decides.
+ghost use mathlib.Core.Path.{_≡_};
+ghost use mathlib.Core.Bool.{false};
+ghost use Rattle.tape_ops.specs.Step.{Told};
+ghost use Rattle.rules.specs.Relation.{moverWrong};
+ghost use Rattle.rules_moves.specs.Moves.{streamEnds, scant, filling, toTape};
+ghost use Rattle.serve_to_tape.specs.Fillable.{Fillable};
+use rules::types::Data;
+use rules::types::Mover;
+use rules::types::Tape;
+use rules_moves::Move;
+
+// The stream has come to its end.
+fn is_ending(last: bool, n: usize) -> bool
+    ensures { λ r. ⌜ r ≡ streamEnds last n ⌝ }
+{
+    if last {
+        return n == 0;
+    }
+    false
+}
+
+// The stream part is less than a record, and more is to come.
+fn is_scant(last: bool, n: usize, size: usize) -> bool
+    ensures { λ r. ⌜ r ≡ scant last n size ⌝ }
+{
+    if last {
+        return false;
+    }
+    n < size
+}
+
+// Rules (4) to (7), with the tape at a position of a sound image.
+fn fill_tape(d: Data, m: Mover, t: Tape, image: &mut [u8], stream: &[u8], last: bool) -> Move
+    requires { ⌜ Fillable m (now image) (t .position) ⌝ }
+    ensures { λ r. ⌜ Told (filling d m t (now (image .entry)) (now (stream .entry)) last) r (now (image .exit)) ⌝ }
+{
+    let end = m.offset + m.length;
+    let size = m.size as usize;
+    let part = xdr::lesser_len(stream.len(), size);
+    let scant = is_scant(last, stream.len(), size);
+    if m.moved == end {
+        return rules_moves::pause_at(Mover::END_OF_WINDOW, d, m, t);
+    }
+    if scant {
+        return rules_moves::no_move(d, m, t);
+    }
+    if !tape_writing::write_filled(image, t.position, &stream[..part], size) {
+        return rules_moves::pause_at(Mover::END_OF_MEDIUM, d, m, t);
+    }
+    rules_moves::take_record(part, d, m, t)
+}
+
+// One move to tape.
+pub fn to_tape(d: Data, m: Mover, t: Tape, image: &mut [u8], stream: &[u8], last: bool) -> Move
+    requires { ⌜ moverWrong m t ≡ false ⌝ }
+    ensures { λ r. ⌜ Told (toTape d m t (now (image .entry)) (now (stream .entry)) last) r (now (image .exit)) ⌝ }
+{
+    if rules_moves::is_idle(Mover::TO_TAPE, Data::BACKUP, d, m) {
+        return rules_moves::no_move(d, m, t);
+    }
+    let faulty = tape_image::is_faulty(image, t.position);
+    let ends = is_ending(last, stream.len());
+    if faulty {
+        return rules_moves::halt_both(Data::CONNECT_ERROR, Mover::MEDIA_ERROR, d, m, t);
+    }
+    if ends {
+        return rules_moves::halt_both(Data::SUCCESSFUL, Mover::CONNECT_CLOSED, d, m, t);
+    }
+    fill_tape(d, m, t, image, stream, last)
+}

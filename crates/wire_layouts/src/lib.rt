@@ -1,0 +1,258 @@
+// Bodies read by their layouts.
+ghost use mathlib.Core.Path.{_≡_};
+ghost use mathlib.Core.List.{map};
+ghost use Prim.Native.Nat.{_≤_, _<_};
+ghost use lib.ListN.{length};
+ghost use mathlib.Core.Bool.{true, false};
+ghost use Rattle.codes.specs.Codes.{mostListed};
+ghost use Rattle.wire_layouts.specs.Layout.{word, hyper, text, one, many, tag, partAt, partsAt, timesAt, fieldAt};
+ghost use Rattle.wire_layouts.specs.Laws.{RoundTrip, OneSpelling, UnreadRests};
+ghost use Rattle.wire_layouts.specs.Scans.{kept, scanned, fieldOf, partOf, past, forget, seen};
+use xdr_opaque::Opaque;
+use xdr_opaque::Word;
+use xdr_opaque::opaque_at;
+use xdr_opaque::word_at;
+
+// A text or opaque data in the body: where it starts, and how long it is.
+pub struct Text {
+    pub start: usize,
+    pub len: usize,
+}
+
+// What is kept of the fields of a body, each at its number; not ok is a body that does not decode.
+pub struct Scan {
+    pub ok: bool,
+    pub words: [u32; 5],
+    pub hypers: [u64; 5],
+    pub starts: [usize; 5],
+    pub lens: [usize; 5],
+}
+
+// The offset after what was passed over, or that it is cut short.
+pub enum After {
+    Next(usize),
+    Short,
+}
+
+// A field, and the offset after it; Stop is a tag behind which the rest is not read.
+pub enum Seen {
+    Word(u32, usize),
+    Hyper(u64, usize),
+    Place {
+        start: usize,
+        len: usize,
+        next: usize,
+    },
+    Stop(u32),
+    Bad,
+}
+
+// Nothing kept yet, or a body that does not decode.
+fn nothing(ok: bool) -> Scan
+    ensures { λ r. ⌜ r ≡ kept ok ⌝ }
+{
+    Scan {
+        ok,
+        words: [0; 5],
+        hypers: [0; 5],
+        starts: [0; 5],
+        lens: [0; 5],
+    }
+}
+
+fn one_word(body: &[u8], at: usize) -> Seen
+    ensures { λ r. ⌜ r ≡ seen (fieldAt (one word) (now (body .entry)) at) ⌝ }
+{
+    let Word::Value(v) = word_at(body, at) else {
+        return Seen::Bad;
+    };
+    Seen::Word(v, at + 4)
+}
+
+fn one_hyper(body: &[u8], at: usize) -> Seen
+    ensures { λ r. ⌜ r ≡ seen (fieldAt (one hyper) (now (body .entry)) at) ⌝ }
+{
+    if body.len() < 8 {
+        return Seen::Bad;
+    }
+    if body.len() - 8 < at {
+        return Seen::Bad;
+    }
+    Seen::Hyper(xdr::read_hyper(body, at), at + 8)
+}
+
+fn one_text(body: &[u8], at: usize) -> Seen
+    ensures { λ r. ⌜ r ≡ seen (fieldAt (one text) (now (body .entry)) at) ⌝ }
+{
+    let Opaque::At { start, len, next } = opaque_at(body, at) else {
+        return Seen::Bad;
+    };
+    Seen::Place { start, len, next }
+}
+
+// Passes over a part, by its letter.
+fn part_at(letter: u8, body: &[u8], at: usize) -> After
+    ensures { λ r. ⌜ r ≡ past (partAt (partOf letter) (now (body .entry)) at) ⌝ }
+{
+    match letter {
+        b'w' => {
+            let Word::Value(_) = word_at(body, at) else {
+                return After::Short;
+            };
+            After::Next(at + 4)
+        }
+        b'h' => {
+            if body.len() < 8 {
+                return After::Short;
+            }
+            if body.len() - 8 < at {
+                return After::Short;
+            }
+            After::Next(at + 8)
+        }
+        _ => {
+            let Opaque::At {
+                start: _,
+                len: _,
+                next,
+            } = opaque_at(body, at)
+            else {
+                return After::Short;
+            };
+            After::Next(next)
+        }
+    }
+}
+
+// Passes over the parts of an element.
+fn parts_at(letters: &[u8], body: &[u8], at: usize) -> After
+    ensures { λ r. ⌜ r ≡ forget (partsAt (map partOf (now (letters .entry))) (now (body .entry)) at) ⌝ }
+{
+    let mut pos = at;
+    let mut i = 0;
+    while i < letters.len() {
+        let After::Next(next) = part_at(letters[i], body, pos) else {
+            return After::Short;
+        };
+        pos = next;
+        i += 1;
+    }
+    After::Next(pos)
+}
+
+// Passes over count elements.
+fn times_at(letters: &[u8], count: u32, body: &[u8], at: usize) -> After
+    ensures { λ r. ⌜ r ≡ forget (timesAt (map partOf (now (letters .entry))) count (now (body .entry)) at) ⌝ }
+{
+    let mut pos = at;
+    let mut left = count;
+    while 0 < left {
+        let After::Next(next) = parts_at(letters, body, pos) else {
+            return After::Short;
+        };
+        pos = next;
+        left -= 1;
+    }
+    After::Next(pos)
+}
+
+// A counted list of at most so many elements as a start request may have.
+fn many_at(letters: &[u8], body: &[u8], at: usize) -> Seen
+    ensures { λ r. ⌜ r ≡ seen (fieldAt (many mostListed (map partOf (now (letters .entry)))) (now (body .entry)) at) ⌝ }
+{
+    let Word::Value(count) = word_at(body, at) else {
+        return Seen::Bad;
+    };
+    if codes::MOST_LISTED < count {
+        return Seen::Bad;
+    }
+    let After::Next(next) = times_at(letters, count, body, at + 4) else {
+        return Seen::Bad;
+    };
+    Seen::Word(count, next)
+}
+
+fn tagged(body: &[u8], at: usize, k: u32) -> Seen
+    ensures { λ r. ⌜ r ≡ seen (fieldAt (tag k) (now (body .entry)) at) ⌝ }
+{
+    let Word::Value(v) = word_at(body, at) else {
+        return Seen::Bad;
+    };
+    if v != k {
+        return Seen::Stop(v);
+    }
+    Seen::Word(v, at + 4)
+}
+
+// The field of a letter.
+fn field_at(letter: u8, body: &[u8], at: usize) -> Seen
+    ensures { λ r. ⌜ r ≡ seen (fieldAt (fieldOf letter) (now (body .entry)) at) ⌝ }
+{
+    match letter {
+        b'w' => one_word(body, at),
+        b'h' => one_hyper(body, at),
+        b't' => one_text(body, at),
+        b'p' => many_at(b"tt", body, at),
+        b'n' => many_at(b"tttthh", body, at),
+        b'a' => tagged(body, at, codes::LOCAL_ADDRESS),
+        b'u' => tagged(body, at, codes::TEXT_AUTH),
+        _ => Seen::Bad,
+    }
+}
+
+// The fields of a body by their letters.
+pub fn scan_body(layout: &[u8], body: &[u8]) -> Scan
+    requires { ⌜ length (now layout) ≤ 5 ⌝ }
+    ensures { λ r. ⌜ r ≡ scanned (map fieldOf (now (layout .entry))) (now (body .entry)) ⌝ }
+{
+    let mut k = nothing(true);
+    let mut at = 0;
+    let mut i = 0;
+    while i < layout.len() {
+        match field_at(layout[i], body, at) {
+            Seen::Word(v, next) => {
+                k.words[i] = v;
+                at = next;
+                i += 1;
+                continue;
+            }
+            Seen::Hyper(v, next) => {
+                k.hypers[i] = v;
+                at = next;
+                i += 1;
+                continue;
+            }
+            Seen::Place { start, len, next } => {
+                k.starts[i] = start;
+                k.lens[i] = len;
+                at = next;
+                i += 1;
+                continue;
+            }
+            Seen::Stop(v) => {
+                k.words[i] = v;
+                return k;
+            }
+            Seen::Bad => {
+                return nothing(false);
+            }
+        }
+    }
+    if at != body.len() {
+        return nothing(false);
+    }
+    k
+}
+
+// No work: their contracts are the laws of every layout.
+pub fn round_trip()
+    ensures { λ r. ⌜ RoundTrip ⌝ }
+{}
+
+pub fn one_spelling()
+    ensures { λ r. ⌜ OneSpelling ⌝ }
+{}
+
+pub fn unread_rests()
+    ensures { λ r. ⌜ UnreadRests ⌝ }
+{}

@@ -1,0 +1,160 @@
+-- What is sent: replies and notices (004, Appendix C, and paper 01's narrowings), from their values to their bytes.
+use Prim.Native.Nat.{ℕ, _+_, _*_, _/_, _%_}
+use mathlib.Core.Bool.{Bool, true, false}
+use mathlib.Core.List.{List, [], _∷_, _++_}
+use lib.ListN.{length, take, drop, replicate}
+use Rattle.codes.specs.Codes.{localAddress, versionFour}
+use Rattle.xdr.specs.Choose.{choose}
+use Rattle.xdr.specs.Xdr.{be32s}
+use Rattle.xdr_opaque.specs.Put.{opaque}
+use Rattle.wire_frame.specs.Frame.{recordBytes}
+use Rattle.wire_replies.specs.declared.DataView.{DataView}
+use Rattle.wire_replies.specs.declared.MoverView.{MoverView}
+use Rattle.wire_replies.specs.declared.Reply.{Reply}
+use Rattle.wire_replies.specs.declared.Reply.the-variants.{Header, Refused, Plain, Listening, ConnectionTypes, ServerInfo, ScsiState, Cdb, Sense, Check, TapeState, Mtio, Wrote, Read, DataState, MoverState}
+use Rattle.wire_replies.specs.declared.Notice.{Notice}
+use Rattle.wire_replies.specs.declared.Notice.the-variants.{DataHalted, Connected, MoverHalted, MoverPaused}
+
+-- a body: words, then texts (opaque data or strings, each with its length and fill), then words
+pub record Body : Type 0 where
+  pub words : List ℕ
+  pub texts : List (List ℕ)
+  pub tail : List ℕ
+
+abbrev pub wordsOnly : List ℕ → Body
+wordsOnly ws = record { words = ws; texts = []; tail = [] }
+
+unfoldable pub opaques : List (List ℕ) → List ℕ
+opaques [] = []
+opaques (t ∷ ts) = opaque t ++ opaques ts
+
+unfoldable pub bodyBytes : Body → List ℕ
+bodyBytes b = be32s (b .words) ++ (opaques (b .texts) ++ be32s (b .tail))
+
+-- a hyper as its two words
+abbrev pub high : ℕ → ℕ
+high v = v / 4294967296
+
+abbrev pub low : ℕ → ℕ
+low v = v % 4294967296
+
+-- "the sense 70 00 05 00 00 00 00 0A 00 00 00 00 20 00 00 00 00 00 .. With none pending, bytes 2 and 12 are 0."
+unfoldable pub sense : Bool → List ℕ
+sense pending =
+    0x70 ∷ 0 ∷ choose pending 5 0 ∷ 0 ∷ 0 ∷ 0 ∷ 0 ∷ 0x0A ∷ 0 ∷ 0 ∷ 0 ∷ 0 ∷ choose pending 0x20 0 ∷ 0 ∷ 0 ∷ 0 ∷ 0 ∷ 0 ∷ []
+
+-- "Server info gives empty strings before auth, then `vault`, `tape`, `1`"
+unfoldable pub serverTexts : Bool → List (List ℕ)
+serverTexts true = (0x76 ∷ 0x61 ∷ 0x75 ∷ 0x6C ∷ 0x74 ∷ []) ∷ (0x74 ∷ 0x61 ∷ 0x70 ∷ 0x65 ∷ []) ∷ (0x31 ∷ []) ∷ []
+serverTexts false = [] ∷ [] ∷ [] ∷ []
+
+-- The body of each reply, in 004's order. "other reply fields are zero or empty"; what is not kept is zero. An address is the one
+-- word 0 (LOCAL). Of a read, the bytes lie in the image.
+unfoldable pub shapeOf : Reply → List ℕ → Body
+shapeOf (Header e) image = wordsOnly []
+shapeOf (Refused b e a) image = wordsOnly (replicate b 0 ++ (e ∷ replicate a 0))
+shapeOf Plain image = wordsOnly (0 ∷ [])
+shapeOf Listening image = wordsOnly (0 ∷ localAddress ∷ [])
+-- "Connection types: LOCAL 0": a list of one type
+shapeOf ConnectionTypes image = wordsOnly (0 ∷ 1 ∷ localAddress ∷ [])
+-- "its auth list is type 1"
+shapeOf (ServerInfo known) image = record { words = 0 ∷ []; texts = serverTexts known; tail = 1 ∷ 1 ∷ [] }
+shapeOf ScsiState image = wordsOnly (0 ∷ 0 ∷ 0 ∷ 0 ∷ [])
+-- execute CDB: error, status, data-out length, data in, extended sense
+shapeOf Cdb image = record { words = 0 ∷ 0 ∷ 0 ∷ []; texts = [] ∷ [] ∷ []; tail = [] }
+shapeOf (Sense n pending) image = record { words = 0 ∷ 0 ∷ 0 ∷ []; texts = take n (sense pending) ∷ [] ∷ []; tail = [] }
+shapeOf Check image = record { words = 0 ∷ 2 ∷ 0 ∷ []; texts = [] ∷ sense true ∷ []; tail = [] }
+-- unsupported, error, flags, file, soft errors, block size, block, total space, space remaining
+shapeOf (TapeState file block) image = wordsOnly (0 ∷ 0 ∷ 0 ∷ file ∷ 0 ∷ 0 ∷ block ∷ 0 ∷ 0 ∷ 0 ∷ 0 ∷ [])
+shapeOf (Mtio e residue) image = wordsOnly (e ∷ residue ∷ [])
+shapeOf (Wrote e count) image = wordsOnly (e ∷ count ∷ [])
+shapeOf (Read e start len) image = record { words = e ∷ []; texts = take len (drop start image) ∷ []; tail = [] }
+-- unsupported ("DATA's two estimates are marked unsupported"), error, operation, state, reason, processed, estimated bytes and time,
+-- address, read offset and length
+shapeOf (DataState v) image =
+    wordsOnly
+    (3 ∷ 0 ∷ v .operation ∷ v .state ∷ v .reason ∷ high (v .processed) ∷ low (v .processed) ∷ 0 ∷ 0 ∷ 0 ∷ 0 ∷ 0 ∷ 0 ∷ 0 ∷ 0 ∷ [])
+-- error, mode, state, pause and halt reason, record size and number, moved, seek position, bytes left, window, address
+shapeOf (MoverState v) image =
+    wordsOnly
+    (0 ∷ v .mode ∷ v .state ∷ v .pause ∷ v .halt ∷ v .size ∷ v .number ∷ high (v .moved) ∷ low (v .moved) ∷ high (v .seek) ∷ low (v .seek)
+    ∷ high (v .left) ∷ low (v .left) ∷ high (v .offset) ∷ low (v .offset) ∷ high (v .length) ∷ low (v .length) ∷ 0 ∷ [])
+
+-- the one reply that shows bytes of the image
+unfoldable pub isRead : Reply → Bool
+isRead (Header e) = false
+isRead (Refused b e a) = false
+isRead Plain = false
+isRead Listening = false
+isRead ConnectionTypes = false
+isRead (ServerInfo known) = false
+isRead ScsiState = false
+isRead Cdb = false
+isRead (Sense n pending) = false
+isRead Check = false
+isRead (TapeState file block) = false
+isRead (Mtio e residue) = false
+isRead (Wrote e count) = false
+isRead (Read e start len) = true
+isRead (DataState v) = false
+isRead (MoverState v) = false
+
+-- paper 01's number of each reply: 0 where the request is accepted, 12 and 13 where the tape says so
+unfoldable pub numberOf : Reply → ℕ
+numberOf (Header e) = e
+numberOf (Refused b e a) = e
+numberOf Plain = 0
+numberOf Listening = 0
+numberOf ConnectionTypes = 0
+numberOf (ServerInfo known) = 0
+numberOf ScsiState = 0
+numberOf Cdb = 0
+numberOf (Sense n pending) = 0
+numberOf Check = 0
+numberOf (TapeState file block) = 0
+numberOf (Mtio e residue) = e
+numberOf (Wrote e count) = e
+numberOf (Read e start len) = e
+numberOf (DataState v) = 0
+numberOf (MoverState v) = 0
+
+-- "An unknown message's 1, and 18, stand in the header with no body; all others in the body, header error 0"
+unfoldable pub headerError : Reply → ℕ
+headerError (Header e) = e
+headerError (Refused b e a) = 0
+headerError Plain = 0
+headerError Listening = 0
+headerError ConnectionTypes = 0
+headerError (ServerInfo known) = 0
+headerError ScsiState = 0
+headerError Cdb = 0
+headerError (Sense n pending) = 0
+headerError Check = 0
+headerError (TapeState file block) = 0
+headerError (Mtio e residue) = 0
+headerError (Wrote e count) = 0
+headerError (Read e start len) = 0
+headerError (DataState v) = 0
+headerError (MoverState v) = 0
+
+-- a reply as it is sent: type 1, the request's message and sequence number
+unfoldable pub replyBytes : ℕ → ℕ → ℕ → ℕ → Reply → List ℕ → List ℕ
+replyBytes sequence time message echo r image = recordBytes sequence time 1 message echo (headerError r) (bodyBytes (shapeOf r image))
+
+-- ---- "Sent unasked: data halted, connection status, mover halted, mover paused."
+unfoldable pub noticeNumber : Notice → ℕ
+noticeNumber (DataHalted reason) = 0x501
+noticeNumber Connected = 0x502
+noticeNumber (MoverHalted reason) = 0x503
+noticeNumber (MoverPaused reason seek) = 0x504
+
+-- "connection status (connected 0, version 4, empty text)"; "mover paused carries the kept seek position"
+unfoldable pub noticeWords : Notice → List ℕ
+noticeWords (DataHalted reason) = reason ∷ []
+noticeWords Connected = 0 ∷ versionFour ∷ 0 ∷ []
+noticeWords (MoverHalted reason) = reason ∷ []
+noticeWords (MoverPaused reason seek) = reason ∷ high seek ∷ low seek ∷ []
+
+-- "A notice is type 0 with reply sequence 0."
+unfoldable pub noticeBytes : ℕ → ℕ → Notice → List ℕ
+noticeBytes sequence time n = recordBytes sequence time 0 (noticeNumber n) 0 0 (be32s (noticeWords n))

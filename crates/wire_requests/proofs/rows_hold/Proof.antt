@@ -1,0 +1,19 @@
+-- Each body is read by computing: the definitions that it meets unfold, and both sides are one term.
+use mathlib.Core.Path.{refl}
+use Rattle.xdr.specs.Choose.{choose}
+use Rattle.xdr.specs.Xdr.{word, hyper}
+use Rattle.xdr_opaque.specs.Opaque.{allZero, opaqueAt}
+use Rattle.wire_layouts.specs.Layout.{textOf, partAt, prepend, andPart, andGot, partsAt, timesAt, single, counted, fieldAt, first, andRead, readAs}
+use Rattle.wire_layouts.specs.Scans.{put, puts, summed, scanned}
+use Rattle.wire_requests.specs.Bodies.{connectBody, configBody, scsiBody, tapeBody, dataBody, moverBody, jointBody, decoded}
+use Rattle.wire_requests.proofs.rows_hold.Statement.{statement}
+use Rattle.wire_requests.proofs.rows_hold.Tie as tie
+
+returns : tie.Need-returns
+unfolding
+    choose word hyper allZero opaqueAt textOf partAt prepend andPart andGot partsAt timesAt single counted fieldAt first andRead readAs
+    put puts summed scanned connectBody configBody scsiBody tapeBody dataBody moverBody jointBody decoded
+returns c = record { decodes = refl; refuses = refl }
+
+pub rows-hold-spec : {M : Type 1} → statement M
+rows-hold-spec = tie.close (tie.spec returns)
