@@ -8,6 +8,9 @@ ghost use Rattle.call_sending.specs.Call.{CallTold};
 ghost use Rattle.call_request.specs.Call.{lent};
 ghost use Rattle.rules_moves.specs.Events.{stamped, movedToTape, movedFromTape, methodEnded};
 ghost use Rattle.call_moves.specs.Told.{MoveTold};
+
+mod tape; // tape.rt: the tape operations alone
+
 use rules::types::Answer;
 use rules::types::Moved;
 use rules::types::Session;

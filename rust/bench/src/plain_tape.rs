@@ -1,6 +1,6 @@
 //! The same rules in plain Rust, with bounds checks: what the proved code is compared with.
-use crate::cartridge_c::{Part, Spaced, Wrote};
 use crate::common::RECORD;
+use crate::proved_tape::{Part, Spaced, Wrote};
 pub use crate::tape::sound;
 use crate::tape::{faulty, header, kept, put_entry, word};
 

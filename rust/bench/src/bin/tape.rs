@@ -2,9 +2,9 @@
 use std::collections::BTreeMap;
 use std::hint::black_box;
 
-use bench::cartridge_c::{self as proved, Part, Wrote};
 use bench::common::{RECORD, Random, head, image, medians, row, timed};
 use bench::plain_tape as plain;
+use bench::proved_tape::{self as proved, Part, Wrote};
 
 const BSR: u32 = 3;
 

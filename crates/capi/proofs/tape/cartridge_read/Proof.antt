@@ -1,11 +1,11 @@
 -- The bytes copied are those of the part that the operation tells; a buffer too short is refused first.
 use native.Mathlib.Omega.{arith}
 use borrow.Author.Needs.{needs}
-use Rattle.cartridge_c.proofs.Laws.{read-within, handed-none, handed-all}
-use Rattle.cartridge_c.proofs.cartridge_read.Statement.{statement}
-use Rattle.cartridge_c.proofs.cartridge_read.Tie as tie
-use Rattle.cartridge_c.proofs.cartridge_read.Reads as reads
-use Rattle.cartridge_c.proofs.cartridge_read.Lts as lts
+use Rattle.capi.proofs.Laws.{read-within, handed-none, handed-all}
+use Rattle.capi.proofs.tape.cartridge_read.Statement.{statement}
+use Rattle.capi.proofs.tape.cartridge_read.Tie as tie
+use Rattle.capi.proofs.tape.cartridge_read.Reads as reads
+use Rattle.capi.proofs.tape.cartridge_read.Lts as lts
 use Rattle.tape_ops.proofs.read.Reads as read-reads
 use Rattle.xdr.proofs.copy_blocks.Reads as copy-blocks-reads
 

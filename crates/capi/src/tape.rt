@@ -1,9 +1,9 @@
-// The tape operations for a host in Rust or C. None asks anything of its caller: whatever is lent, there is an answer.
+// The tape operations alone, for the benchmark. None asks anything of its caller: whatever is lent, there is an answer.
 ghost use mathlib.Core.Path.{_≡_};
 ghost use Rattle.tape_image.specs.Image.{isSound};
 ghost use Rattle.tape_ops.specs.Step.{Told};
 ghost use Rattle.tape_ops.specs.Operations.{writeStep, mtioStep};
-ghost use Rattle.cartridge_c.specs.Handing.{Handed};
+ghost use Rattle.capi.specs.Handing.{Handed};
 use tape_ops::Part;
 use tape_ops::Wrote;
 use tape_spacing::Spaced;

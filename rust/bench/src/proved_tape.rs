@@ -1,5 +1,7 @@
-//! The proved functions. Nothing checks these declarations against crates/cartridge_c; the comparison in bin/tape.rs
-//! does.
+//! The proved tape operations. Nothing checks these declarations against crates/capi; the comparison in bin/tape.rs does.
+
+// The library is linked by the binding.
+use proved as _;
 
 #[repr(C)]
 #[derive(Clone, Copy, Debug, PartialEq)]

@@ -12,7 +12,7 @@ use Rattle.xdr.specs.Xdr.{overlay}
 use Rattle.tape_ops.specs.declared.Part.{Part}
 use Rattle.tape_ops.specs.Operations.{part, readPart}
 use Rattle.tape_ops.proofs.Reading.{Copied, read-copies}
-use Rattle.cartridge_c.specs.Handing.{handedPart, handedOut, Handed}
+use Rattle.capi.specs.Handing.{handedPart, handedOut, Handed}
 
 module _ (l : List ℕ) (p times : ℕ) (r : Part) (e : r ≡ readPart l p times) where
   pub read-within : r .start + r .len ≤ length l
