@@ -32,7 +32,7 @@ use Rattle.rules.proofs.Calls.{kept-facts, call-holds}
 use Rattle.rules_moves.specs.declared.Move.{Move}
 use Rattle.rules_moves.specs.Moves.{idle, streamEnds, scant, writing, filling, toTape, methodEnd}
 use Rattle.rules_moves.specs.Events.{Moving, announced, movedToTape, methodEnded}
-use Rattle.rules_moves.specs.Sequence.{Event, Asked, ToTape, FromTape, Ended, Inserted, step}
+use Rattle.rules_moves.specs.Sequence.{Event, Asked, ToTape, FromTape, Ended, Inserted, Renumbered, step}
 use Rattle.rules_moves.proofs.Moving.{running, some-taken}
 use Rattle.rules_moves.proofs.Sequence.{Carries, announced-carries}
 use Rattle.rules_annex.specs.Aside.{Untouched, AsideRequest, Aside}
@@ -190,3 +190,4 @@ aside-stays w h (Ended l ok) a = ended-stays w l ok
 aside-stays w h (ToTape l part last) a = let s = fed-stays _ _ _ _ _ _ _ _ (to-tape-fed w part last h l) a in record { position = s .1; image = s .0 }
 aside-stays w h (FromTape l dest) a = a .1
 aside-stays w h (Inserted image) a = record { position = refl; image = a }
+aside-stays w h (Renumbered n) a = record { position = refl; image = refl }

@@ -26,7 +26,7 @@ use Rattle.rules.proofs.Calls.{kept-facts}
 use Rattle.rules_moves.specs.declared.Found.{Found}
 use Rattle.rules_moves.specs.Moves.{idle, outside, ordinal, inRecord, seekFrom, amount, Handing, reading, onFound, sought, seeking, fromTape}
 use Rattle.rules_moves.specs.Events.{Moving, announced, movedFromTape}
-use Rattle.rules_moves.specs.Sequence.{Event, Asked, ToTape, FromTape, Ended, Inserted, step}
+use Rattle.rules_moves.specs.Sequence.{Event, Asked, ToTape, FromTape, Ended, Inserted, Renumbered, step}
 use Rattle.rules_moves.proofs.Moving.{times, whole-more, running}
 use Rattle.rules_moves.proofs.Sequence.{Carries, announced-carries, stepped}
 use Rattle.rules_annex.specs.RoundTrip.{Recovers, handedOver, noted, Noted, Window, Read, Reset, Other, askedAfter}
@@ -257,6 +257,7 @@ asked-below total asked end given w (Asked c ∷ es) r =
 asked-below total asked end given w (Ended l ok ∷ es) r = asked-below total asked end given (step (Ended l ok) w) es (r .1)
 asked-below total asked end given w (ToTape l part last ∷ es) r = asked-below total asked end given (step (ToTape l part last) w) es (r .1)
 asked-below total asked end given w (Inserted image ∷ es) r = asked-below total asked end given (step (Inserted image) w) es (r .1)
+asked-below total asked end given w (Renumbered n ∷ es) r = asked-below total asked end given (step (Renumbered n) w) es (r .1)
 
 pub holds-in : (size : ℕ) (l l′ : List ℕ) (n : ℕ) (bytes : List ℕ) → l′ ≡ l → Holds size l n bytes → Holds size l′ n bytes
 holds-in size l l′ n bytes e h = rw e h
@@ -294,3 +295,5 @@ module _ (size : ℕ) (bytes : List ℕ) (n : ℕ) (some : 1 ≤ size) where
       (holds-in size (w .image) _ n bytes (aside-stays w h (ToTape l part last) (r .0) .image) k) (fed-along size asked end given w a h l part last (r .0)) (r .1)
   recovered asked end given w (Inserted image ∷ es) h k a r =
       recovered asked end given (step (Inserted image) w) es h (holds-in size (w .image) image n bytes (r .0) k) a (r .1)
+  recovered asked end given w (Renumbered number ∷ es) h k a r =
+      recovered asked end given (step (Renumbered number) w) es (stepped w h (Renumbered number) .kept) k a (r .1)

@@ -25,7 +25,7 @@ use Rattle.wire_requests.specs.declared.Request.the-variants as Request
 use Rattle.rules.specs.declared.types.Mover.{Mover}
 use Rattle.rules.specs.Answer.{Kept, requestIn}
 use Rattle.rules.specs.Order.{Call}
-use Rattle.rules_moves.specs.Sequence.{Event, Asked, ToTape, FromTape, Ended, Inserted, step, runs, Seen, Wrote, moverAsked, dataAsked, jointAsked, asked, moveShown, seen}
+use Rattle.rules_moves.specs.Sequence.{Event, Asked, ToTape, FromTape, Ended, Inserted, Renumbered, step, runs, Seen, Wrote, moverAsked, dataAsked, jointAsked, asked, moveShown, seen}
 use Rattle.rules_moves.specs.Counts.{trace, recordsIn, sum}
 use Rattle.rules_moves.proofs.Moving.{shown-moved}
 use Rattle.rules_moves.proofs.Sequence.{stepped}
@@ -173,5 +173,9 @@ used-grows w size h p (FromTape l dest ∷ es) f =
     grows-more size w e es g (used-grows (step e w) size (stepped w h e .kept) (g .at-end) es (f .1))
 used-grows w size h p (Inserted image ∷ es) f =
     let e = Inserted image in
+    let g : Grows size w e = aside-grown size w (step e w) _ refl p (aside-stays w h e (f .0)) in
+    grows-more size w e es g (used-grows (step e w) size (stepped w h e .kept) (g .at-end) es (f .1))
+used-grows w size h p (Renumbered n ∷ es) f =
+    let e = Renumbered n in
     let g : Grows size w e = aside-grown size w (step e w) _ refl p (aside-stays w h e (f .0)) in
     grows-more size w e es g (used-grows (step e w) size (stepped w h e .kept) (g .at-end) es (f .1))

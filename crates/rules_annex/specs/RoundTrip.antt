@@ -18,7 +18,7 @@ use Rattle.rules.specs.Relation.{keeps}
 use Rattle.rules.specs.Answer.{Kept, verdict, requestIn}
 use Rattle.rules.specs.Order.{Call}
 use Rattle.rules_moves.specs.Events.{movedToTape, movedFromTape}
-use Rattle.rules_moves.specs.Sequence.{Event, Asked, ToTape, FromTape, Ended, Inserted, step, runs, isHeard}
+use Rattle.rules_moves.specs.Sequence.{Event, Asked, ToTape, FromTape, Ended, Inserted, Renumbered, step, runs, isHeard}
 use Rattle.rules_annex.specs.Aside.{Aside, Asides, AtSize}
 
 -- ---- "the stream, followed only by the zeros that fill its last record"
@@ -43,6 +43,7 @@ Backs size rest w (Asked c ∷ es) = Aside (Asked c) w × Backs size rest (step 
 Backs size rest w (Ended l ok ∷ es) = Aside (Ended l ok) w × Backs size rest (step (Ended l ok) w) es
 Backs size rest w (FromTape l dest ∷ es) = Aside (FromTape l dest) w × Backs size rest (step (FromTape l dest) w) es
 Backs size rest w (Inserted image ∷ es) = Aside (Inserted image) w × Backs size rest (step (Inserted image) w) es
+Backs size rest w (Renumbered n ∷ es) = Aside (Renumbered n) w × Backs size rest (step (Renumbered n) w) es
 
 -- ---- "then rewind": an accepted MTIO 4
 pub record Rewinds (w : Kept) (c : Call) (times : ℕ) : Type 0 where
@@ -116,6 +117,7 @@ Recovers total asked end given w (Asked c ∷ es) =
 Recovers total asked end given w (Ended l ok ∷ es) = Aside (Ended l ok) w × Recovers total asked end given (step (Ended l ok) w) es
 Recovers total asked end given w (ToTape l part last ∷ es) = Aside (ToTape l part last) w × Recovers total asked end given (step (ToTape l part last) w) es
 Recovers total asked end given w (Inserted image ∷ es) = Aside (Inserted image) w × Recovers total asked end given (step (Inserted image) w) es
+Recovers total asked end given w (Renumbered n ∷ es) = Aside (Renumbered n) w × Recovers total asked end given (step (Renumbered n) w) es
 
 -- ---- "the bytes handed over": of each move from tape so many bytes of its destination as it told
 abbrev pub handedBy : Event → Kept → List ℕ
@@ -124,6 +126,7 @@ handedBy (Asked c) w = []
 handedBy (ToTape l part last) w = []
 handedBy (Ended l ok) w = []
 handedBy (Inserted image) w = []
+handedBy (Renumbered n) w = []
 
 unfoldable pub handedOver : Kept → List Event → List ℕ
 handedOver w [] = []

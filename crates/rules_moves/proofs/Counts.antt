@@ -15,7 +15,7 @@ use Rattle.rules.specs.Parts.{wrapped}
 use Rattle.rules.specs.MoverService.{recordNumber}
 use Rattle.rules.specs.Relation.{keeps}
 use Rattle.rules.specs.Answer.{Kept}
-use Rattle.rules_moves.specs.Sequence.{Event, Asked, ToTape, FromTape, Ended, Inserted, step, runs}
+use Rattle.rules_moves.specs.Sequence.{Event, Asked, ToTape, FromTape, Ended, Inserted, Renumbered, step, runs}
 use Rattle.rules_moves.specs.Sequence.{Seen, Sized, Windowed, Sought, MoverStopped, DataStopped, Began, Paused, Wrote, Handed, Nothing}
 use Rattle.rules_moves.specs.Sequence.{Register, registerOf, after, seen, Fits, Legitimate, moveShown, countOf}
 use Rattle.rules_moves.specs.Counts.{trace, replay, movedBy, recordsIn, sum, IsMove, IsToTape, CountsOfMoves, CountsOfRecords, CountsHold}
@@ -63,6 +63,7 @@ unfolding seen
 moves (ToTape l stream last) w i = by-shown Moves _ _ _ _ tt tt tt
 moves (FromTape l dest) w i = by-shown Moves _ _ _ _ tt tt tt
 moves (Inserted image) w i = tt
+moves (Renumbered n) w i = tt
 moves (Asked c) w i = absurd i
 moves (Ended l ok) w i = absurd i
 
@@ -70,6 +71,7 @@ writes : (e : Event) (w : Kept) → IsToTape e → Writes (seen e w)
 unfolding seen
 writes (ToTape l stream last) w i = by-shown Writes _ _ _ _ tt tt tt
 writes (Inserted image) w i = tt
+writes (Renumbered n) w i = tt
 writes (FromTape l dest) w i = absurd i
 writes (Asked c) w i = absurd i
 writes (Ended l ok) w i = absurd i

@@ -23,7 +23,7 @@ use Rattle.rules.proofs.Calls.{kept-facts, facts-kept, calls-keep}
 use Rattle.rules_moves.specs.declared.Move.{Move}
 use Rattle.rules_moves.specs.Moves.{Handing, toTape, fromTape, methodEnd}
 use Rattle.rules_moves.specs.Events.{Moving, idling, announced, moved, movedToTape, movedFromTape, methodEnded}
-use Rattle.rules_moves.specs.Sequence.{Event, Asked, ToTape, FromTape, Ended, Inserted, step, runs, Wrote, Handed, registerOf, after, Fits, Legitimate}
+use Rattle.rules_moves.specs.Sequence.{Event, Asked, ToTape, FromTape, Ended, Inserted, Renumbered, renumbered, step, runs, Wrote, Handed, registerOf, after, Fits, Legitimate}
 use Rattle.rules_moves.specs.Sequence.{toTapeShown, fromTapeShown, seen, imageAfter, destAfter, countOf, ToTapeLeaves, FromTapeLeaves, Leaves, Inside, finished, more, WindowHolds}
 use Rattle.rules_moves.specs.Keeping.{Idle, Guards, Sounds, MovesKeep}
 use Rattle.rules_moves.proofs.Asking.{asked-left}
@@ -180,6 +180,11 @@ end-call w h l ok =
     by-guard (EndCall w) s (l .room) _ _ (λ _. record { register = refl; image-end = refl; kept = h })
     (λ _. record { register = rw (c .source, c .mover) (t .register); image-end = c .image-end; kept = carried-kept mv (w .image) _ c (t .kept) })
 
+-- ---- the number of the next message set: the relation does not look at it
+renumbered-kept : (n : ℕ) (s : Session) → keeps s ≡ true → keeps (renumbered n s) ≡ true
+unfolding keeps
+renumbered-kept n s h = h
+
 -- ---- any call
 pub record Stepped (w : Kept) (e : Event) : Type 0 where
   pub fits : Fits (registerOf (w .session)) (seen e w)
@@ -210,6 +215,14 @@ stepped w h (Ended l ok) =
     let t = end-call w h l ok in
     record { fits = tt; register = t .register; leaves = t .image-end; kept = t .kept; sound = λ k _. rw (t .image-end) k }
 stepped w h (Inserted image) = record { fits = tt; register = refl; leaves = tt; kept = h; sound = λ _ k. k }
+stepped w h (Renumbered n) =
+    record {
+      fits = tt;
+      register = refl;
+      leaves = record { number = refl; closed = refl; first = refl; login = refl; source = refl; mover = refl; tape = refl; changer = refl; image = refl };
+      kept = renumbered-kept n (w .session) h;
+      sound = λ k _. k;
+    }
 
 pub legitimate : (s : Session) → keeps s ≡ true → Legitimate (registerOf s)
 legitimate s h = mover-kept (s .mover) (s .tape) (kept-facts s h .mover) .window

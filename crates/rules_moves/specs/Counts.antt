@@ -10,7 +10,7 @@ use Rattle.rules.specs.Parts.{wrapped}
 use Rattle.rules.specs.MoverService.{recordNumber}
 use Rattle.rules.specs.Relation.{keeps}
 use Rattle.rules.specs.Answer.{Kept}
-use Rattle.rules_moves.specs.Sequence.{Event, Asked, ToTape, FromTape, Ended, Inserted, step, runs}
+use Rattle.rules_moves.specs.Sequence.{Event, Asked, ToTape, FromTape, Ended, Inserted, Renumbered, step, runs}
 use Rattle.rules_moves.specs.Sequence.{Seen, Sized, Windowed, Sought, MoverStopped, DataStopped, Began, Paused, Wrote, Handed, Nothing, Register, registerOf, after, seen, countOf}
 
 -- what is seen of a list of calls, and the register that is replayed from it
@@ -57,6 +57,7 @@ IsMove (FromTape l dest) = Unit {0}
 IsMove (Asked c) = ⊥
 IsMove (Ended l ok) = ⊥
 IsMove (Inserted image) = Unit {0}
+IsMove (Renumbered n) = Unit {0}
 
 abbrev pub IsToTape : Event → Type 0
 IsToTape (ToTape l stream last) = Unit {0}
@@ -64,6 +65,7 @@ IsToTape (FromTape l dest) = ⊥
 IsToTape (Asked c) = ⊥
 IsToTape (Ended l ok) = ⊥
 IsToTape (Inserted image) = Unit {0}
+IsToTape (Renumbered n) = Unit {0}
 
 -- after moves either way: `countOf` is what each call told as taken or handed over
 pub record CountsOfMoves (w : Kept) (es : List Event) : Type 0 where

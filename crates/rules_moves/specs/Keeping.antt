@@ -13,7 +13,7 @@ use Rattle.rules.specs.Relation.{keeps}
 use Rattle.rules.specs.Answer.{Kept, Lent}
 use Rattle.rules.specs.Calls.{Unmoved}
 use Rattle.rules_moves.specs.Events.{Moving, movedToTape, movedFromTape, methodEnded}
-use Rattle.rules_moves.specs.Sequence.{Event, Asked, ToTape, FromTape, Ended, Inserted, runs}
+use Rattle.rules_moves.specs.Sequence.{Event, Asked, ToTape, FromTape, Ended, Inserted, Renumbered, runs}
 
 -- nothing is sent or moved, and session, image and destination are as they were
 pub record Idle (k : Kept) (dest : List ℕ) (e : Moving) : Type 0 where
@@ -35,6 +35,7 @@ Sounds (Asked c) = Unit {0}
 Sounds (ToTape l stream last) = Unit {0}
 Sounds (FromTape l dest) = Unit {0}
 Sounds (Ended l ok) = Unit {0}
+Sounds (Renumbered n) = Unit {0}
 
 pub record MovesKeep : Type 0 where
   pub to-tape : (k : Kept) (l : Lent) (stream : List ℕ) (last : Bool)

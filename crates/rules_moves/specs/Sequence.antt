@@ -1,4 +1,5 @@
--- What holds over any sequence of calls (demand 2): requests, moves and the method's end, in any order, with any image handed to any of them.
+-- What holds over any sequence of calls (demand 2): requests, moves and the method's end, in any order, with any image handed to any of them,
+-- and the number of the next message set to any between them.
 -- What is seen of each call is a value; a register, which is replayed from what was seen and from nothing else, says which window is in
 -- force, what the counts are and what is read next from where; and each thing seen must fit the register.
 use Prim.Native.Nat.{ℕ, _+_, _-_, _/_, _%_, _≤_, _<_}
@@ -40,6 +41,12 @@ pub data Event : Type 0 where
   Ended : Lent → Bool → Event
   -- another image is handed to the calls that follow
   Inserted : List ℕ → Event
+  -- the host sets the number of the next message, the one thing of a session that is its own to set (include/mossgoblin.h)
+  Renumbered : ℕ → Event
+
+abbrev pub renumbered : ℕ → Session → Session
+renumbered n s =
+    record { closed = s .closed; first = s .first; login = s .login; sequence = n; source = s .source; mover = s .mover; tape = s .tape; changer = s .changer }
 
 unfoldable pub step : Event → Kept → Kept
 step (Asked c) w = answered w (c .lent) (c .ask .request) .next
@@ -47,6 +54,7 @@ step (ToTape l stream last) w = movedToTape w l stream last .answer .next
 step (FromTape l dest) w = movedFromTape w l dest .answer .next
 step (Ended l ok) w = methodEnded w l ok .next
 step (Inserted image) w = held (w .session) image
+step (Renumbered n) w = held (renumbered n (w .session)) (w .image)
 
 unfoldable pub runs : Kept → List Event → Kept
 runs w [] = w
@@ -130,6 +138,7 @@ seen (ToTape l stream last) w = toTapeShown (w .session .mover) (movedToTape w l
 seen (FromTape l dest) w = fromTapeShown (w .session .mover) (movedFromTape w l dest)
 seen (Ended l ok) w = Nothing
 seen (Inserted image) w = Nothing
+seen (Renumbered n) w = Nothing
 
 -- ---- the register: the record size, the window in force (of length 0 there is none), bytes moved and processed; the seek position and the
 -- bytes left to read; and the origin, the tape position that stands for the window's offset
@@ -239,7 +248,7 @@ Fits r Nothing = Unit {0}
 abbrev pub Legitimate : Register → Type 0
 Legitimate r = (r .length ≡ 0 → ⊥) → Legal (r .size) (r .offset) (r .length)
 
--- ---- what a move leaves: nothing but what was seen of it
+-- ---- what a move leaves, and a number that is set: nothing but what was seen of it
 unfoldable pub imageAfter : Seen → List ℕ → ℕ → List ℕ → List ℕ
 imageAfter (Wrote n k) l position stream = written l position (fillTo (take k stream) n)
 imageAfter (Handed k) l position stream = l
@@ -294,12 +303,25 @@ pub record FromTapeLeaves (r : Register) (w : Kept) (dest : List ℕ) (e : Movin
   pub source : (e .count ≡ 0 → ⊥) → HandedFrom r (w .image) (e .answer .next .session .tape .position)
   pub image : e .answer .next .image ≡ w .image
 
+-- the next message has that number, and all else is as it was
+pub record RenumberedLeaves (n : ℕ) (w v : Kept) : Type 0 where
+  pub number : v .session .sequence ≡ n
+  pub closed : v .session .closed ≡ w .session .closed
+  pub first : v .session .first ≡ w .session .first
+  pub login : v .session .login ≡ w .session .login
+  pub source : v .session .source ≡ w .session .source
+  pub mover : v .session .mover ≡ w .session .mover
+  pub tape : v .session .tape ≡ w .session .tape
+  pub changer : v .session .changer ≡ w .session .changer
+  pub image : v .image ≡ w .image
+
 abbrev pub Leaves : Register → Kept → Event → Type 0
 Leaves r w (ToTape l stream last) = ToTapeLeaves w stream (movedToTape w l stream last)
 Leaves r w (FromTape l dest) = FromTapeLeaves r w dest (movedFromTape w l dest)
 Leaves r w (Ended l ok) = methodEnded w l ok .next .image ≡ w .image
 Leaves r w (Asked c) = Unit {0}
 Leaves r w (Inserted image) = Unit {0}
+Leaves r w (Renumbered n) = RenumberedLeaves n w (step (Renumbered n) w)
 
 -- ---- the theorem: at every call of the list the register is the session's, its window is legitimate, and what is seen fits it and is all
 -- that the call did
