@@ -71,9 +71,9 @@ struct mossgoblin_login {
 };
 
 /* A session. Its fields may be read; a session is to be made by mossgoblin_open, and each call is to be handed what the last one gave. Between two calls
- * its host may set sequence, the number of the next message, to any number, and nothing else: what docs/PROMISES.md says of lists of calls holds with
- * that too. A host does so where it sends no reply, as to a request of its own, and the numbers of what it sends are to have no gap. First is set until
- * a request has been answered. */
+ * its host may set sequence, the number of the next message, to any number, and nothing else: what docs/PROMISES.md says of the window, and of what comes
+ * out, holds with that too. A host does so where it sends no reply, as to a request of its own, and the numbers of what it sends are to have no gap. First
+ * is set until a request has been answered. */
 struct mossgoblin_session {
     bool closed;
     bool first;
