@@ -1,4 +1,4 @@
-/* The session core of a tape vault that speaks NDMP version 4: five calls, as C functions of the static library `capi` (`tools/library`).
+/* The session core of a tape vault that speaks NDMP version 4: five calls, and two functions that look at a cartridge, as C functions of the static library `capi` (`tools/library`).
  *
  * No call asks anything of its caller but that each pointer leads to as many bytes as the length beside it says (a length of 0 may have any
  * pointer), and that no two buffers of a call overlap where one of them is written: image, out and dest are written. Whatever the bytes are, there is
@@ -100,6 +100,14 @@ struct mossgoblin_moved {
     struct mossgoblin_session session;
 };
 
+/* An entry of a cartridge: a record's length, or 0 for a mark, and where it starts in the body. The error is 0; 13 past the last entry; 15 for an image that is
+ * not sound. With an error the rest is 0. */
+struct mossgoblin_cartridge_entry {
+    uint32_t error;
+    size_t len;
+    size_t start;
+};
+
 /* A new session. The notice of the connection status is written to the output, as message number 1. With 1001 the session that comes back is closed. */
 struct mossgoblin_answer mossgoblin_open(uint32_t time, uint8_t *out, size_t out_len);
 
@@ -125,6 +133,12 @@ struct mossgoblin_moved mossgoblin_move_from_tape(struct mossgoblin_session sess
 
 /* The end of the method that makes or takes the stream, in success or not: while the data end is ACTIVE both ends halt, with their notices; otherwise nothing happens. */
 struct mossgoblin_answer mossgoblin_end_method(struct mossgoblin_session session, bool ok, uint32_t time, uint8_t *out, size_t out_len);
+
+/* Whether an image is a sound cartridge. The image is only read. */
+bool mossgoblin_sound(const uint8_t *image, size_t image_len);
+
+/* Entry i of an image, from 0. The image is only read. */
+struct mossgoblin_cartridge_entry mossgoblin_entry(const uint8_t *image, size_t image_len, size_t i);
 
 #ifdef __cplusplus
 }

@@ -100,6 +100,13 @@ int main(void)
         zeros = zeros && image[48 + 3000 + i] == 0;
     check(memcmp(image + 48, stream, 3000) == 0 && zeros, "the tape has the stream, and 72 zeros");
 
+    struct mossgoblin_cartridge_entry e = mossgoblin_entry(image, sizeof image, 2);
+    check(mossgoblin_sound(image, sizeof image) && e.error == 0 && e.len == 1024 && e.start == 2048, "the third entry");
+    check(mossgoblin_entry(image, sizeof image, 3).error == 13, "there is no fourth");
+    image[3] ^= 4;
+    check(!mossgoblin_sound(image, sizeof image) && mossgoblin_entry(image, sizeof image, 0).error == 15, "a damaged image has no entries");
+    image[3] ^= 4;
+
     a = mossgoblin_end_method(session, true, 0, out, sizeof out);
     check(a.code == 0 && a.len == 0, "the method's end after it does nothing");
     session.mover.state = 5;

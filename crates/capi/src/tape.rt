@@ -1,19 +1,57 @@
-// The tape operations alone, for the benchmark. None asks anything of its caller: whatever is lent, there is an answer.
+// A cartridge without a session: whether it is sound, and its entries; and the tape operations alone, for the benchmark. None asks anything of
+// its caller: whatever is lent, there is an answer.
 ghost use mathlib.Core.Path.{_≡_};
 ghost use Rattle.tape_image.specs.Image.{isSound};
 ghost use Rattle.tape_ops.specs.Step.{Told};
 ghost use Rattle.tape_ops.specs.Operations.{writeStep, mtioStep};
+ghost use Rattle.capi.specs.Entries.{entryTold};
 ghost use Rattle.capi.specs.Handing.{Handed};
 use tape_ops::Part;
 use tape_ops::Wrote;
 use tape_spacing::Spaced;
 
+// An entry of a cartridge: of a record its length, of a mark 0; and where it starts in the body. The error is 0, 13 past the last entry, or 15.
+#[repr(C)]
+pub struct Entry {
+    pub error: u32,
+    pub len: usize,
+    pub start: usize,
+}
+
 // The image is sound.
 #[no_mangle]
-pub extern "C" fn cartridge_sound(image: &[u8]) -> bool
+pub extern "C" fn mossgoblin_sound(image: &[u8]) -> bool
     ensures { λ r. ⌜ r ≡ isSound (now (image .entry)) ⌝ }
 {
     tape_image::sound(image)
+}
+
+// Entry i of a sound image.
+#[no_mangle]
+pub extern "C" fn mossgoblin_entry(image: &[u8], i: usize) -> Entry
+    ensures { λ r. ⌜ r ≡ entryTold (now (image .entry)) i ⌝ }
+{
+    if !tape_image::sound(image) {
+        return Entry {
+            error: codes::BAD_FILE,
+            len: 0,
+            start: 0,
+        };
+    }
+    if tape_image::count(image) <= i {
+        return Entry {
+            error: codes::AT_END,
+            len: 0,
+            start: 0,
+        };
+    }
+    let len = tape_image::entry_len(image, i);
+    let start = tape_image::entry_start(image, i);
+    Entry {
+        error: 0,
+        len,
+        start,
+    }
 }
 
 // Writes a record at a position.

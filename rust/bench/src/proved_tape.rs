@@ -1,8 +1,5 @@
 //! The proved tape operations. Nothing checks these declarations against crates/capi; the comparison in bin/tape.rs does.
 
-// The library is linked by the binding.
-use proved as _;
-
 #[repr(C)]
 #[derive(Clone, Copy, Debug, PartialEq)]
 pub struct Wrote {
@@ -29,17 +26,14 @@ pub struct Spaced {
 }
 
 unsafe extern "C" {
-    fn cartridge_sound(image: *const u8, n: usize) -> bool;
     fn cartridge_write(image: *mut u8, n: usize, position: usize, bytes: *const u8, m: usize) -> Wrote;
     fn cartridge_mtio(image: *mut u8, n: usize, op: u32, position: usize, times: u32) -> Spaced;
     fn cartridge_read(image: *const u8, n: usize, position: usize, times: u32, out: *mut u8, m: usize) -> Part;
 }
 
-// Safety, of all four: the slices are whole and apart, and the functions ask for nothing else.
+// Safety, of all three: the slices are whole and apart, and the functions ask for nothing else.
 
-pub fn sound(image: &[u8]) -> bool {
-    unsafe { cartridge_sound(image.as_ptr(), image.len()) }
-}
+pub use proved::sound;
 
 pub fn write(image: &mut [u8], position: usize, bytes: &[u8]) -> Wrote {
     unsafe { cartridge_write(image.as_mut_ptr(), image.len(), position, bytes.as_ptr(), bytes.len()) }

@@ -86,9 +86,21 @@ unsafe extern "C" {
         k: usize,
     ) -> Moved;
     fn mossgoblin_end_method(s: Session, ok: bool, time: u32, out: *mut u8, n: usize) -> Answer;
+    fn mossgoblin_sound(image: *const u8, n: usize) -> bool;
+    fn mossgoblin_entry(image: *const u8, n: usize, i: usize) -> Entry;
 }
 
-// Safety, of all five: the slices are whole and apart, and the functions ask for nothing else.
+/// An entry of a cartridge, as `crates/capi` has it: a record's length, or 0 for a mark, and where it starts in the body. The error is 0, or
+/// AT_END past the last entry, or BAD_FILE for an image that is not sound.
+#[repr(C)]
+#[derive(Clone, Copy, Debug, PartialEq)]
+pub struct Entry {
+    pub error: u32,
+    pub len: usize,
+    pub start: usize,
+}
+
+// Safety, of all seven: the slices are whole and apart, and the functions ask for nothing else.
 
 pub fn open(time: u32, out: &mut [u8]) -> Answer {
     unsafe { mossgoblin_open(time, out.as_mut_ptr(), out.len()) }
@@ -154,4 +166,14 @@ pub fn move_from_tape(s: Session, image: &[u8], dest: &mut [u8], time: u32, out:
 
 pub fn end_method(s: Session, ok: bool, time: u32, out: &mut [u8]) -> Answer {
     unsafe { mossgoblin_end_method(s, ok, time, out.as_mut_ptr(), out.len()) }
+}
+
+/// The image is a sound cartridge.
+pub fn sound(image: &[u8]) -> bool {
+    unsafe { mossgoblin_sound(image.as_ptr(), image.len()) }
+}
+
+/// Entry i of a cartridge.
+pub fn entry(image: &[u8], i: usize) -> Entry {
+    unsafe { mossgoblin_entry(image.as_ptr(), image.len(), i) }
 }
