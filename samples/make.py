@@ -7,14 +7,7 @@ Words are big-endian, 32 bits. An image is four words (1, capacity C, entries n,
 start), and B body bytes. A body above 134,217,728 bytes is unsound too, and has no sample: the file would be too large, and the
 lister refuses it by its size.
 """
-import os
-import struct
-
-ROOT = os.path.join(os.path.dirname(os.path.abspath(__file__)), '..', 'crates')
-
-
-def words(*values):
-    return b''.join(struct.pack('>I', v) for v in values)
+from wire import text, word, write
 
 
 def pattern(count):
@@ -26,7 +19,7 @@ def image(capacity, table, used, body, first=1, entries=None, rest=(0, 0)):
     """An image of the given words. `table` has the entries (length, start) from the first on; those past it are `rest`."""
     count = len(table) if entries is None else entries
     rows = [w for row in table for w in row] + list(rest) * (capacity - len(table))
-    return words(first, capacity, count, used, *rows) + body
+    return word(first, capacity, count, used, *rows) + body
 
 
 REFUSED = ['refused 15']
@@ -94,7 +87,7 @@ SAMPLES = [
     ('capacity_4097', 'C = 4,097', image(4097, [(9, 0)], 9, pattern(20)), REFUSED),
     ('table_cut', 'one byte short of its table', image(8, [(0, 0)], 0, b'')[:79], REFUSED),
     # The entry past the table, which lies in the body, is a mark in its place.
-    ('entries_above', 'n = C + 1', image(2, [(9, 0), (0, 9)], 9, words(0, 9) + pattern(20), entries=3), REFUSED),
+    ('entries_above', 'n = C + 1', image(2, [(9, 0), (0, 9)], 9, word(0, 9) + pattern(20), entries=3), REFUSED),
     ('used_above', 'used = B + 1', image(4, [(101, 0)], 101, pattern(100)), REFUSED),
     ('length_32769', 'an entry length of 32,769', image(4, [(32769, 0)], 32769, pattern(32769)), REFUSED),
     ('start_off', 'a start one above the sum before it', image(4, [(9, 0), (8, 10)], 17, pattern(20)), REFUSED),
@@ -102,17 +95,6 @@ SAMPLES = [
     ('used_over', 'used one above the sum', image(4, [(9, 0), (8, 9)], 18, pattern(20)), REFUSED),
     ('used_under', 'used one below the sum', image(4, [(9, 0), (8, 9)], 16, pattern(20)), REFUSED),
 ]
-
-
-def write(path, data):
-    full = os.path.join(ROOT, path)
-    os.makedirs(os.path.dirname(full), exist_ok=True)
-    with open(full, 'wb') as f:
-        f.write(data)
-
-
-def text(lines):
-    return ''.join(line + '\n' for line in lines).encode('ascii')
 
 
 def main():

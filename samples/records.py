@@ -1,5 +1,5 @@
 #!/usr/bin/env python3
-"""Writes records as a host may lend them, and what the program run_requests is to print of each.
+"""Writes records as a host may lend them, a line of hex for each, and what the program run_requests is to print of each.
 
 The bodies are built from 004's layouts (Appendix C, by the lines named). Every expected line is written by hand beside its record, from
 004 and paper 01; none is taken from the program. A line has the sequence number and the request: numbers in decimal; a text as its
@@ -231,9 +231,8 @@ CONNECT = [
     ('auth_empty_texts', request(89, 0x901, auth_text(b'', b'')), '89 CONNECT_CLIENT_AUTH id 8+0= password 12+0='),
     ('auth_any_bytes', request(90, 0x901, auth_text(b'a\0b', b'\xff\x80\n')),
      '90 CONNECT_CLIENT_AUTH id 8+3=610062 password 16+3=ff800a'),
-    # "Fill after strings and opaque data is ignored when read"
-    ('auth_fill_not_zero', request(91, 0x901, word(1) + opaque(b'admin', b'\xff\xff\xff') + opaque(b'secret', b'\x01\x02')),
-     '91 CONNECT_CLIENT_AUTH id 8+5=61646d696e password 20+6=736563726574'),
+    # paper 02, 6: "Fill bytes that are not zero, after any string or opaque field we read, shall not decode."
+    ('auth_fill_not_zero', request(91, 0x901, word(1) + opaque(b'admin', b'\xff\xff\xff') + opaque(b'secret', b'\x01\x02')), '91 bad'),
 ]
 
 # a body on a message without arguments
@@ -260,7 +259,7 @@ BARE = [
 SCSI = [
     ('text_no_fill', request(120, 0x200, word(5) + b'tape0'), '120 bad'),
     ('text_fill_short', request(121, 0x200, word(5) + b'tape0\0\0'), '121 bad'),
-    ('text_fill_not_zero', request(122, 0x200, opaque(b'tape0', b'\xff\xff\xff')), '122 SCSI_OPEN device 4+5=7461706530'),
+    ('text_fill_not_zero', request(122, 0x200, opaque(b'tape0', b'\xff\xff\xff')), '122 bad'),
     ('text_left_over_1', request(123, 0x200, scsi_open(b'tape0') + b'\0'), '123 bad'),
     ('text_left_over_4', request(124, 0x200, scsi_open(b'tape0') + word(0)), '124 bad'),
     ('text_empty', request(125, 0x200, scsi_open(b'')), '125 SCSI_OPEN device 4+0='),
@@ -317,8 +316,7 @@ DATA = [
     ('backup_no_value', request(177, 0x401, opaque(b'dump') + word(1) + opaque(b'E')), '177 bad'),
     ('backup_no_list', request(178, 0x401, opaque(b'dump')), '178 bad'),
     ('backup_empty', request(179, 0x401), '179 bad'),
-    ('backup_pair_fill_not_zero', request(180, 0x401, opaque(b'dump') + word(1) + opaque(b'E', b'abc') + opaque(b'1', b'def')),
-     '180 DATA_START_BACKUP method 4+4=64756d70'),
+    ('backup_pair_fill_not_zero', request(180, 0x401, opaque(b'dump') + word(1) + opaque(b'E', b'abc') + opaque(b'1', b'def')), '180 bad'),
     ('backup_pair_no_fill', request(181, 0x401, opaque(b'dump') + word(1) + opaque(b'E') + word(1) + b'1'), '181 bad'),
     ('backup_pair_length_all_ones', request(182, 0x401, opaque(b'dump') + word(1) + opaque(b'E') + word(0xFFFFFFFF)), '182 bad'),
     ('backup_pair_length_less_4', request(183, 0x401, opaque(b'dump') + word(1) + word(0xFFFFFFFC) + word(0)), '183 bad'),
@@ -378,13 +376,46 @@ MOVER = [
     ('record_size_8', request(231, 0xA08, set_record_size(1024) + word(0)), '231 bad'),
 ]
 
-SAMPLES = HANDLED + FRAMES + UNKNOWN + CONNECT + BARE + SCSI + TAPE + DATA + MOVER
+CDB = b'\x03\0\0\0\x12\0'
+
+
+def recover_of(*texts):  # a recover of one name, by its four texts
+    return listed([]) + listed([b''.join(texts) + quad(1, 2)]) + opaque(b'dump')
+
+
+# paper 02, 6: one byte of fill set, in each field that is read and in each place; where the rest is not read, neither is its fill
+FILL = [
+    ('fill_auth_id_last_of_three', request(232, 0x901, word(1) + opaque(b'admin', b'\0\0\1') + opaque(b'noon')), '232 bad'),
+    ('fill_auth_password', request(233, 0x901, word(1) + opaque(b'admin') + opaque(b'secret', b'\0\1')), '233 bad'),
+    ('fill_scsi_device_of_one', request(234, 0x200, opaque(b'changer', b'\1')), '234 bad'),
+    ('fill_cdb_first_of_two', request(235, 0x206, word(1, 2, 18) + opaque(CDB, b'\1\0') + opaque(b'')), '235 bad'),
+    ('fill_cdb_data_out_middle_of_three', request(236, 0x206, word(1, 2, 18) + opaque(CDB) + opaque(b'x', b'\0\1\0')), '236 bad'),
+    ('fill_tape_device', request(237, 0x300, opaque(b'tape0', b'\1\0\0') + word(1)), '237 bad'),
+    ('fill_tape_write_of_one', request(238, 0x304, opaque(b'abc', b'\1')), '238 bad'),
+    ('fill_tape_write_last_of_two', request(239, 0x304, opaque(b'ab', b'\0\1')), '239 bad'),
+    ('fill_tape_write_last_of_three', request(240, 0x304, opaque(b'abcde', b'\0\0\1')), '240 bad'),
+    ('fill_backup_method', request(241, 0x401, opaque(b'dumps', b'\0\0\1') + listed([])), '241 bad'),
+    ('fill_backup_pair_name', request(242, 0x401, start_backup(b'dump', [opaque(b'A', b'\1\0\0') + opaque(b'BC')])), '242 bad'),
+    ('fill_recover_pair_value', request(243, 0x402, start_recover([opaque(b'A') + opaque(b'BC', b'\0\1')], [], b'dump')), '243 bad'),
+    ('fill_recover_name_first', request(244, 0x402, recover_of(opaque(b'a', b'\0\1\0'), word(0, 0, 0))), '244 bad'),
+    ('fill_recover_name_second', request(245, 0x402, recover_of(word(0), opaque(b'ab', b'\1\0'), word(0, 0))), '245 bad'),
+    ('fill_recover_name_third', request(246, 0x402, recover_of(word(0, 0), opaque(b'abc', b'\1'), word(0))), '246 bad'),
+    ('fill_recover_name_fourth', request(247, 0x402, recover_of(word(0, 0, 0), opaque(b'abcde', b'\0\0\1'))), '247 bad'),
+    ('fill_recover_method', request(248, 0x402, listed([]) + listed([]) + opaque(b'dum', b'\1')), '248 bad'),
+    ('fill_behind_auth_type_unread', request(249, 0x901, word(2) + opaque(b'admin', b'\0\0\1')), '249 CONNECT_CLIENT_AUTH other'),
+    ('fill_behind_address_type_unread', request(250, 0x409, data_listen(1) + opaque(b'a', b'\0\0\1')), '250 DATA_LISTEN address 1'),
+]
+
+SAMPLES = HANDLED + FRAMES + UNKNOWN + CONNECT + BARE + SCSI + TAPE + DATA + MOVER + FILL
+
+
+def line(own, data):
+    """A vector: its name, then its bytes in hex, by words."""
+    return ' '.join([own] + [data[i:i + 4].hex() for i in range(0, len(data), 4)])
 
 
 def main():
-    for own, data, _ in SAMPLES:
-        write(f'run_requests/data/{own}', data)
-    write('run_requests/args', text(own for own, _, _ in SAMPLES))
+    write('run_requests/stdin', text(line(own, data) for own, data, _ in SAMPLES))
     write('run_requests/stdout', text(f'{own}: {expected}' for own, _, expected in SAMPLES))
     print(f'run_requests: {len(SAMPLES)} records')
 

@@ -1,8 +1,10 @@
 """XDR (RFC 4506) and NDMP records, for the scripts beside this one. Lines are those of 004, the NDMP version 4 draft."""
 import os
 import struct
+import sys
 
-ROOT = os.path.join(os.path.dirname(os.path.abspath(__file__)), '..', 'crates')
+# what is written goes below crates/, or below the folder that is named
+ROOT = sys.argv[1] if len(sys.argv) > 1 else os.path.join(os.path.dirname(os.path.abspath(__file__)), '..', 'crates')
 
 
 def word(*values):

@@ -1,7 +1,7 @@
 // Opens a session and lends it the record, in hex, of each file that an argument names: of each a line with its name, the code and the bytes sent.
-mod hex; // hex.rt: bytes from hex digits
 mod line; // line.rt: the parts of a line
 
+use hex::Decoded;
 use line::put;
 use line::put_first;
 use line::put_number;
@@ -37,6 +37,23 @@ fn ask(s: Session, image: &mut [u8], input: &[u8]) -> Session {
     a.session
 }
 
+// A record in hex. What is none is said, and not asked.
+fn ask_text(s: Session, image: &mut [u8], text: &[u8]) -> Session {
+    let mut record = [0u8; 2048];
+    let d = hex::decode(text, &mut record);
+    match d {
+        Decoded::Bytes(len) => ask(s, image, &record[..len]),
+        Decoded::NotHex => {
+            put(b": not hex\n");
+            s
+        }
+        Decoded::NoRoom => {
+            put(b": above 2048 bytes\n");
+            s
+        }
+    }
+}
+
 fn ask_file(i: usize, s: Session, image: &mut [u8]) -> Session {
     let mut path = io::buffer();
     let n = os::arg(i, &mut path);
@@ -46,15 +63,14 @@ fn ask_file(i: usize, s: Session, image: &mut [u8]) -> Session {
         os::fail(&path[..n]);
         return s;
     }
-    let mut text = [0u8; 4096];
+    let mut text = [0u8; 4097];
     let len = io::read_full(fd, &mut text);
     libc::close(fd);
-    let mut record = [0u8; 2048];
-    let size = hex::read(&text[..len], &mut record);
-    if record.len() < size {
+    if 4096 < len {
+        put(b": above 4096 bytes\n");
         return s;
     }
-    ask(s, image, &record[0..size])
+    ask_text(s, image, &text[..len])
 }
 
 // The cartridge is empty: 1, a capacity of 8, no entries, no bytes used; then room for 8 entries and 2,048 bytes.

@@ -1,11 +1,18 @@
-// Prints a line for each record file that an argument names: its name, then what its frame is or the request that its body holds.
+// Reads lines of a name and a record in hex, and prints a line for each: its name, then what its frame is or the request that its body holds.
+ghost use Prim.Native.Nat.{_≤_};
+ghost use lib.ListN.{length};
+
 mod line; // line.rt: the parts of a line
 mod shown; // shown.rt: a request with its fields
 
+use hex::Decoded;
+use libc::STDIN_FILENO;
 use line::put;
 use line::put_number;
 use wire_frame::Framed;
 use wire_requests::Request;
+
+const LARGEST_INPUT: usize = 1_048_576;
 
 // The request of a message number and a body.
 fn show_request(number: u32, body: &[u8]) {
@@ -39,28 +46,63 @@ fn show(record: &[u8]) {
     put(b"\n");
 }
 
-// Any input above 36,868 bytes is broken, so that more than the buffer holds need not be read.
-fn show_file(i: usize) {
-    let mut path = io::buffer();
-    let n = os::arg(i, &mut path);
-    put(&path[..n]);
-    put(b": ");
-    let fd = os::open_read(&path[..n]);
-    if fd < 0 {
-        os::fail(&path[..n]);
-        return;
+// The place of the first such byte, or the end.
+fn find(s: &[u8], b: u8) -> usize
+    ensures { λ r. ⌜ r ≤ length (now (s .entry)) ⌝ }
+{
+    let mut i: usize = 0;
+    while i < s.len() {
+        if s[i] == b {
+            return i;
+        }
+        i += 1;
     }
-    let mut record = [0u8; 36870];
-    let len = io::read_full(fd, &mut record);
-    show(&record[..len]);
-    libc::close(fd);
+    i
+}
+
+// Any record above 36,868 bytes is broken, so that there is room for all that differ.
+fn empty_record() -> [u8; 36870] {
+    [0u8; 36870]
+}
+
+// A line: a name, then a record in hex. One that is above the buffer is said to be so, and not shown in part.
+fn show_line(line: &[u8]) {
+    let n = find(line, 32);
+    put(&line[..n]);
+    put(b": ");
+    let mut record = empty_record();
+    let d = hex::decode(&line[n..], &mut record);
+    match d {
+        Decoded::Bytes(len) => show(&record[..len]),
+        Decoded::NotHex => put(b"not hex\n"),
+        Decoded::NoRoom => put(b"above 36870 bytes\n"),
+    }
+}
+
+// Any text, line by line.
+fn show_lines(text: &[u8]) {
+    let mut at: usize = 0;
+    while at < text.len() {
+        let n = find(&text[at..], 10);
+        show_line(&text[at..at + n]);
+        at += n;
+        if at < text.len() {
+            at += 1;
+        }
+    }
+}
+
+// One byte above the limit is enough to know that the input is too long.
+fn empty_input() -> [u8; LARGEST_INPUT + 1] {
+    [0u8; LARGEST_INPUT + 1]
 }
 
 fn main() {
-    let count = os::arg_count();
-    let mut i: usize = 1;
-    while i < count {
-        show_file(i);
-        i += 1;
+    let mut text = empty_input();
+    let n = io::read_full(STDIN_FILENO, &mut text);
+    if LARGEST_INPUT < n {
+        put(b"above 1048576 bytes\n");
+        return;
     }
+    show_lines(&text[..n]);
 }
