@@ -1,11 +1,12 @@
 //! The options of `mossgoblin serve`.
+use crate::line::Limits;
 use crate::options::{Known, Written, alone, valued};
 use std::ffi::OsStr;
 use std::os::unix::ffi::OsStrExt;
 use std::path::PathBuf;
 use std::time::Duration;
 
-pub const SERVE: [Known; 9] = [
+pub const SERVE: [Known; 13] = [
     valued("--listen"),
     valued("--cartridge"),
     valued("--new-cartridge"),
@@ -13,7 +14,11 @@ pub const SERVE: [Known; 9] = [
     valued("--stream"),
     valued("--restore-to"),
     valued("--status"),
+    alone("--strict"),
+    valued("--login-within"),
     valued("--idle"),
+    valued("--hold"),
+    valued("--send-within"),
     alone("--quiet"),
 ];
 
@@ -26,7 +31,8 @@ pub struct Args {
     pub stream: Option<PathBuf>,
     pub restore_to: Option<PathBuf>,
     pub status: Option<String>,
-    pub idle: Duration,
+    pub limits: Limits,
+    pub strict: bool,
     pub quiet: bool,
 }
 
@@ -53,15 +59,25 @@ fn status(text: &str) -> String {
     if text.bytes().all(|b| b.is_ascii_digit()) { format!("127.0.0.1:{text}") } else { text.to_string() }
 }
 
+fn seconds(w: &Written, name: &str, usual: u64) -> Result<Duration, String> {
+    let told = |v: &str| v.parse().ok().filter(|n| *n > 0 && *n < 1 << 31);
+    let wrong = |v| format!("{name}: {v}: expected seconds, such as 600");
+    let n = w.text(name)?.map_or(Ok(usual), |v| told(v).ok_or(wrong(v)))?;
+    Ok(Duration::from_secs(n))
+}
+
 pub fn serve(w: &Written) -> Result<Args, String> {
     if let Some(word) = w.words.first() {
         return Err(format!("{word:?}: serve takes options only; a cartridge is named by --cartridge FILE"));
     }
     let room = |v| size(v).ok_or(format!("--new-cartridge: {v}: expected a size of at most 128M, such as 64M"));
     let new_cartridge = w.text("--new-cartridge")?.map(room).transpose()?;
-    let idle = w.text("--idle")?.map_or(Ok(3600), |v| {
-        v.parse().ok().filter(|n| *n > 0 && *n < 1 << 31).ok_or(format!("--idle: {v}: expected seconds, such as 600"))
-    })?;
+    let limits = Limits {
+        login: seconds(w, "--login-within", 30)?,
+        idle: seconds(w, "--idle", 3600)?,
+        hold: seconds(w, "--hold", 600)?,
+        send: seconds(w, "--send-within", 60)?,
+    };
     let (id, password) = account(w.value("--account").ok_or("--account ID:PASSWORD is missing")?)?;
     Ok(Args {
         listen: w.text("--listen")?.ok_or("--listen ADDRESS:PORT is missing")?.to_string(),
@@ -72,7 +88,8 @@ pub fn serve(w: &Written) -> Result<Args, String> {
         stream: w.value("--stream").map(PathBuf::from),
         restore_to: w.value("--restore-to").map(PathBuf::from),
         status: w.text("--status")?.map(status),
-        idle: Duration::from_secs(idle),
+        limits,
+        strict: w.has("--strict"),
         quiet: w.has("--quiet"),
     })
 }

@@ -1,9 +1,11 @@
 //! The cartridge: its image in memory, which the core reads and writes, and the file, which follows in a safe order.
+use crate::folder::{Folder, Id};
+use crate::sys;
 use proved::{OUTPUT, Session, codes};
 use std::fs::{self, File, OpenOptions};
 use std::io::{self, Read};
-use std::os::unix::fs::FileExt;
-use std::path::Path;
+use std::os::unix::fs::{FileExt, MetadataExt, OpenOptionsExt};
+use std::path::{Path, PathBuf};
 use wire::{HEADER, message, request, text, word, word_at, words};
 
 pub const CAPACITY: usize = 4_096;
@@ -18,17 +20,43 @@ pub trait Disk {
     fn sync(&mut self) -> io::Result<()>;
 }
 
-impl Disk for File {
+/// The file that was opened, by the name that it was opened by.
+pub struct OnDisk {
+    file: File,
+    path: PathBuf,
+    id: Id,
+    length: u64,
+}
+
+impl Disk for OnDisk {
     fn put(&mut self, at: usize, bytes: &[u8]) -> io::Result<()> {
-        self.write_all_at(bytes, at as u64)
+        self.file.write_all_at(bytes, at as u64)
     }
 
     fn sync(&mut self) -> io::Result<()> {
-        self.sync_data()
+        self.file.sync_data()
     }
 }
 
-pub struct Cartridge<D = File> {
+impl OnDisk {
+    /// Whether what is written here is what the next start will read.
+    fn is_still_there(&self) -> Result<(), &'static str> {
+        let Ok(own) = self.file.metadata() else { return Err("cannot be looked at") };
+        if own.nlink() == 0 {
+            return Err("was removed");
+        }
+        if own.len() != self.length {
+            return Err("has another length");
+        }
+        match self.path.metadata() {
+            Ok(named) if Id::of(&named) == self.id => Ok(()),
+            Ok(_) => Err("was replaced: another file has its name"),
+            Err(_) => Err("has no longer its name"),
+        }
+    }
+}
+
+pub struct Cartridge<D = OnDisk> {
     pub image: Vec<u8>,
     disk: D,
     /// No header on the disk has more entries than this.
@@ -88,6 +116,21 @@ impl<D: Disk> Cartridge<D> {
         self.header(n, used)?;
         self.low = None;
         Ok(Some(low))
+    }
+}
+
+impl Cartridge {
+    /// Nothing is told to a client before this was asked.
+    pub fn is_still_there(&self) -> Result<(), String> {
+        let told =
+            |why| format!("the cartridge {} {why}; nothing more is told to this client", self.disk.path.display());
+        self.disk.is_still_there().map_err(told)
+    }
+
+    /// What no file may be restored over: the file, and a link that has its name.
+    pub fn ids(&self) -> Vec<Id> {
+        let link = self.disk.path.symlink_metadata().map(|m| Id::of(&m));
+        [self.disk.id].into_iter().chain(link).collect()
     }
 }
 
@@ -156,7 +199,8 @@ fn unsound(image: &[u8]) -> String {
 
 const BUSY: &str = "in use by another program; end that vault first";
 
-/// Reads a cartridge file and keeps it locked against a second host.
+/// Reads a cartridge file and keeps it locked against a second host. It has all its blocks and is on the disk before
+/// anything of it is told: a host that was killed may have left it with bytes that are not.
 pub fn load(path: &Path) -> Result<Cartridge, String> {
     let told = |e: &dyn std::fmt::Display| format!("cartridge {}: {e}", path.display());
     let mut file = OpenOptions::new().read(true).write(true).open(path).map_err(|e| match e.kind() {
@@ -168,7 +212,11 @@ pub fn load(path: &Path) -> Result<Cartridge, String> {
     if Deck::open(&mut image).is_none() {
         return Err(told(&unsound(&image)));
     }
-    Ok(Cartridge::new(image, file))
+    let length = image.len() as u64;
+    sys::allocate(&file, length).map_err(|e| told(&e))?;
+    file.sync_all().and_then(|()| sync_folder(path)).map_err(|e| told(&e))?;
+    let id = file.metadata().map(|m| Id::of(&m)).map_err(|e| told(&e))?;
+    Ok(Cartridge::new(image, OnDisk { file, path: path.to_path_buf(), id, length }))
 }
 
 /// Reads a cartridge file that no vault has open, with a session on it.
@@ -207,14 +255,18 @@ pub fn create(path: &Path, body: usize) -> Result<(), String> {
     let beside = path.with_file_name(name);
     let made = write_empty(&beside, body).and_then(|()| fs::hard_link(&beside, path));
     let _ = fs::remove_file(&beside);
-    made.map_err(told)?;
-    let folder = path.parent().filter(|p| !p.as_os_str().is_empty()).unwrap_or(Path::new("."));
-    File::open(folder).and_then(|f| f.sync_all()).map_err(told)
+    made.and_then(|()| sync_folder(path)).map_err(told)
 }
 
+/// The name of a file is on the disk when this returns.
+fn sync_folder(path: &Path) -> io::Result<()> {
+    Folder::open(path.parent().unwrap_or(Path::new("")))?.sync()
+}
+
+/// With all its blocks, so that a disk without room is told now and not during a backup.
 fn write_empty(path: &Path, body: usize) -> io::Result<()> {
-    let file = OpenOptions::new().write(true).create_new(true).open(path)?;
-    file.set_len((HEAD + 8 * CAPACITY + body) as u64)?;
+    let file = OpenOptions::new().write(true).create_new(true).mode(0o600).open(path)?;
+    sys::allocate(&file, (HEAD + 8 * CAPACITY + body) as u64)?;
     file.write_all_at(&words(&[1, CAPACITY as u32]), 0)?;
     file.sync_all()
 }

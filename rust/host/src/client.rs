@@ -53,9 +53,11 @@ impl fmt::Display for Error {
     }
 }
 
-fn meaning(error: u32) -> &'static str {
+/// A refusal's number in words.
+pub fn meaning(error: u32) -> &'static str {
     match error {
         codes::NOT_SUPPORTED => " (not supported)",
+        codes::DEVICE_OPENED => " (the device is open already)",
         codes::NOT_AUTHORIZED => " (not authorized)",
         codes::PERMISSION_DENIED => " (the tape is open for reading only)",
         codes::NOT_OPEN => " (the device is not open)",
@@ -65,7 +67,10 @@ fn meaning(error: u32) -> &'static str {
         codes::AT_END => " (at the tape's end)",
         codes::BAD_FILE => " (another session has the tape, or its cartridge is damaged)",
         codes::NO_DEVICE => " (no such device)",
+        codes::UNDECODABLE => " (not to be decoded)",
         codes::ILLEGAL_STATE => " (not in this state)",
+        codes::OTHER_NOT_LISTENING => " (the other end does not listen)",
+        codes::READ_IN_PROGRESS => " (a read is in progress)",
         codes::PRECONDITION => " (record size or window is missing)",
         _ => "",
     }
@@ -259,7 +264,12 @@ impl Client {
                     self.window(moved, length)?;
                     self.good(MOVER_CONTINUE, b"")?;
                 }
-                (NOTIFY_MOVER_PAUSED, why) => return Ok(Ended { pauses, why: Why::Paused(why) }),
+                (NOTIFY_MOVER_PAUSED, why) => {
+                    // A recover that the tape's end cuts short has halted.
+                    if word_at(&self.call(DATA_GET_STATE, b"")?.body, 12) != Some(Data::HALTED) {
+                        return Ok(Ended { pauses, why: Why::Paused(why) });
+                    }
+                }
                 (number, _) => return Err(Error::Odd(format!("notice {number:x} in a run"))),
             }
         }

@@ -12,8 +12,6 @@ pub struct Equal {
     pub folders: u64,
     pub links: u64,
     pub bytes: u64,
-    /// Zeros behind a file's bytes, which fill the last record.
-    pub fill: u64,
 }
 
 /// What is equal, or the first difference in words.
@@ -28,7 +26,7 @@ pub fn compare(from: &Path, to: &Path) -> Result<Equal, String> {
         // The two themselves are not on the tape.
         equal.folders -= 1;
     } else {
-        files(from, to, &mut equal, true)?;
+        files(from, to, &mut equal)?;
     }
     Ok(equal)
 }
@@ -60,7 +58,7 @@ fn folders(from: &Path, to: &Path, equal: &mut Equal) -> Result<(), String> {
             }
             equal.links += 1;
         } else if kx.is_file() {
-            files(&x, &y, equal, false)?;
+            files(&x, &y, equal)?;
         }
     }
     Ok(())
@@ -80,8 +78,8 @@ fn fill(file: &mut File, buffer: &mut [u8]) -> io::Result<usize> {
     Ok(n)
 }
 
-/// Two files byte for byte; the second may have zeros behind where that is said.
-fn files(from: &Path, to: &Path, equal: &mut Equal, filled: bool) -> Result<(), String> {
+/// Two files byte for byte.
+fn files(from: &Path, to: &Path, equal: &mut Equal) -> Result<(), String> {
     let open = |p: &Path| File::open(p).map_err(|e| format!("{}: {e}", p.display()));
     let (mut a, mut b) = (open(from)?, open(to)?);
     let (mut x, mut y) = (vec![0; 1 << 16], vec![0; 1 << 16]);
@@ -89,12 +87,10 @@ fn files(from: &Path, to: &Path, equal: &mut Equal, filled: bool) -> Result<(), 
     loop {
         let n = fill(&mut a, &mut x).map_err(|e| format!("{}: {e}", from.display()))?;
         let m = fill(&mut b, &mut y).map_err(|e| format!("{}: {e}", to.display()))?;
-        let differs = || format!("{} and {} differ from byte {at} on", from.display(), to.display());
-        let fits = m >= n && x[..n] == y[..n] && (m == n || filled && y[n..m].iter().all(|b| *b == 0));
-        if !fits {
-            return Err(differs());
+        if x[..n] != y[..m] {
+            return Err(format!("{} and {} differ from byte {at} on", from.display(), to.display()));
         }
-        (equal.bytes, equal.fill, at) = (equal.bytes + n as u64, equal.fill + (m - n) as u64, at + n as u64);
+        (equal.bytes, at) = (equal.bytes + n as u64, at + n as u64);
         if m == 0 {
             equal.files += 1;
             return Ok(());
@@ -113,7 +109,7 @@ mod tests {
         let (from, to) = (s.path("from"), s.path("to"));
         sample(&from).unwrap();
         sample(&to).unwrap();
-        let whole = Equal { files: 6, folders: 5, links: 1, bytes: 302_032, fill: 0 };
+        let whole = Equal { files: 6, folders: 5, links: 1, bytes: 302_032 };
         assert_eq!(compare(&from, &to), Ok(whole));
         let changed = |change: &dyn Fn(), back: &dyn Fn()| {
             change();
@@ -149,15 +145,15 @@ mod tests {
     }
 
     #[test]
-    fn file_with_fill() {
+    fn files_of_two_lengths() {
         let s = Scratch::new().unwrap();
         let (from, to) = (s.path("from"), s.path("to"));
         let bytes = noise(1, 100_000);
         fs::write(&from, &bytes).unwrap();
+        fs::write(&to, &bytes).unwrap();
+        assert_eq!(compare(&from, &to), Ok(Equal { files: 1, bytes: 100_000, ..Equal::default() }));
         fs::write(&to, [&bytes[..], &[0; 352]].concat()).unwrap();
-        assert_eq!(compare(&from, &to), Ok(Equal { files: 1, bytes: 100_000, fill: 352, ..Equal::default() }));
-        assert!(compare(&to, &from).is_err());
-        fs::write(&to, [&bytes[..], &[0, 1]].concat()).unwrap();
+        assert!(compare(&to, &from).unwrap_err().contains("from byte"));
         assert!(compare(&from, &to).unwrap_err().contains("from byte"));
     }
 }

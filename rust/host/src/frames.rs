@@ -1,9 +1,10 @@
 //! Records from a socket: fragments are joined behind one mark, as the core takes them.
+use crate::sys;
 use proved::codes;
 use std::io::{ErrorKind, Read};
 use std::net::TcpStream;
 use std::time::{Duration, Instant};
-use wire::{LAST, put_word, word};
+use wire::{HEADER, LAST, put_word, word};
 
 /// The longest record, without its mark.
 const LONGEST: usize = codes::LARGEST_MESSAGE;
@@ -11,12 +12,16 @@ const LONGEST: usize = codes::LARGEST_MESSAGE;
 const MOST_FRAGMENTS: usize = 4_096;
 /// From the first byte of a record to its last.
 const RECORD_LIMIT: Duration = Duration::from_secs(30);
+/// What is read at once.
+const ROOM: usize = 1 << 18;
 
 /// How a connection ended.
 #[derive(Debug, PartialEq)]
 pub enum End {
     /// Between two records.
     Closed,
+    /// No record began in its time.
+    Silent,
     /// Inside a record.
     Cut,
     TooLong,
@@ -29,13 +34,12 @@ pub struct Frames {
     start: usize,
     end: usize,
     record: Vec<u8>,
-    idle: Duration,
     limit: Duration,
 }
 
 impl Frames {
-    pub fn new(socket: TcpStream, idle: Duration) -> Frames {
-        Frames { socket, buffer: vec![0; 65_536], start: 0, end: 0, record: Vec::new(), idle, limit: Duration::ZERO }
+    pub fn new(socket: TcpStream) -> Frames {
+        Frames { socket, buffer: vec![0; ROOM], start: 0, end: 0, record: Vec::new(), limit: Duration::ZERO }
     }
 
     /// Whether a byte, or the connection's end, waits to be read.
@@ -73,8 +77,12 @@ impl Frames {
     /// Adds `n` bytes to the record.
     fn gather(&mut self, mut n: usize, deadline: Instant) -> Result<(), End> {
         while n > 0 {
-            if self.start == self.end && self.refill(deadline.saturating_duration_since(Instant::now()))? == 0 {
-                return Err(End::Cut);
+            if self.start == self.end {
+                // A client that sends a record in pieces waits for the word that the first has come.
+                let _ = sys::quick_ack(&self.socket);
+                if self.refill(deadline.saturating_duration_since(Instant::now()))? == 0 {
+                    return Err(End::Cut);
+                }
             }
             let k = n.min(self.end - self.start);
             self.record.extend_from_slice(&self.buffer[self.start..self.start + k]);
@@ -84,12 +92,18 @@ impl Frames {
         Ok(())
     }
 
-    /// The next record.
-    pub fn record(&mut self) -> Result<&[u8], End> {
-        if self.start == self.end && self.refill(self.idle)? == 0 {
-            return Err(End::Closed);
+    /// Reads the next record: its first byte comes within `idle`, and its last by `until`, where that is said.
+    pub fn read(&mut self, idle: Duration, until: Option<Instant>) -> Result<(), End> {
+        let now = Instant::now();
+        let left = until.map_or(idle, |u| idle.min(u.saturating_duration_since(now)));
+        if self.start == self.end {
+            let came = self.refill(left).map_err(|e| if e == End::TooSlow { End::Silent } else { e })?;
+            if came == 0 {
+                return Err(End::Closed);
+            }
         }
         let deadline = Instant::now() + RECORD_LIMIT;
+        let deadline = until.map_or(deadline, |u| u.min(deadline));
         self.record.clear();
         self.record.extend([0; 4]);
         for _ in 0..MOST_FRAGMENTS {
@@ -105,9 +119,21 @@ impl Frames {
             if mark & LAST != 0 {
                 let whole = LAST | (self.record.len() - 4) as u32;
                 put_word(&mut self.record, 0, whole);
-                return Ok(&self.record);
+                return Ok(());
             }
         }
         Err(End::TooLong)
+    }
+
+    /// The record that was read last.
+    pub fn record(&self) -> &[u8] {
+        &self.record
+    }
+
+    /// The next record, if it was read together with the last and is whole, in one fragment.
+    pub fn next(&self) -> Option<&[u8]> {
+        let rest = &self.buffer[self.start..self.end];
+        let mark = rest.get(..4).map(|b| word(b, 0)).filter(|m| m & LAST != 0)?;
+        rest.get(..4 + (mark & !LAST) as usize).filter(|r| r.len() >= HEADER && r.len() <= 4 + LONGEST)
     }
 }

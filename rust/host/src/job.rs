@@ -12,4 +12,6 @@ pub struct Recover {
     pub dest: Vec<u8>,
     /// Whether the client gave a mover read before it started: then those bytes are the stream.
     pub given: bool,
+    /// Whether the stream has ended and was found whole: what was restored gets its names.
+    pub closed: bool,
 }

@@ -1,17 +1,34 @@
 //! One connection's session and what it works on: the core's value, the cartridge while its tape is open, and the
 //! method.
 use crate::cartridge::Cartridge;
+use crate::folder::Id;
 use crate::job::Job;
 use crate::log::Log;
 use crate::progress::Progress;
 use crate::vault::Vault;
 use crate::watch::Watch;
+use crate::wishes::Wishes;
 use proved::Session;
-use std::io::Write;
-use std::net::TcpStream;
+use std::collections::BTreeMap;
+use std::fmt::{self, Display};
+use std::io::{ErrorKind, Write};
+use std::net::{Shutdown, TcpStream};
 use std::path::PathBuf;
-use std::sync::Arc;
-use std::time::{Duration, SystemTime};
+use std::sync::atomic::{AtomicBool, Ordering};
+use std::sync::{Arc, Mutex, PoisonError};
+use std::time::{Duration, Instant, SystemTime};
+
+/// How long a connection may keep the vault waiting.
+#[derive(Clone, Copy)]
+pub struct Limits {
+    /// From the connection to the login.
+    pub login: Duration,
+    /// Without a request; the same while it has the tape.
+    pub idle: Duration,
+    pub hold: Duration,
+    /// With an answer that it does not take.
+    pub send: Duration,
+}
 
 /// What all connections share.
 pub struct Shared {
@@ -20,19 +37,63 @@ pub struct Shared {
     pub password: Vec<u8>,
     pub stream: Option<PathBuf>,
     pub restore_to: Option<PathBuf>,
-    pub idle: Duration,
+    /// The cartridge, which is neither backed up nor restored over.
+    pub except: Vec<Id>,
+    pub limits: Limits,
+    /// Whether a file that cannot be read ends a backup.
+    pub strict: bool,
+    /// Whether tape writes are on the disk at the next mark only.
+    pub marks: bool,
     pub log: Arc<Log>,
     /// For the status page, where there is one.
     pub watch: Option<Watch>,
+    /// Those who are connected, and whether they are to go.
+    pub open: Mutex<BTreeMap<usize, TcpStream>>,
+    pub ending: AtomicBool,
 }
+
+impl Shared {
+    /// Ends all connections: each ends in order, when its step is done.
+    pub fn end_all(&self) -> usize {
+        self.ending.store(true, Ordering::SeqCst);
+        let open = self.open.lock().unwrap_or_else(PoisonError::into_inner);
+        open.values().for_each(|s| _ = s.shutdown(Shutdown::Both));
+        open.len()
+    }
+}
+
+/// Why a connection ends: for a reason of its own, or because something failed.
+#[derive(Debug)]
+pub enum Over {
+    Gone(String),
+    Failed(String),
+}
+
+impl From<String> for Over {
+    fn from(why: String) -> Over {
+        Over::Failed(why)
+    }
+}
+
+impl Display for Over {
+    fn fmt(&self, f: &mut fmt::Formatter) -> fmt::Result {
+        let (Over::Gone(why) | Over::Failed(why)) = self;
+        f.write_str(why)
+    }
+}
+
+pub type Result<T> = std::result::Result<T, Over>;
 
 pub struct Line<'a> {
     pub shared: &'a Shared,
     pub number: usize,
     pub core: Session,
+    /// The session as it was when the client was last told of it: all of it is on the disk.
+    pub told: Session,
     /// The cartridge, while this session's tape is open.
     pub held: Option<Cartridge>,
     pub job: Option<Job>,
+    pub wishes: Wishes,
     /// The length of the stream that the job reads, where it is known.
     pub whole: Option<u64>,
     pub out: Vec<u8>,
@@ -60,9 +121,9 @@ impl Line<'_> {
 
     /// Takes over what a call made of the session; `from` is the tape's position before a call that may have written
     /// there.
-    pub fn became(&mut self, code: u32, next: Session, from: Option<usize>) -> Result<(), String> {
+    pub fn became(&mut self, code: u32, next: Session, from: Option<usize>) -> Result<()> {
         if code != 0 {
-            return Err(format!("the core refused a call with {code}"));
+            return Err(Over::Failed(format!("the core refused a call with {code}")));
         }
         if let (Some(position), Some(c)) = (from, &mut self.held)
             && next.tape.position != position
@@ -74,7 +135,14 @@ impl Line<'_> {
         Ok(())
     }
 
-    pub fn store(&mut self) -> Result<(), String> {
+    /// The cartridge file is still the one that was opened.
+    pub fn sure(&self) -> Result<()> {
+        Ok(self.held.as_ref().map_or(Ok(()), Cartridge::is_still_there)?)
+    }
+
+    /// The file follows the image.
+    pub fn store(&mut self) -> Result<()> {
+        self.sure()?;
         if let Some(c) = &mut self.held {
             let changed = c.store().map_err(|e| format!("the cartridge file could not be written: {e}"))?;
             if let (Some(watch), Some(from)) = (&self.shared.watch, changed) {
@@ -86,9 +154,33 @@ impl Line<'_> {
     }
 
     /// Sends what stands at the output's start. The status page has it first, so that it is never behind what a client knows.
-    pub fn send(&mut self, len: usize) -> Result<(), String> {
+    pub fn send(&mut self, len: usize) -> Result<()> {
+        let out = std::mem::take(&mut self.out);
+        let sent = self.send_all(&out[..len]);
+        self.out = out;
+        sent
+    }
+
+    pub fn send_all(&mut self, mut bytes: &[u8]) -> Result<()> {
+        self.sure()?;
         self.show();
-        self.socket.write_all(&self.out[..len]).map_err(|e| format!("connection lost: {e}"))
+        self.told = self.core;
+        let begun = Instant::now();
+        while !bytes.is_empty() {
+            let slow = || Over::Gone(format!("took no answer for {} seconds", self.shared.limits.send.as_secs()));
+            match self.socket.write(bytes) {
+                Ok(0) => return Err(Over::Gone("connection lost".into())),
+                Ok(n) => bytes = &bytes[n..],
+                Err(e) if e.kind() == ErrorKind::Interrupted => {}
+                Err(e) if matches!(e.kind(), ErrorKind::WouldBlock | ErrorKind::TimedOut) => return Err(slow()),
+                Err(e) => return Err(Over::Gone(format!("connection lost: {e}"))),
+            }
+            // One that takes a byte now and then is no better than one that takes none.
+            if !bytes.is_empty() && begun.elapsed() >= self.shared.limits.send {
+                return Err(slow());
+            }
+        }
+        Ok(())
     }
 
     /// Takes the cartridge, if no other session has it.
@@ -118,6 +210,8 @@ impl Line<'_> {
 
 impl Drop for Line<'_> {
     fn drop(&mut self) {
+        // What was restored in part goes away before another session has the tape.
+        self.job = None;
         if let Err(e) = self.store() {
             self.progress.error(e);
         }

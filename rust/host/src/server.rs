@@ -1,9 +1,11 @@
 //! Starting the vault, and one thread for each connection.
 use crate::args::Args;
 use crate::cartridge;
-use crate::line::Shared;
+use crate::folder::Id;
+use crate::line::{Over, Shared};
 use crate::log::Log;
 use crate::progress::Progress;
+use crate::restore::{may_write, parted};
 use crate::session::serve;
 use crate::status;
 use crate::vault::Vault;
@@ -12,11 +14,13 @@ use std::fs::File;
 use std::io::{ErrorKind, Write, stdout};
 use std::net::TcpListener;
 use std::path::Path;
-use std::sync::Arc;
-use std::sync::atomic::{AtomicUsize, Ordering};
+use std::sync::atomic::{AtomicBool, AtomicUsize, Ordering};
+use std::sync::{Arc, Mutex};
 use std::time::Duration;
 
 pub const MOST_CONNECTIONS: usize = 64;
+/// Of these so many may be open that have not logged in: the others are kept for those who have.
+const MOST_STRANGERS: usize = 48;
 
 fn check_stream(path: &Path) -> Result<(), String> {
     let kind = path.metadata().and_then(|m| match (m.is_dir(), m.is_file()) {
@@ -29,6 +33,16 @@ fn check_stream(path: &Path) -> Result<(), String> {
         Ok(false) => Err(format!("--stream {}: neither a folder nor a file", path.display())),
         Err(e) => Err(format!("--stream {}: {e}", path.display())),
     }
+}
+
+/// Whether two names are one, of files that may not be there yet.
+fn same_name(a: &Path, b: &Path) -> bool {
+    let place = |p: &Path| {
+        let (folder, name) = parted(p).ok()?;
+        let folder = if folder.as_os_str().is_empty() { Path::new(".") } else { &folder };
+        Some((Id::of(&folder.metadata().ok()?), name))
+    };
+    place(a).is_some_and(|a| Some(a) == place(b))
 }
 
 fn check_target(path: &Path) -> Result<(), String> {
@@ -60,6 +74,12 @@ fn listen(option: &str, address: &str) -> Result<TcpListener, String> {
 pub fn run(args: Args) -> Result<(), String> {
     args.stream.as_deref().map_or(Ok(()), check_stream)?;
     args.restore_to.as_deref().map_or(Ok(()), check_target)?;
+    if args.restore_to.as_deref().is_some_and(|to| same_name(to, &args.cartridge)) {
+        return Err(format!(
+            "--restore-to {0}: is the cartridge itself; choose another name",
+            args.cartridge.display()
+        ));
+    }
     // The ports first: a cartridge is made only if the vault can start.
     let listener = listen("--listen", &args.listen)?;
     let page = args.status.as_deref().map(|a| listen("--status", a)).transpose()?;
@@ -67,13 +87,29 @@ pub fn run(args: Args) -> Result<(), String> {
         cartridge::create(&args.cartridge, body)?;
     }
     let cartridge = cartridge::load(&args.cartridge)?;
+    let except = cartridge.ids();
+    if let Some(to) = &args.restore_to {
+        may_write(to, &except).map_err(|why| format!("--restore-to {}: {why}", to.display()))?;
+    }
     let watch = page.is_some().then(|| Watch::new(&cartridge, &args.cartridge));
     let address = listener.local_addr().map_err(|e| e.to_string())?;
     let _ = writeln!(stdout(), "listening on {address}");
-    let Args { id, password, stream, restore_to, idle, quiet, .. } = args;
-    let log = Arc::new(Log::new(quiet));
-    let vault = Vault::new(cartridge);
-    let shared = Arc::new(Shared { vault, id, password, stream, restore_to, idle, log, watch });
+    let Args { id, password, stream, restore_to, limits, strict, quiet, .. } = args;
+    let shared = Arc::new(Shared {
+        vault: Vault::new(cartridge),
+        id,
+        password,
+        stream,
+        restore_to,
+        except,
+        limits,
+        strict,
+        marks: false,
+        log: Arc::new(Log::new(quiet)),
+        watch,
+        open: Mutex::default(),
+        ending: AtomicBool::new(false),
+    });
     if let Some(page) = page {
         let at = page.local_addr().map_err(|e| e.to_string())?;
         let _ = writeln!(stdout(), "status on http://{at}/");
@@ -83,7 +119,7 @@ pub fn run(args: Args) -> Result<(), String> {
 }
 
 fn accept(listener: &TcpListener, shared: Arc<Shared>) -> Result<(), String> {
-    let count = Arc::new(AtomicUsize::new(0));
+    let (count, strangers) = (Arc::new(AtomicUsize::new(0)), Arc::new(AtomicUsize::new(0)));
     for number in 1.. {
         let (socket, peer) = match listener.accept() {
             Ok(pair) => pair,
@@ -98,14 +134,20 @@ fn accept(listener: &TcpListener, shared: Arc<Shared>) -> Result<(), String> {
             shared.log.error(format_args!("{peer}: turned away, {MOST_CONNECTIONS} connections are open"));
             continue;
         };
+        let Some(stranger) = Leaves::enter(&strangers, MOST_STRANGERS) else {
+            let why = "connections are open that have not logged in";
+            shared.log.error(format_args!("{peer}: turned away, {MOST_STRANGERS} {why}"));
+            continue;
+        };
         let shared = shared.clone();
         std::thread::spawn(move || {
             let _left = left;
             let note = Progress::new(&shared.log, number);
             note.line(format_args!("connected from {peer}"));
-            match serve(socket, &shared, number) {
+            match serve(socket, &shared, number, stranger) {
                 Ok(()) => note.line("closed"),
-                Err(e) => note.line(e),
+                Err(Over::Gone(why)) => note.line(why),
+                Err(Over::Failed(why)) => note.error(why),
             }
         });
     }

@@ -1,47 +1,77 @@
 //! One connection: each record goes to the core, and what the core writes goes to the client.
 use crate::frames::{End, Frames};
-use crate::line::{Line, Shared, seconds};
+use crate::line::{Line, Over, Result, Shared, seconds};
 use crate::moves;
 use crate::progress::Progress;
-use proved::{OUTPUT, codes};
+use crate::server::Leaves;
+use crate::sys;
+use crate::wishes::{self, Wishes};
+use proved::{Data, OUTPUT, codes};
 use std::net::TcpStream;
-use std::time::Duration;
+use std::sync::atomic::Ordering;
+use std::time::{Duration, Instant};
 use wire::{HEADER, Header, message, word_at};
 
-/// A client that does not read its answers is let go after this time.
-const WRITE_LIMIT: Duration = Duration::from_secs(60);
+/// An answer to a wrong login comes so late; after so many the connection ends.
+const WRONG_LOGIN: Duration = Duration::from_secs(1);
+const MOST_WRONG: usize = 3;
+/// Replies that wait for one sync are not more than this.
+const MOST_WAITING: usize = 256;
+
+/// A connection, and what it does of itself besides its session.
+pub struct Connection<'a> {
+    line: Line<'a>,
+    /// Counted as one that is not logged in, until it is.
+    stranger: Option<Leaves>,
+    since: Instant,
+    wrong: usize,
+    /// Writes that were answered in memory; and the answers, which wait until all of them are on the disk.
+    writes: Vec<Vec<u8>>,
+    replies: Vec<u8>,
+}
 
 /// Serves a connection until it ends. An error is a reason to end it.
-pub fn serve(socket: TcpStream, shared: &Shared, number: usize) -> Result<(), String> {
-    let told = |e: std::io::Error| e.to_string();
+pub fn serve(socket: TcpStream, shared: &Shared, number: usize, stranger: Leaves) -> Result<()> {
+    let told = |e: std::io::Error| Over::Gone(e.to_string());
     socket.set_nodelay(true).map_err(told)?;
-    socket.set_write_timeout(Some(WRITE_LIMIT)).map_err(told)?;
-    let mut frames = Frames::new(socket.try_clone().map_err(told)?, shared.idle);
+    socket.set_write_timeout(Some(shared.limits.send)).map_err(told)?;
+    sys::keep_alive(&socket).map_err(told)?;
+    let mut frames = Frames::new(socket.try_clone().map_err(told)?);
     let mut out = vec![0; OUTPUT];
     let opened = proved::open(seconds(), &mut out);
     let progress = Progress::new(&shared.log, number);
     let peer = socket.peer_addr().map_or("?".into(), |a| a.to_string());
     let core = opened.session;
-    let mut line =
-        Line { shared, number, core, held: None, job: None, whole: None, out, progress, unstored: 0, socket };
+    let line = Line {
+        shared,
+        number,
+        core,
+        told: core,
+        held: None,
+        job: None,
+        wishes: Wishes::default(),
+        whole: None,
+        out,
+        progress,
+        unstored: 0,
+        socket,
+    };
     if let Some(watch) = &shared.watch {
         watch.came(number, peer, core);
     }
-    line.send(opened.len)?;
-    loop {
+    let since = Instant::now();
+    let mut c = Connection { line, stranger: Some(stranger), since, wrong: 0, writes: Vec::new(), replies: Vec::new() };
+    c.line.send(opened.len)?;
+    while !shared.ending.load(Ordering::SeqCst) {
         // Moves go on as long as the client says nothing.
-        if moves::step(&mut line)? && !frames.waiting() {
+        if moves::step(&mut c.line)? && !frames.waiting() {
             continue;
         }
-        match frames.record() {
-            Ok(record) => request(&mut line, record)?,
-            Err(End::Closed) => return Ok(()),
-            Err(end) => return Err(format!("connection ended: {end:?}")),
-        }
-        if line.core.closed {
+        if !c.next(&mut frames)? || c.line.core.closed {
             return Ok(());
         }
     }
+    Err(Over::Gone("ended with the vault".into()))
 }
 
 /// The message number of a record.
@@ -58,18 +88,115 @@ pub fn writes(record: &[u8]) -> bool {
     }
 }
 
-/// One record from the client. What it changed is on the disk before the reply goes out.
-fn request(line: &mut Line, record: &[u8]) -> Result<(), String> {
-    // No other request reads the image while the tape is closed.
-    if line.held.is_none() && line.core.login.authorized && number(record) == message::TAPE_OPEN {
-        line.take();
+/// The error that a reply tells. 12 and 13 tell how a tape request went, and are none.
+fn refusal(reply: &[u8]) -> Option<u32> {
+    let header = Header::of(reply).filter(|h| h.kind == 1)?;
+    // These two have a word before it.
+    let before = matches!(header.message, message::TAPE_GET_STATE | message::DATA_GET_STATE) as usize;
+    let told = if header.error != 0 { header.error } else { word_at(reply, HEADER + 4 * before).unwrap_or(0) };
+    (!matches!(told, 0 | codes::AT_MARK | codes::AT_END)).then_some(told)
+}
+
+impl Connection<'_> {
+    /// The next record, which is waited for. False if the client has closed the connection.
+    fn next(&mut self, frames: &mut Frames) -> Result<bool> {
+        let limits = self.line.shared.limits;
+        let (idle, until, why) = if !self.line.core.login.authorized {
+            (limits.login, Some(self.since + limits.login), "not logged in within")
+        } else if self.line.held.is_some() {
+            (limits.hold.min(limits.idle), None, "had the tape and said nothing for")
+        } else {
+            (limits.idle, None, "said nothing for")
+        };
+        match frames.read(idle, until) {
+            Ok(()) => {}
+            Err(End::Closed) => return Ok(false),
+            Err(End::Silent) => return Err(Over::Gone(format!("ended: {why} {} seconds", idle.as_secs()))),
+            Err(end) => return Err(Over::Gone(format!("connection ended: {end:?}"))),
+        }
+        let more = self.writes.len() < MOST_WAITING && frames.next().is_some_and(writes);
+        self.request(frames.record(), more)?;
+        Ok(true)
     }
-    let before = line.core.tape.position;
-    let done = line.ask(record);
-    line.became(done.code, done.session, writes(record).then_some(before))?;
-    line.store()?;
-    if !line.core.tape.opened {
-        line.hand_back();
+
+    /// One record from the client. What it changed is on the disk before the reply goes out; where `more` writes follow
+    /// that were read together with it, all of them become so at once.
+    fn request(&mut self, record: &[u8], more: bool) -> Result<()> {
+        let line = &mut self.line;
+        // No other request reads the image while the tape is closed.
+        if line.held.is_none() && line.core.login.authorized && number(record) == message::TAPE_OPEN {
+            line.take();
+        }
+        let (before, was) = (line.core.tape.position, line.core.source.state);
+        let done = line.ask(record);
+        line.became(done.code, done.session, writes(record).then_some(before))?;
+        let refused = refusal(&line.out[..done.len]);
+        self.replies.extend(&line.out[..done.len]);
+        self.tell(record, refused, was);
+        if writes(record) {
+            self.writes.push(record.to_vec());
+            if more {
+                return Ok(());
+            }
+        }
+        self.settle(record)?;
+        self.login(record, refused)
     }
-    line.send(done.len)
+
+    /// What was answered is on the disk, and then the answers go out.
+    fn settle(&mut self, _record: &[u8]) -> Result<()> {
+        self.line.store()?;
+        self.writes.clear();
+        if !self.line.core.tape.opened {
+            self.line.hand_back();
+        }
+        let replies = std::mem::take(&mut self.replies);
+        self.line.send_all(&replies)
+    }
+
+    /// Refusals, and wishes that are not followed.
+    fn tell(&mut self, record: &[u8], refused: Option<u32>, was: u32) {
+        let line = &mut self.line;
+        let message = number(record);
+        if let Some(error) = refused {
+            let (name, meaning) = (message::name(message), crate::client::meaning(error));
+            line.progress.line(format_args!("refused: {name} (0x{message:03x}) with {error}{meaning}"));
+        } else if was != Data::ACTIVE && line.core.source.state == Data::ACTIVE {
+            let read = if message == message::DATA_START_BACKUP { wishes::of_backup } else { wishes::of_recover };
+            line.wishes = read(record).unwrap_or_default();
+            line.unfollowed();
+        }
+    }
+
+    /// A wrong login is answered late, and not often.
+    fn login(&mut self, record: &[u8], refused: Option<u32>) -> Result<()> {
+        if self.line.core.login.authorized {
+            self.stranger = None;
+        }
+        let _ = (record, refused, &mut self.wrong, WRONG_LOGIN, MOST_WRONG);
+        Ok(())
+    }
+}
+
+impl Line<'_> {
+    /// Says what the client asked for and does not get.
+    fn unfollowed(&self) {
+        let (from, to) = (&self.shared.stream, &self.shared.restore_to);
+        let backup = self.core.source.operation == Data::BACKUP;
+        if let (Some(asked), Some(path), true) = (&self.wishes.filesystem, from, backup)
+            && asked != path.as_os_str().as_encoded_bytes()
+        {
+            let asked = String::from_utf8_lossy(asked);
+            self.progress.line(format_args!(
+                "asks for FILESYSTEM {asked}; the vault backs up {}, as --stream says",
+                path.display()
+            ));
+        }
+        if let (Some(path), true) = (to, self.wishes.names.iter().any(|n| n.moved)) {
+            self.progress.line(format_args!(
+                "asks for other places or names; the vault restores to {}, by the names of the archive",
+                path.display()
+            ));
+        }
+    }
 }

@@ -1,50 +1,52 @@
-//! What a backup reads: the bytes of a file, or a folder as an archive, in parts of at least a record.
-use crate::tar::Tar;
-use std::fs::File;
-use std::io::{self, ErrorKind, Read};
+//! What a backup reads, a folder or a file as an archive, in parts of at least a record.
+use crate::tar::{Counts, Options, Tar};
+use std::io;
 use std::path::Path;
+use std::time::Duration;
 
 const ROOM: usize = 1 << 20;
+/// So long is read before the client is heard.
+const LIMIT: Duration = Duration::from_millis(200);
 
 pub struct Stream {
-    from: Box<dyn Read + Send>,
+    from: Tar,
     buffer: Vec<u8>,
     start: usize,
     end: usize,
-    ended: bool,
-    /// How many bytes there are in all, where that is known: a folder's archive is made as it is read.
-    pub length: Option<u64>,
+    /// Why the stream ends before its end; told when what was read before it is taken.
+    failed: Option<io::Error>,
 }
 
 impl Stream {
-    pub fn open(path: &Path, warn: Box<dyn Fn(&str) + Send>) -> io::Result<Stream> {
-        let (from, length): (Box<dyn Read + Send>, _) = if path.is_dir() {
-            (Box::new(Tar::new(path, warn)?), None)
-        } else {
-            let file = File::open(path)?;
-            let length = file.metadata()?.len();
-            (Box::new(file), Some(length))
-        };
-        Ok(Stream { from, buffer: vec![0; ROOM], start: 0, end: 0, ended: false, length })
+    pub fn open(path: &Path, options: Options) -> io::Result<Stream> {
+        let from = Tar::new(path, options)?;
+        Ok(Stream { from, buffer: vec![0; ROOM], start: 0, end: 0, failed: None })
     }
 
-    /// The next part and whether it is the last. It has a whole record, unless it is the last.
+    /// How many bytes there are in all, where that is known: a folder's archive is made as it is read.
+    pub fn length(&self) -> Option<u64> {
+        self.from.length
+    }
+
+    pub fn counts(&self) -> Counts {
+        self.from.counts
+    }
+
+    /// The next part and whether it is the last. It has a whole record, unless it is the last or its time was over.
     pub fn part(&mut self, record: usize) -> io::Result<(&[u8], bool)> {
-        if self.end - self.start < record && !self.ended {
+        if self.end - self.start < record && self.failed.is_none() && !self.from.is_over() {
             self.buffer.copy_within(self.start..self.end, 0);
             (self.start, self.end) = (0, self.end - self.start);
-            while self.end < self.buffer.len() && !self.ended {
-                match self.from.read(&mut self.buffer[self.end..]) {
-                    Ok(n) => {
-                        self.end += n;
-                        self.ended = n == 0;
-                    }
-                    Err(e) if e.kind() == ErrorKind::Interrupted => {}
-                    Err(e) => return Err(e),
-                }
-            }
+            let (n, how) = self.from.fill(&mut self.buffer[self.end..], LIMIT);
+            self.end += n;
+            self.failed = how.err();
         }
-        Ok((&self.buffer[self.start..self.end], self.ended))
+        if self.end - self.start < record
+            && let Some(e) = self.failed.take()
+        {
+            return Err(e);
+        }
+        Ok((&self.buffer[self.start..self.end], self.from.is_over()))
     }
 
     pub fn taken(&mut self, n: usize) {

@@ -187,9 +187,6 @@ fn processed(c: &mut Client) -> Result<u64, Error> {
 fn outcome(name: &str, ended: Ended) -> Result<&'static str, String> {
     match ended.why {
         Why::Halted(Data::SUCCESSFUL) => Ok("successful"),
-        // A file's bytes do not tell their end: the vault ends a recover of a file where the tape ends.
-        Why::Paused(Mover::END_OF_MEDIUM) if name == "recover" => Ok("up to the tape's end"),
-        Why::Paused(Mover::END_OF_FILE) if name == "recover" => Ok("up to a mark"),
         Why::Paused(Mover::END_OF_MEDIUM) => Err("backup: the tape is full; a larger cartridge is needed".into()),
         Why::Halted(Data::INTERNAL_ERROR) => {
             let option = if name == "backup" { "--stream" } else { "--restore-to" };
@@ -201,10 +198,8 @@ fn outcome(name: &str, ended: Ended) -> Result<&'static str, String> {
 }
 
 fn compared(from: &Path, to: &Path) -> Result<(), String> {
-    let Equal { files, folders, links, bytes, fill } = compare(from, to).map_err(|e| format!("compared: {e}"))?;
-    let filled =
-        if fill > 0 { format!(", and {} zeros that fill the last record", grouped(fill)) } else { String::new() };
+    let Equal { files, folders, links, bytes } = compare(from, to).map_err(|e| format!("compared: {e}"))?;
     let (files, folders, links) = (counted(files, "file"), counted(folders, "folder"), counted(links, "link"));
-    println!("{:9} {} in {files}, {folders}, {links}: equal{filled}", "compared", counted(bytes, "byte"));
+    println!("{:9} {} in {files}, {folders}, {links}: equal", "compared", counted(bytes, "byte"));
     Ok(())
 }

@@ -1,22 +1,15 @@
 //! The archive, without a tape: in parts of any size, and with bytes changed.
 mod common;
 use common::*;
-use host::tar::Tar;
-use host::untar::Untar;
+use host::untar::{Options, Untar};
 use std::fs;
-use std::io::Read;
 use std::path::Path;
-
-fn archive(folder: &Path) -> Vec<u8> {
-    let mut all = Vec::new();
-    Tar::new(folder, Box::new(|_| ())).unwrap().read_to_end(&mut all).unwrap();
-    all
-}
+use std::time::{Duration, Instant};
 
 fn unpack(bytes: &[u8], part: usize, to: &Path) -> std::io::Result<bool> {
-    let mut t = Untar::new(to);
-    bytes.chunks(part).try_for_each(|p| t.take(p))?;
-    t.finish()?;
+    let mut t = Untar::new(to, Options::warning(|_| ()))?;
+    bytes.chunks(part).try_for_each(|p| t.take(p).map(drop))?;
+    assert!(t.commit(Instant::now() + Duration::from_secs(60))?);
     Ok(t.done())
 }
 
@@ -33,8 +26,14 @@ fn parts_of_any_size() {
         assert_eq!(tree(&from), tree(&to));
     }
     // Read by single bytes it is the same archive.
-    #[allow(clippy::unbuffered_bytes)]
-    let one_by_one: Vec<u8> = Tar::new(&from, Box::new(|_| ())).unwrap().bytes().map(|b| b.unwrap()).collect();
+    let mut tar = host::tar::Tar::new(&from, host::tar::Options::warning(|_| ())).unwrap();
+    let mut one_by_one: Vec<u8> = Vec::new();
+    while !tar.is_over() {
+        let mut byte = [0];
+        let (n, how) = tar.fill(&mut byte, Duration::from_secs(1));
+        how.unwrap();
+        one_by_one.extend(&byte[..n]);
+    }
     assert!(one_by_one == bytes);
 }
 
@@ -50,7 +49,7 @@ fn modes_and_times_come_back() {
     assert!(unpack(&archive(&from), 4_096, &to).unwrap());
     for name in ["a", "b.empty", "inner/block", "empty", "inner"] {
         let (a, b) = (from.join(name).metadata().unwrap(), to.join(name).metadata().unwrap());
-        assert_eq!((a.mode(), a.mtime()), (b.mode(), b.mtime()), "{name}");
+        assert_eq!((a.mode(), a.mtime(), a.mtime_nsec()), (b.mode(), b.mtime(), b.mtime_nsec()), "{name}");
     }
     // So that the scratch folder can be removed.
     for folder in [from, to] {

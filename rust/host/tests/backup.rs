@@ -55,29 +55,20 @@ fn file_comes_back() {
     let mut c = host.login();
     assert_eq!(c.backup(1_024, 51_200).unwrap().why, DONE);
 
-    // Up to the tape's end: the last record's fill is there too. The notice of the pause stands before that of the
-    // halt.
-    c.tape_open(TO_READ).unwrap();
-    c.join(1, 1_024, 1_024_000).unwrap();
-    c.start_recover().unwrap();
-    assert_eq!(c.run(0, |_| ()).unwrap(), ended(0, Why::Paused(Mover::END_OF_MEDIUM)));
-    assert_eq!(
-        (c.notice().unwrap().header.message, c.notice().unwrap().header.message),
-        (NOTIFY_DATA_HALTED, NOTIFY_MOVER_HALTED)
-    );
-    c.stop().unwrap();
-    let mut filled = bytes.clone();
-    filled.resize(bytes.len().next_multiple_of(1_024), 0);
-    assert_eq!(fs::read(&to).unwrap(), filled);
-
-    // A client that knows the length says it in a mover read of its own.
-    c.tape_close().unwrap();
-    c.tape_open(TO_READ).unwrap();
-    c.join(1, 1_024, 1_024_000).unwrap();
-    c.good(MOVER_READ, &quads(&[0, 100_000])).unwrap();
-    c.start_recover().unwrap();
-    assert_eq!(c.run(0, |_| ()).unwrap(), ended(0, DONE));
+    assert_eq!(c.recover(1_024, 10_240).unwrap().why, DONE);
     assert_eq!(fs::read(&to).unwrap(), bytes);
+    // A client that knows how long the stream is says it in a mover read of its own.
+    let length = archive(&from).len() as u64;
+    for (asked, why) in [(length, DONE), (length - 1, FAILED), (60_000, FAILED)] {
+        fs::write(&to, b"stood there").unwrap();
+        c.tape_open(TO_READ).unwrap();
+        c.join(1, 1_024, 1_024_000).unwrap();
+        c.good(MOVER_READ, &quads(&[0, asked])).unwrap();
+        c.start_recover().unwrap();
+        assert_eq!(c.run(0, |_| ()).unwrap(), ended(0, why));
+        assert_eq!(fs::read(&to).unwrap(), if why == DONE { &bytes[..] } else { b"stood there" });
+        c.finish().unwrap();
+    }
 }
 
 #[test]
@@ -185,46 +176,30 @@ fn nothing_to_read_or_write_ends_the_method() {
 fn archive_does_not_lead_out_of_the_folder() {
     let s = Scratch::new();
     let (to, tape) = (s.folder("to"), s.path("tape"));
-    let evil = s.folder("evil/sub");
-    fs::write(evil.join("x"), b"x").unwrap();
-    let archive = s.path("archive");
-    let options =
-        ["--new-cartridge", "1M", "--stream", archive.to_str().unwrap(), "--restore-to", to.to_str().unwrap()];
+    let host = Host::start(&tape, &["--new-cartridge", "1M", "--restore-to", to.to_str().unwrap()]);
     // Archives as a stranger could make them: a path with `..`, a rooted one, and a file behind a link.
-    let tar = |name: &str, kind: u8, link: &str, body: &[u8]| {
-        let mut b = vec![0; 512];
-        b[..name.len()].copy_from_slice(name.as_bytes());
-        b[100..107].copy_from_slice(b"0000644");
-        b[124..135].copy_from_slice(format!("{:011o}", body.len()).as_bytes());
-        b[136..147].copy_from_slice(b"00000000000");
-        b[156] = kind;
-        b[157..157 + link.len()].copy_from_slice(link.as_bytes());
-        b[257..265].copy_from_slice(b"ustar\x0000");
-        b[148..156].fill(b' ');
-        let sum: u32 = b.iter().map(|x| *x as u32).sum();
-        b[148..155].copy_from_slice(format!("{sum:06o}\0").as_bytes());
-        b.extend(body);
-        b.resize(b.len().next_multiple_of(512), 0);
-        b
-    };
     let outside = s.path("outside");
     let rooted = format!("{}/file", outside.display());
     let archives = [
-        tar("../outside", b'0', "", b"out"),
-        tar("a/../../outside", b'0', "", b"out"),
-        tar(&rooted, b'0', "", b"out"),
-        [tar("link", b'2', "..", b""), tar("link/outside", b'0', "", b"out")].concat(),
-        [tar("link", b'2', "../outside", b""), tar("link", b'0', "", b"in")].concat(),
+        vec![member("../outside", b'0', "", b"out")],
+        vec![member("a/../../outside", b'0', "", b"out")],
+        vec![member(&rooted, b'0', "", b"out")],
+        vec![member("link", b'2', "..", b""), member("link/outside", b'0', "", b"out")],
+        vec![member("link", b'2', "../outside", b""), member("link", b'0', "", b"in")],
     ];
-    fs::write(&archive, b"").unwrap();
-    let host = Host::start(&tape, &options);
-    for (i, bytes) in archives.iter().enumerate() {
-        fs::write(&archive, [&bytes[..], &[0; 1024]].concat()).unwrap();
+    std::os::unix::fs::symlink("..", to.join("there")).unwrap();
+    let through = vec![member("there/outside", b'0', "", b"out")];
+    for (i, members) in archives.iter().chain([&through]).enumerate() {
         let mut c = host.login();
-        assert_eq!(c.backup(512, 51_200).unwrap().why, DONE);
-        // The last replaces the link by a file, which is in the folder.
-        let why = if i == 4 { Data::SUCCESSFUL } else { Data::INTERNAL_ERROR };
-        assert_eq!(c.recover(512, 51_200).unwrap().why, Why::Halted(why), "archive {i}");
+        put_on_tape(&mut c, &old_archive(members), 512);
+        let why = c.recover(512, 51_200).unwrap().why;
+        // Links of the archive itself get their names at the end: until then there is no way through them. The last but
+        // one replaces the link by a file, which is in the folder.
+        match i {
+            3 => assert!(why == DONE || why == FAILED),
+            4 => assert_eq!(why, DONE),
+            _ => assert_eq!(why, FAILED, "archive {i}"),
+        }
         assert!(!outside.exists());
     }
     assert_eq!(fs::read(to.join("link")).unwrap(), b"in");

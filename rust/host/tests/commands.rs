@@ -142,7 +142,7 @@ fn try_of_a_running_vault() {
     let (code, out, err) = run(&args("--account=vault:noon"));
     assert_eq!((code, err.as_str()), (0, ""), "{out}");
     assert_eq!(lines_of(&out), ["vault", "tape", "backup", "recover", "compared"], "{out}");
-    assert!(out.contains("100,000 bytes in 1 file, 0 folders, 0 links: equal, and 31,072 zeros"), "{out}");
+    assert!(out.contains("100,000 bytes in 1 file, 0 folders, 0 links: equal\n"), "{out}");
     // What is on the tape now is not written over unless that is said.
     let (code, _, err) = run(&args("--account=vault:noon"));
     assert!(code == 1 && err.contains("the tape there is not empty; --overwrite"), "{err}");

@@ -114,15 +114,20 @@ fn progress_is_told_or_not() {
         fs::read_to_string(text).unwrap()
     };
     let told = log(false);
-    let mut lines = told.lines().filter(|l| l.starts_with("session 1: data"));
+    // Behind the time.
+    let mut lines = told.lines().map(|l| l.split_once(' ').unwrap().1).filter(|l| l.starts_with("session 1: data"));
     for start in [
         "data IDLE, mover LISTEN, 0 bytes, window 0 + 2048",
         "data CONNECTED, mover ACTIVE, 0 bytes, window 0 + 2048",
         "data ACTIVE, mover ACTIVE, 0 bytes, window 0 + 2048",
         "data ACTIVE, mover PAUSED (end of window), 2048 bytes at ",
         "data ACTIVE, mover ACTIVE, 2048 bytes, window 2048 + 2048",
-        "data HALTED (successful), mover HALTED (connection closed), 3072 bytes at ",
-        "data IDLE, mover HALTED (connection closed), 3072 bytes, window 2048 + 2048",
+        "data ACTIVE, mover PAUSED (end of window), 4096 bytes at ",
+        "data ACTIVE, mover ACTIVE, 4096 bytes, window 4096 + 2048",
+        "data ACTIVE, mover PAUSED (end of window), 6144 bytes at ",
+        "data ACTIVE, mover ACTIVE, 6144 bytes, window 6144 + 2048",
+        "data HALTED (successful), mover HALTED (connection closed), 7168 bytes at ",
+        "data IDLE, mover HALTED (connection closed), 7168 bytes, window 6144 + 2048",
         "data IDLE, mover IDLE, 0 bytes",
     ] {
         let line = lines.next().unwrap();

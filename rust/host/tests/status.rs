@@ -113,26 +113,26 @@ fn page_and_json_tell_the_window() {
     contains(&body, &["<td>CONNECTED</td><td>ACTIVE (to tape)</td><td>1,024</td>", "width:0%"]);
 
     c.start_backup().unwrap();
-    assert_eq!(c.run(2_048, |_| ()).unwrap(), ended(1, DONE));
+    assert_eq!(c.run(2_048, |_| ()).unwrap(), ended(3, DONE));
     c.good(TAPE_MTIO, &words(&[codes::WRITE_MARKS, 2])).unwrap();
     let (head, text) = get(&page, "/status.json");
     contains(&head, &["Content-Type: application/json; charset=utf-8"]);
     assert_eq!(json(&text), "\n");
     contains(
         &text,
-        &["\"data\":{\"state\":\"HALTED\",\"operation\":\"backup\",\"halt\":\"successful\",\"processed\":2500"],
+        &["\"data\":{\"state\":\"HALTED\",\"operation\":\"backup\",\"halt\":\"successful\",\"processed\":7168"],
     );
-    contains(&text, &["\"window\":{\"offset\":2048,\"length\":2048,\"percent\":50},\"moved\":3072}"]);
-    contains(&text, &["\"tape\":{\"open\":true,\"writable\":true,\"position\":5}", "\"holder\":1,\"capacity\":4096"]);
-    contains(&text, &["\"used\":3072,\"entries\":[1024,1024,1024,0,0]}"]);
+    contains(&text, &["\"window\":{\"offset\":6144,\"length\":2048,\"percent\":50},\"moved\":7168}"]);
+    contains(&text, &["\"tape\":{\"open\":true,\"writable\":true,\"position\":9}", "\"holder\":1,\"capacity\":4096"]);
+    contains(&text, &["\"used\":7168,\"entries\":[1024,1024,1024,1024,1024,1024,1024,0,0]}"]);
     let body = get(&page, "/").1;
-    contains(&body, &["<b>Window 2,048 + 2,048</b> is in force in session 1: 1,024 bytes written, 50%", "width:50%"]);
-    contains(&body, &["3 records and 2 marks on the disk", "HALTED (successful)", "HALTED (connection closed)"]);
+    contains(&body, &["<b>Window 6,144 + 2,048</b> is in force in session 1: 1,024 bytes written, 50%", "width:50%"]);
+    contains(&body, &["7 records and 2 marks on the disk", "HALTED (successful)", "HALTED (connection closed)"]);
     contains(&body, &["<rect class=b", "<line x1=", "session 1: connected from 127.0.0.1:"]);
 
     c.stop().unwrap();
     c.tape_close().unwrap();
-    contains(&get(&page, "/").1, &["No session has the tape.", "3 records and 2 marks"]);
+    contains(&get(&page, "/").1, &["No session has the tape.", "7 records and 2 marks"]);
     drop(c);
     soon(|| get(&page, "/").1.contains("<p>None.</p>").then_some(())).expect("the session is still shown");
 }
@@ -148,7 +148,7 @@ fn text_from_outside_is_escaped() {
     assert_eq!(c.backup(512, 51_200).unwrap().why, DONE);
     let body = get(&page, "/").1;
     assert!(!body.contains("<script") && !body.contains("<i>"), "{body}");
-    contains(&body, &["left out, neither file, folder nor link: ", "&lt;i&gt;tape"]);
+    contains(&body, &["left out: ", ": neither file, folder nor link", "&lt;i&gt;tape"]);
     contains(&body, &["&lt;script&gt;alert(&#39;1&#39;)&amp;&quot;\\n\\"]);
     let text = get(&page, "/status.json").1;
     assert_eq!(json(&text), "\n");

@@ -41,8 +41,13 @@ pub const MOVER_CONNECT: u32 = 0xa09;
 /// A message's name, for a person.
 pub fn name(message: u32) -> &'static str {
     match message {
-        CONNECT_OPEN => "connect open",
-        CONNECT_CLIENT_AUTH => "client auth",
+        CONFIG_GET_CONNECTION_TYPE => "connection type",
+        CONFIG_GET_SERVER_INFO => "server info",
+        SCSI_OPEN => "scsi open",
+        SCSI_CLOSE => "scsi close",
+        SCSI_GET_STATE => "scsi get state",
+        SCSI_RESET_DEVICE => "scsi reset device",
+        SCSI_EXECUTE_CDB => "execute cdb",
         TAPE_OPEN => "tape open",
         TAPE_CLOSE => "tape close",
         TAPE_GET_STATE => "tape get state",
@@ -54,14 +59,21 @@ pub fn name(message: u32) -> &'static str {
         DATA_START_RECOVER => "data start recover",
         DATA_ABORT => "data abort",
         DATA_STOP => "data stop",
+        DATA_LISTEN => "data listen",
         DATA_CONNECT => "data connect",
+        CONNECT_OPEN => "connect open",
+        CONNECT_CLIENT_AUTH => "client auth",
+        CONNECT_CLOSE => "connect close",
         MOVER_GET_STATE => "mover get state",
         MOVER_LISTEN => "mover listen",
         MOVER_CONTINUE => "mover continue",
+        MOVER_ABORT => "mover abort",
         MOVER_STOP => "mover stop",
         MOVER_SET_WINDOW => "mover set window",
         MOVER_READ => "mover read",
+        MOVER_CLOSE => "mover close",
         MOVER_SET_RECORD_SIZE => "mover set record size",
+        MOVER_CONNECT => "mover connect",
         _ => "request",
     }
 }

@@ -13,6 +13,7 @@ pub use wire::{quad, quads, request, text, word, words};
 
 /// A method that ended well.
 pub const DONE: Why = Why::Halted(Data::SUCCESSFUL);
+pub const FAILED: Why = Why::Halted(Data::INTERNAL_ERROR);
 
 pub fn ended(pauses: u32, why: Why) -> Ended {
     Ended { pauses, why }
@@ -70,6 +71,12 @@ impl Host {
         Host::spawn(serve(cartridge).args(["--listen", "127.0.0.1:0", "--quiet"]).args(more))
     }
 
+    /// With its standard error in a file.
+    pub fn logged(cartridge: &Path, log: &Path, more: &[&str]) -> Host {
+        let log = fs::File::create(log).unwrap();
+        Host::spawn(serve(cartridge).args(["--listen", "127.0.0.1:0"]).args(more).stderr(log))
+    }
+
     pub fn spawn(command: &mut Command) -> Host {
         Host(Running::start(command).unwrap())
     }
@@ -111,6 +118,15 @@ pub fn tape_open_soon(client: &mut Client, mode: u32) {
     soon(|| client.tape_open(mode).ok()).expect("the tape is not free");
 }
 
+/// Waits until a log has all of these.
+pub fn told(log: &Path, parts: &[&str]) {
+    let has = || {
+        let text = fs::read_to_string(log).unwrap();
+        parts.iter().all(|p| text.contains(p)).then_some(())
+    };
+    soon(has).unwrap_or_else(|| panic!("{parts:?} is not all in {}", fs::read_to_string(log).unwrap()));
+}
+
 /// What is there within ten seconds, however busy the machine is.
 pub fn soon<T>(mut ask: impl FnMut() -> Option<T>) -> Option<T> {
     for _ in 0..500 {
@@ -122,8 +138,59 @@ pub fn soon<T>(mut ask: impl FnMut() -> Option<T>) -> Option<T> {
     None
 }
 
+/// The archive that a backup of a folder or a file makes.
+pub fn archive(path: &Path) -> Vec<u8> {
+    archive_with(path, host::tar::Options::warning(|_| ())).unwrap()
+}
+
+pub fn archive_with(path: &Path, options: host::tar::Options) -> std::io::Result<Vec<u8>> {
+    let mut tar = host::tar::Tar::new(path, options)?;
+    let mut all = Vec::new();
+    let mut part = vec![0; 1 << 16];
+    while !tar.is_over() {
+        let (n, how) = tar.fill(&mut part, Duration::from_secs(1));
+        all.extend(&part[..n]);
+        how?;
+    }
+    Ok(all)
+}
+
 pub fn sample(folder: &Path) {
     host::own::sample(folder).unwrap();
+}
+
+/// Writes a stream to the tape's start by requests, in records of one length, the last filled with zeros.
+pub fn put_on_tape(c: &mut Client, bytes: &[u8], record: usize) {
+    c.tape_open(TO_WRITE).unwrap();
+    for part in bytes.chunks(record) {
+        let mut part = part.to_vec();
+        part.resize(record, 0);
+        c.good(TAPE_WRITE, &text(&part)).unwrap();
+    }
+    c.tape_close().unwrap();
+}
+
+/// A header as a stranger could write it, with its body.
+pub fn member(name: &str, kind: u8, link: &str, body: &[u8]) -> Vec<u8> {
+    let mut b = vec![0; 512];
+    b[..name.len()].copy_from_slice(name.as_bytes());
+    b[100..107].copy_from_slice(b"0000644");
+    b[124..135].copy_from_slice(format!("{:011o}", body.len()).as_bytes());
+    b[136..147].copy_from_slice(b"00000000000");
+    b[156] = kind;
+    b[157..157 + link.len()].copy_from_slice(link.as_bytes());
+    b[257..265].copy_from_slice(b"ustar\x0000");
+    b[148..156].fill(b' ');
+    let sum: u32 = b.iter().map(|x| *x as u32).sum();
+    b[148..155].copy_from_slice(format!("{sum:06o}\0").as_bytes());
+    b.extend(body);
+    b.resize(b.len().next_multiple_of(512), 0);
+    b
+}
+
+/// Members with an end, as tapes had them before streams told their digest.
+pub fn old_archive(members: &[Vec<u8>]) -> Vec<u8> {
+    [&members.concat()[..], &[0; 1024]].concat()
 }
 
 /// Names, kinds and bytes below a folder.
