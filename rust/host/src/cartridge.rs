@@ -1,12 +1,11 @@
 //! The cartridge: its image in memory, which the core reads and writes, and the file, which follows in a safe order.
 use crate::folder::{Folder, Id};
 use crate::sys;
-use proved::{OUTPUT, Session, codes};
 use std::fs::{self, File, OpenOptions};
 use std::io::{self, Read};
 use std::os::unix::fs::{FileExt, MetadataExt, OpenOptionsExt};
 use std::path::{Path, PathBuf};
-use wire::{HEADER, message, request, text, word, word_at, words};
+use wire::{word_at, words};
 
 pub const CAPACITY: usize = 4_096;
 pub const MOST_BODY: usize = 134_217_728;
@@ -134,44 +133,9 @@ impl Cartridge {
     }
 }
 
-/// A session of one's own on an image that no client has: its tape is open for reading.
-pub struct Deck {
-    session: Session,
-    out: Vec<u8>,
-}
-
-#[derive(Clone, Copy, Debug, PartialEq)]
-pub enum Entry {
-    Record(u32),
-    Mark,
-}
-
-impl Deck {
-    /// None if the core does not take the image: it is asked to open the tape.
-    pub fn open(image: &mut [u8]) -> Option<Deck> {
-        let mut out = vec![0; OUTPUT];
-        let session = proved::open(0, &mut out).session;
-        let mut deck = Deck { session, out };
-        deck.ask(image, message::CONNECT_CLIENT_AUTH, &[words(&[1]), text(""), text("")].concat());
-        deck.ask(image, message::TAPE_OPEN, &[text("tape0"), words(&[0])].concat());
-        deck.session.tape.opened.then_some(deck)
-    }
-
-    /// A request; the reply stands in the output.
-    fn ask(&mut self, image: &mut [u8], message: u32, body: &[u8]) {
-        let done = proved::request(self.session, b"", b"", image, &request(1, message, body), 0, &mut self.out);
-        self.session = done.session;
-    }
-
-    /// The entry at the tape's position, which goes on behind it; none at the end.
-    pub fn next(&mut self, image: &mut [u8]) -> Option<Entry> {
-        self.ask(image, message::TAPE_READ, &words(&[codes::LONGEST_RECORD as u32]));
-        match word(&self.out, HEADER) {
-            0 => Some(Entry::Record(word(&self.out, HEADER + 4))),
-            codes::AT_MARK => Some(Entry::Mark),
-            _ => None,
-        }
-    }
+/// The entries of a sound image, in their order, as the core tells them.
+pub fn entries(image: &[u8]) -> impl Iterator<Item = proved::Entry> {
+    (0..).map(|i| proved::entry(image, i)).take_while(|e| e.error == 0)
 }
 
 /// The bytes of a cartridge file that is open; too long a file is not read.
@@ -208,8 +172,8 @@ pub fn load(path: &Path) -> Result<Cartridge, String> {
         _ => told(&e),
     })?;
     file.try_lock().map_err(|_| told(&BUSY))?;
-    let mut image = bytes(&mut file).map_err(|e| told(&e))?;
-    if Deck::open(&mut image).is_none() {
+    let image = bytes(&mut file).map_err(|e| told(&e))?;
+    if !proved::sound(&image) {
         return Err(told(&unsound(&image)));
     }
     let length = image.len() as u64;
@@ -219,17 +183,19 @@ pub fn load(path: &Path) -> Result<Cartridge, String> {
     Ok(Cartridge::new(image, OnDisk { file, path: path.to_path_buf(), id, length }))
 }
 
-/// Reads a cartridge file that no vault has open, with a session on it.
-pub fn look(path: &Path) -> Result<(Vec<u8>, Deck), String> {
+/// Reads a sound cartridge file that no vault has open.
+pub fn look(path: &Path) -> Result<Vec<u8>, String> {
     let told = |e: &dyn std::fmt::Display| format!("{}: {e}", path.display());
     let mut file = File::open(path).map_err(|e| match e.kind() {
         io::ErrorKind::NotFound => told(&"no such file; `mossgoblin new` makes a cartridge"),
         _ => told(&e),
     })?;
     file.try_lock_shared().map_err(|_| told(&BUSY))?;
-    let mut image = bytes(&mut file).map_err(|e| told(&e))?;
-    let deck = Deck::open(&mut image).ok_or_else(|| told(&unsound(&image)))?;
-    Ok((image, deck))
+    let image = bytes(&mut file).map_err(|e| told(&e))?;
+    if !proved::sound(&image) {
+        return Err(told(&unsound(&image)));
+    }
+    Ok(image)
 }
 
 /// The room of an image: entries, and bytes of data.

@@ -1,7 +1,8 @@
 //! The commands on cartridge files: `new`, `list` and `check`.
 use crate::args::size;
-use crate::cartridge::{self, Entry};
+use crate::cartridge;
 use crate::options::Written;
+use proved::Entry;
 use std::ffi::OsString;
 use std::io::{BufWriter, Write, stdout};
 use std::path::Path;
@@ -53,33 +54,23 @@ fn one_file(w: &Written) -> Result<&OsString, Failed> {
     }
 }
 
-/// The entries of a cartridge in their order, read through the core; and its room.
+/// The entries of a cartridge in their order, as the core tells them; and its room.
 fn entries(file: &OsString) -> Result<(Vec<Entry>, (usize, usize)), Failed> {
-    let (mut image, mut deck) = cartridge::look(Path::new(file))?;
-    let all = std::iter::from_fn(|| deck.next(&mut image)).collect();
-    Ok((all, cartridge::room(&image)))
-}
-
-fn length(entry: &Entry) -> u64 {
-    match entry {
-        Entry::Record(n) => *n as u64,
-        Entry::Mark => 0,
-    }
+    let image = cartridge::look(Path::new(file))?;
+    Ok((cartridge::entries(&image).collect(), cartridge::room(&image)))
 }
 
 pub fn list(w: &Written) -> Result<(), Failed> {
     let (all, (capacity, body)) = entries(one_file(w)?)?;
-    let used: u64 = all.iter().map(length).sum();
+    let used: usize = all.iter().map(|e| e.len).sum();
     let print = || {
         let mut out = BufWriter::new(stdout().lock());
         writeln!(out, "cartridge {} of {capacity} entries, {used} of {body} bytes", all.len())?;
-        let mut start = 0;
-        for (i, entry) in all.iter().enumerate() {
-            match entry {
-                Entry::Record(n) => writeln!(out, "{i} record {n} at {start}")?,
-                Entry::Mark => writeln!(out, "{i} mark at {start}")?,
+        for (i, Entry { len, start, .. }) in all.iter().enumerate() {
+            match len {
+                0 => writeln!(out, "{i} mark at {start}")?,
+                n => writeln!(out, "{i} record {n} at {start}")?,
             }
-            start += length(entry);
         }
         out.flush()
     };
@@ -97,11 +88,11 @@ pub fn check(w: &Written) -> Result<(), Failed> {
     for file in &w.words {
         match entries(file) {
             Ok((all, (capacity, body))) => {
-                let used: u64 = all.iter().map(length).sum();
-                let marks = all.iter().filter(|e| **e == Entry::Mark).count();
+                let used: usize = all.iter().map(|e| e.len).sum();
+                let marks = all.iter().filter(|e| e.len == 0).count();
                 let records = counted((all.len() - marks) as u64, "record");
                 let marks = counted(marks as u64, "mark");
-                let (used, body, n) = (grouped(used), grouped(body as u64), all.len());
+                let (used, body, n) = (grouped(used as u64), grouped(body as u64), all.len());
                 println!(
                     "{}: sound: {records}, {marks}, {used} of {body} bytes, {n} of {capacity} entries",
                     file.display()

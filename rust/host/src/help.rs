@@ -86,8 +86,7 @@ mossgoblin list: print what is on a cartridge
 
 The first line tells entries and bytes, of how many there is room for. Then comes a line
 for each record and each mark: its number from 0, its length, and where it begins. It is
-read record by record through the same calls that answer a client. A cartridge that a
-vault has open is not read.
+told by the proved core, at any size. A cartridge that a vault has open is not read.
 
 Examples:
   mossgoblin list tape
