@@ -6,7 +6,7 @@ use std::os::unix::ffi::OsStrExt;
 use std::path::PathBuf;
 use std::time::Duration;
 
-pub const SERVE: [Known; 13] = [
+pub const SERVE: [Known; 14] = [
     valued("--listen"),
     valued("--cartridge"),
     valued("--new-cartridge"),
@@ -15,6 +15,7 @@ pub const SERVE: [Known; 13] = [
     valued("--restore-to"),
     valued("--status"),
     alone("--strict"),
+    valued("--sync"),
     valued("--login-within"),
     valued("--idle"),
     valued("--hold"),
@@ -33,6 +34,7 @@ pub struct Args {
     pub status: Option<String>,
     pub limits: Limits,
     pub strict: bool,
+    pub marks: bool,
     pub quiet: bool,
 }
 
@@ -51,7 +53,11 @@ pub fn size(text: &str) -> Option<usize> {
 pub fn account(value: &OsStr) -> Result<(Vec<u8>, Vec<u8>), String> {
     let bytes = value.as_bytes();
     let at = bytes.iter().position(|b| *b == b':').ok_or("--account: expected ID:PASSWORD, such as vault:noon")?;
-    Ok((bytes[..at].to_vec(), bytes[at + 1..].to_vec()))
+    let (id, password) = (&bytes[..at], &bytes[at + 1..]);
+    if id.is_empty() || password.is_empty() {
+        return Err("--account: an empty id or password would let anyone in; expected ID:PASSWORD".into());
+    }
+    Ok((id.to_vec(), password.to_vec()))
 }
 
 /// A port alone is one of this machine's.
@@ -78,6 +84,11 @@ pub fn serve(w: &Written) -> Result<Args, String> {
         hold: seconds(w, "--hold", 600)?,
         send: seconds(w, "--send-within", 60)?,
     };
+    let marks = match w.text("--sync")? {
+        None | Some("each") => false,
+        Some("marks") => true,
+        Some(v) => return Err(format!("--sync: {v}: expected each or marks")),
+    };
     let (id, password) = account(w.value("--account").ok_or("--account ID:PASSWORD is missing")?)?;
     Ok(Args {
         listen: w.text("--listen")?.ok_or("--listen ADDRESS:PORT is missing")?.to_string(),
@@ -90,6 +101,7 @@ pub fn serve(w: &Written) -> Result<Args, String> {
         status: w.text("--status")?.map(status),
         limits,
         strict: w.has("--strict"),
+        marks,
         quiet: w.has("--quiet"),
     })
 }

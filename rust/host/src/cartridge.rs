@@ -85,9 +85,23 @@ impl<D: Disk> Cartridge<D> {
         room(&self.image)
     }
 
+    /// How many records and marks there are.
+    pub fn entries(&self) -> usize {
+        self.number(8)
+    }
+
     /// The lengths of the entries from this one on.
     pub fn lengths(&self, from: usize) -> impl Iterator<Item = u32> {
         (from..self.number(8)).map(|i| self.number(HEAD + 8 * i) as u32)
+    }
+
+    /// The file could not follow: what was written since goes away, and the list ends where that began. Up to there the
+    /// file has it.
+    pub fn cut_back(&mut self) -> Option<usize> {
+        let low = self.low?;
+        let kept = self.number(HEAD + 8 * low + 4);
+        self.image[8..16].copy_from_slice(&words(&[low as u32, kept as u32]));
+        Some(low)
     }
 
     fn header(&mut self, n: usize, used: usize) -> io::Result<()> {

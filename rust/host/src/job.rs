@@ -3,7 +3,7 @@ use crate::restore::Target;
 use crate::stream::Stream;
 
 pub enum Job {
-    Backup(Stream),
+    Backup(Box<Stream>),
     Recover(Recover),
 }
 

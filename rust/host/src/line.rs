@@ -15,7 +15,7 @@ use std::io::{ErrorKind, Write};
 use std::net::{Shutdown, TcpStream};
 use std::path::PathBuf;
 use std::sync::atomic::{AtomicBool, Ordering};
-use std::sync::{Arc, Mutex, PoisonError};
+use std::sync::{Arc, Mutex, MutexGuard, PoisonError};
 use std::time::{Duration, Instant, SystemTime};
 
 /// How long a connection may keep the vault waiting.
@@ -48,16 +48,32 @@ pub struct Shared {
     /// For the status page, where there is one.
     pub watch: Option<Watch>,
     /// Those who are connected, and whether they are to go.
-    pub open: Mutex<BTreeMap<usize, TcpStream>>,
+    pub open: Mutex<BTreeMap<usize, Option<TcpStream>>>,
     pub ending: AtomicBool,
 }
 
 impl Shared {
+    fn open(&self) -> MutexGuard<'_, BTreeMap<usize, Option<TcpStream>>> {
+        self.open.lock().unwrap_or_else(PoisonError::into_inner)
+    }
+
+    pub fn came(&self, number: usize, socket: &TcpStream) {
+        self.open().insert(number, socket.try_clone().ok());
+    }
+
+    pub fn went(&self, number: usize) {
+        self.open().remove(&number);
+    }
+
+    pub fn count(&self) -> usize {
+        self.open().len()
+    }
+
     /// Ends all connections: each ends in order, when its step is done.
     pub fn end_all(&self) -> usize {
         self.ending.store(true, Ordering::SeqCst);
-        let open = self.open.lock().unwrap_or_else(PoisonError::into_inner);
-        open.values().for_each(|s| _ = s.shutdown(Shutdown::Both));
+        let open = self.open();
+        open.values().flatten().for_each(|s| _ = s.shutdown(Shutdown::Both));
         open.len()
     }
 }
@@ -153,6 +169,18 @@ impl Line<'_> {
         Ok(())
     }
 
+    /// What the client was not told has not been: the file does not have it.
+    pub fn back(&mut self) {
+        self.core = self.told;
+        self.unstored = 0;
+        if let Some(c) = &mut self.held {
+            let from = c.cut_back();
+            if let (Some(watch), Some(from)) = (&self.shared.watch, from) {
+                watch.written(c, from);
+            }
+        }
+    }
+
     /// Sends what stands at the output's start. The status page has it first, so that it is never behind what a client knows.
     pub fn send(&mut self, len: usize) -> Result<()> {
         let out = std::mem::take(&mut self.out);
@@ -214,6 +242,7 @@ impl Drop for Line<'_> {
         self.job = None;
         if let Err(e) = self.store() {
             self.progress.error(e);
+            self.back();
         }
         self.hand_back();
         if let Some(watch) = &self.shared.watch {

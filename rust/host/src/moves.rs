@@ -69,7 +69,7 @@ impl Line<'_> {
             let options = tar::Options { strict: self.shared.strict, except, warn: self.warn() };
             let stream = Stream::open(path, options).map_err(|e| format!("{}: {e}", path.display()))?;
             self.whole = stream.length();
-            Ok(Job::Backup(stream))
+            Ok(Job::Backup(Box::new(stream)))
         } else {
             let path = self.shared.restore_to.as_ref().ok_or("nowhere to restore: started without --restore-to")?;
             let m = &self.core.mover;
@@ -217,8 +217,15 @@ impl Line<'_> {
         }
     }
 
-    fn medium_failed(&mut self, why: Over) -> Result<()> {
-        Err(why)
+    /// The file could not follow: the session goes back to what the client was told, and the core is asked what comes of
+    /// a medium that is not sound. It halts both ends, and the client is told so.
+    pub fn medium_failed(&mut self, why: Over) -> Result<()> {
+        self.sure()?;
+        self.progress.error(&why);
+        self.back();
+        let done = proved::move_to_tape(self.core, &mut [], &[], false, seconds(), &mut self.out);
+        self.became(done.code, done.session, None)?;
+        if done.len == 0 { Err(why) } else { self.send(done.len) }
     }
 
     /// The last line of a backup or a recover.

@@ -8,15 +8,18 @@ use crate::progress::Progress;
 use crate::restore::{may_write, parted};
 use crate::session::serve;
 use crate::status;
+use crate::sys;
 use crate::vault::Vault;
 use crate::watch::Watch;
 use std::fs::File;
-use std::io::{ErrorKind, Write, stdout};
-use std::net::TcpListener;
+use std::io::{ErrorKind, Read, Write, stdout};
+use std::net::{SocketAddr, TcpListener};
+use std::panic::{AssertUnwindSafe, catch_unwind};
 use std::path::Path;
 use std::sync::atomic::{AtomicBool, AtomicUsize, Ordering};
 use std::sync::{Arc, Mutex};
-use std::time::Duration;
+use std::thread::Builder;
+use std::time::{Duration, Instant};
 
 pub const MOST_CONNECTIONS: usize = 64;
 /// Of these so many may be open that have not logged in: the others are kept for those who have.
@@ -94,7 +97,7 @@ pub fn run(args: Args) -> Result<(), String> {
     let watch = page.is_some().then(|| Watch::new(&cartridge, &args.cartridge));
     let address = listener.local_addr().map_err(|e| e.to_string())?;
     let _ = writeln!(stdout(), "listening on {address}");
-    let Args { id, password, stream, restore_to, limits, strict, quiet, .. } = args;
+    let Args { id, password, stream, restore_to, limits, strict, marks, quiet, .. } = args;
     let shared = Arc::new(Shared {
         vault: Vault::new(cartridge),
         id,
@@ -104,18 +107,74 @@ pub fn run(args: Args) -> Result<(), String> {
         except,
         limits,
         strict,
-        marks: false,
+        marks,
         log: Arc::new(Log::new(quiet)),
         watch,
         open: Mutex::default(),
         ending: AtomicBool::new(false),
     });
+    warn_of(&shared.log, "--listen", address, "logins and data go over the network as they are");
     if let Some(page) = page {
         let at = page.local_addr().map_err(|e| e.to_string())?;
         let _ = writeln!(stdout(), "status on http://{at}/");
-        status::start(page, shared.clone(), address.to_string());
+        warn_of(&shared.log, "--status", at, "names of files and clients are read there without a login");
+        status::start(page, shared.clone(), address.to_string()).map_err(|e| format!("--status: {e}"))?;
     }
+    let signals = sys::signals().map_err(|e| format!("signals: {e}"))?;
+    let ended = shared.clone();
+    named("signals").spawn(move || end(signals, &ended)).map_err(|e| format!("signals: {e}"))?;
     accept(&listener, shared)
+}
+
+/// What is to be said of an address that others reach.
+fn reached(option: &str, at: SocketAddr, what: &str) -> Option<String> {
+    (!at.ip().to_canonical().is_loopback()).then(|| format!("{option} {at} is not this machine's alone: {what}"))
+}
+
+fn warn_of(log: &Log, option: &str, at: SocketAddr, what: &str) {
+    if let Some(text) = reached(option, at, what) {
+        log.error(text);
+    }
+}
+
+fn named(name: &str) -> Builder {
+    Builder::new().name(name.into())
+}
+
+/// How long sessions are waited for, each of which ends after its step.
+const LAST_STEPS: Duration = Duration::from_secs(10);
+
+/// Ends the program in order when a signal says so: all connections end, and the cartridge is handed back and stored.
+fn end(mut signals: File, shared: &Shared) {
+    let mut byte = [0];
+    while signals.read_exact(&mut byte).is_err() {
+        std::thread::sleep(Duration::from_millis(100));
+    }
+    let name = if byte[0] == sys::TERMINATE { "SIGTERM" } else { "SIGINT" };
+    let log = &shared.log;
+    let open = shared.end_all();
+    log.line(format_args!("{name}: the vault ends, and {open} sessions with it"));
+    let until = Instant::now() + LAST_STEPS;
+    while shared.count() > 0 && Instant::now() < until {
+        std::thread::sleep(Duration::from_millis(10));
+    }
+    let code = match shared.vault.take().map(|mut c| (c.store(), c.entries())) {
+        Some((Ok(_), n)) => {
+            log.line(format_args!("ended by {name}: all that was acknowledged is on the disk, {n} records and marks"));
+            0
+        }
+        Some((Err(e), _)) => {
+            log.error(format_args!("ended by {name}: the cartridge file could not be written: {e}"));
+            1
+        }
+        None => {
+            log.error(format_args!(
+                "ended by {name} while a session had the tape; all that was acknowledged is on the disk"
+            ));
+            1
+        }
+    };
+    std::process::exit(code);
 }
 
 fn accept(listener: &TcpListener, shared: Arc<Shared>) -> Result<(), String> {
@@ -139,17 +198,25 @@ fn accept(listener: &TcpListener, shared: Arc<Shared>) -> Result<(), String> {
             shared.log.error(format_args!("{peer}: turned away, {MOST_STRANGERS} {why}"));
             continue;
         };
-        let shared = shared.clone();
-        std::thread::spawn(move || {
+        let there = shared.clone();
+        let work = move || {
             let _left = left;
+            let shared = there;
             let note = Progress::new(&shared.log, number);
             note.line(format_args!("connected from {peer}"));
-            match serve(socket, &shared, number, stranger) {
-                Ok(()) => note.line("closed"),
-                Err(Over::Gone(why)) => note.line(why),
-                Err(Over::Failed(why)) => note.error(why),
+            shared.came(number, &socket);
+            let end = catch_unwind(AssertUnwindSafe(|| serve(socket, &shared, number, stranger)));
+            shared.went(number);
+            match end {
+                Ok(Ok(())) => note.line("closed"),
+                Ok(Err(Over::Gone(why))) => note.line(why),
+                Ok(Err(Over::Failed(why))) => note.error(why),
+                Err(_) => note.error("ended by a fault of the program"),
             }
-        });
+        };
+        if let Err(e) = named("session").spawn(work) {
+            shared.log.error(format_args!("{peer}: turned away, no thread could be made: {e}"));
+        }
     }
     Ok(())
 }
@@ -167,5 +234,25 @@ impl Leaves {
 impl Drop for Leaves {
     fn drop(&mut self) {
         self.0.fetch_sub(1, Ordering::SeqCst);
+    }
+}
+
+#[cfg(test)]
+mod tests {
+    use super::*;
+
+    #[test]
+    fn addresses_that_others_reach_are_told() {
+        for (at, told) in [
+            ("127.0.0.1:1", false),
+            ("127.9.9.9:1", false),
+            ("[::1]:1", false),
+            ("[::ffff:127.0.0.1]:1", false),
+            ("0.0.0.0:1", true),
+            ("[::]:1", true),
+            ("192.168.0.1:1", true),
+        ] {
+            assert_eq!(reached("--listen", at.parse().unwrap(), "x").is_some(), told, "{at}");
+        }
     }
 }

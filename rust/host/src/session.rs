@@ -123,6 +123,12 @@ impl Connection<'_> {
     /// that were read together with it, all of them become so at once.
     fn request(&mut self, record: &[u8], more: bool) -> Result<()> {
         let line = &mut self.line;
+        // What a move did may be told by the reply.
+        if line.unstored > 0
+            && let Err(why) = line.store()
+        {
+            line.medium_failed(why)?;
+        }
         // No other request reads the image while the tape is closed.
         if line.held.is_none() && line.core.login.authorized && number(record) == message::TAPE_OPEN {
             line.take();
@@ -132,7 +138,12 @@ impl Connection<'_> {
         line.became(done.code, done.session, writes(record).then_some(before))?;
         let refused = refusal(&line.out[..done.len]);
         self.replies.extend(&line.out[..done.len]);
-        self.tell(record, refused, was);
+        let wrong = refused == Some(codes::NOT_AUTHORIZED) && number(record) == message::CONNECT_CLIENT_AUTH;
+        if wrong {
+            self.wrong_login(record);
+        } else {
+            self.tell(record, refused, was);
+        }
         if writes(record) {
             self.writes.push(record.to_vec());
             if more {
@@ -140,18 +151,74 @@ impl Connection<'_> {
             }
         }
         self.settle(record)?;
-        self.login(record, refused)
+        if self.line.core.login.authorized {
+            self.stranger = None;
+        }
+        if wrong && self.wrong >= MOST_WRONG {
+            return Err(Over::Gone(format!("ended: {MOST_WRONG} wrong logins")));
+        }
+        Ok(())
+    }
+
+    /// A wrong login is told, and answered late.
+    fn wrong_login(&mut self, record: &[u8]) {
+        self.wrong += 1;
+        let id = wishes::login_id(record).unwrap_or_default();
+        let id: String = String::from_utf8_lossy(&id).chars().take(64).collect();
+        let peer = self.line.socket.peer_addr().map_or("?".into(), |a| a.to_string());
+        self.line.progress.error(format_args!("wrong login as {id:?} from {peer}"));
+        std::thread::sleep(WRONG_LOGIN);
+    }
+
+    /// Whether the file follows now: after each write; or, where that was asked for, at marks, rewind and close only.
+    fn is_due(&self, record: &[u8]) -> bool {
+        let at_rest = match number(record) {
+            message::TAPE_CLOSE | message::CONNECT_CLOSE => true,
+            message::TAPE_MTIO => matches!(word_at(record, HEADER), Some(codes::WRITE_MARKS | codes::REWIND_TAPE)),
+            _ => false,
+        };
+        if self.line.shared.marks { at_rest } else { !self.writes.is_empty() }
     }
 
     /// What was answered is on the disk, and then the answers go out.
-    fn settle(&mut self, _record: &[u8]) -> Result<()> {
-        self.line.store()?;
+    fn settle(&mut self, record: &[u8]) -> Result<()> {
+        self.line.sure()?;
+        if self.is_due(record)
+            && let Err(why) = self.line.store()
+        {
+            self.medium_failed(why, record)?;
+        }
         self.writes.clear();
         if !self.line.core.tape.opened {
             self.line.hand_back();
         }
         let replies = std::mem::take(&mut self.replies);
         self.line.send_all(&replies)
+    }
+
+    /// The file could not follow. The session goes back to what the client was told, and the core answers each of these
+    /// requests as for a medium that is not sound: with an error. Where it has no such answer the connection ends.
+    fn medium_failed(&mut self, why: Over, record: &[u8]) -> Result<()> {
+        let line = &mut self.line;
+        line.sure()?;
+        line.progress.error(&why);
+        line.back();
+        let mut records = std::mem::take(&mut self.writes);
+        if records.is_empty() {
+            records.push(record.to_vec());
+        }
+        self.replies.clear();
+        for record in records {
+            let held = line.held.take();
+            let done = line.ask(&record);
+            line.held = held;
+            line.became(done.code, done.session, None)?;
+            if refusal(&line.out[..done.len]).is_none() {
+                return Err(why);
+            }
+            self.replies.extend(&line.out[..done.len]);
+        }
+        Ok(())
     }
 
     /// Refusals, and wishes that are not followed.
@@ -166,15 +233,6 @@ impl Connection<'_> {
             line.wishes = read(record).unwrap_or_default();
             line.unfollowed();
         }
-    }
-
-    /// A wrong login is answered late, and not often.
-    fn login(&mut self, record: &[u8], refused: Option<u32>) -> Result<()> {
-        if self.line.core.login.authorized {
-            self.stranger = None;
-        }
-        let _ = (record, refused, &mut self.wrong, WRONG_LOGIN, MOST_WRONG);
-        Ok(())
     }
 }
 

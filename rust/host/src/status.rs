@@ -2,10 +2,11 @@
 use crate::line::Shared;
 use crate::page::{self, Shown};
 use crate::server::Leaves;
-use std::io::{Read, Write};
+use std::io::{self, Read, Write};
 use std::net::{TcpListener, TcpStream};
 use std::sync::Arc;
 use std::sync::atomic::AtomicUsize;
+use std::thread::Builder;
 use std::time::{Duration, Instant};
 
 /// So many readers at once; another one is turned away.
@@ -15,10 +16,10 @@ const LIMIT: Duration = Duration::from_secs(3);
 /// A request's head is not longer.
 const LONGEST: usize = 4_096;
 
-pub fn start(listener: TcpListener, shared: Arc<Shared>, vault: String) {
+pub fn start(listener: TcpListener, shared: Arc<Shared>, vault: String) -> io::Result<()> {
     let count = Arc::new(AtomicUsize::new(0));
     let vault: Arc<str> = vault.into();
-    std::thread::spawn(move || {
+    let accept = move || {
         loop {
             let Ok((socket, _)) = listener.accept() else {
                 std::thread::sleep(Duration::from_millis(100));
@@ -26,12 +27,14 @@ pub fn start(listener: TcpListener, shared: Arc<Shared>, vault: String) {
             };
             let Some(left) = Leaves::enter(&count, MOST_READERS) else { continue };
             let (shared, vault) = (shared.clone(), vault.clone());
-            std::thread::spawn(move || {
+            // Without a thread this reader is turned away.
+            let _ = Builder::new().name("page".into()).spawn(move || {
                 let _left = left;
                 let _ = answer(socket, &shared, &vault);
             });
         }
-    });
+    };
+    Builder::new().name("pages".into()).spawn(accept).map(drop)
 }
 
 /// The request's head, up to the empty line.

@@ -70,6 +70,13 @@ pub fn of_recover(record: &[u8]) -> Option<Wishes> {
     Some(Wishes { filesystem, names })
 }
 
+/// The id of a record of client auth, by text.
+pub fn login_id(record: &[u8]) -> Option<Vec<u8>> {
+    let mut w = Words(record, HEADER);
+    w.word()?;
+    w.text()
+}
+
 fn path(bytes: &[u8]) -> &Path {
     Path::new(OsStr::from_bytes(bytes))
 }

@@ -100,7 +100,8 @@ fn cartridge_is_not_backed_up() {
 #[test]
 fn nothing_is_told_of_a_cartridge_that_is_another_file() {
     let s = Scratch::new();
-    let changes: [(&str, fn(&Path)); 4] = [
+    type Change = fn(&Path);
+    let changes: [(&str, Change); 4] = [
         ("has no longer its name", |tape| fs::rename(tape, tape.with_extension("away")).unwrap()),
         ("was removed", |tape| fs::remove_file(tape).unwrap()),
         ("was replaced: another file has its name", |tape| {

@@ -9,8 +9,8 @@ use std::net::{TcpListener, TcpStream};
 use std::path::Path;
 use std::process::Command;
 use std::time::Instant;
-use wire::message::{MOVER_GET_STATE, MOVER_READ, TAPE_WRITE};
-use wire::{quads, words};
+use wire::message::{MOVER_GET_STATE, TAPE_WRITE};
+use wire::words;
 
 const REQUESTS: usize = 20_000;
 const BYTES: usize = 96 << 20;
@@ -154,7 +154,8 @@ fn main() {
     ];
     let mut rates = vec![Vec::new(); kinds.len()];
     let mut c = login(address);
-    let window = (BYTES as u64).next_multiple_of(RECORD as u64);
+    // The archive has headers besides the file's bytes.
+    let window = (BYTES as u64 + 8_192).next_multiple_of(RECORD as u64);
     for _ in 0..ROUNDS {
         let rate = |bytes: usize, t: f64| bytes as f64 / t / 1e6;
         rates[0].push(rate(BYTES, seconds(|| assert_eq!(c.backup(RECORD, window).unwrap(), done))));
@@ -163,7 +164,6 @@ fn main() {
             seconds(|| {
                 c.tape_open(TO_READ).unwrap();
                 c.join(Mover::FROM_TAPE, RECORD, window).unwrap();
-                c.good(MOVER_READ, &quads(&[0, BYTES as u64])).unwrap();
                 c.start_recover().unwrap();
                 assert_eq!(c.run(0, |_| ()).unwrap(), done);
                 c.stop().unwrap();

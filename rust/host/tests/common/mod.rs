@@ -242,3 +242,41 @@ pub fn sound(image: &[u8]) -> Result<(u64, u64), String> {
     }
     if sum != used { Err(format!("used {used}, sum {sum}")) } else { Ok((n, used)) }
 }
+
+/// Calls of the system that are noted, and fail or take long when that is said.
+pub struct Shim {
+    pub folder: PathBuf,
+    library: PathBuf,
+}
+
+impl Shim {
+    pub fn new(s: &Scratch) -> Shim {
+        let (folder, library) = (s.folder("shim"), s.path("shim.so"));
+        let source = Path::new(env!("CARGO_MANIFEST_DIR")).join("tests/shim/shim.c");
+        let done =
+            Command::new("cc").args(["-shared", "-fPIC", "-O1", "-o"]).arg(&library).arg(source).output().unwrap();
+        assert!(done.status.success(), "{}", String::from_utf8_lossy(&done.stderr));
+        Shim { folder, library }
+    }
+
+    pub fn before<'a>(&self, command: &'a mut Command) -> &'a mut Command {
+        command.env("LD_PRELOAD", &self.library).env("SHIM", &self.folder)
+    }
+
+    /// Says that a call fails with this errno, or takes so many microseconds: `fail-pwrite`, `slow-openat`.
+    pub fn say(&self, what: &str, number: u32) {
+        fs::write(self.folder.join(what), number.to_string()).unwrap();
+    }
+
+    pub fn unsay(&self, what: &str) {
+        fs::remove_file(self.folder.join(what)).unwrap();
+    }
+
+    /// The calls noted since the last look.
+    pub fn trace(&self) -> Vec<String> {
+        let path = self.folder.join("trace");
+        let text = fs::read_to_string(&path).unwrap_or_default();
+        let _ = fs::remove_file(path);
+        text.lines().map(String::from).collect()
+    }
+}
