@@ -25,7 +25,9 @@ mossgoblin serve: put a cartridge on a port, for any NDMP v4 client
 
   mossgoblin serve --listen ADDRESS:PORT --cartridge FILE --account ID:PASSWORD
                    [--new-cartridge SIZE] [--stream DIR|FILE] [--restore-to DIR|FILE]
-                   [--status [ADDRESS:]PORT] [--idle SECONDS] [--quiet]
+                   [--strict] [--sync each|marks] [--status [ADDRESS:]PORT]
+                   [--login-within SECONDS] [--idle SECONDS] [--hold SECONDS]
+                   [--send-within SECONDS] [--quiet]
 
   --listen ADDRESS:PORT   where clients connect, such as 127.0.0.1:10000; with port 0
                           the system chooses one. `listening on ADDRESS:PORT` is the
@@ -34,18 +36,33 @@ mossgoblin serve: put a cartridge on a port, for any NDMP v4 client
   --new-cartridge SIZE    make FILE first; it must not exist. SIZE is the room for data:
                           bytes, or with K, M, G behind the number; at most 128M.
                           The table has room for 4,096 records and marks.
-  --account ID:PASSWORD   the one account for the text login; the password may hold
-                          colons, and both are seen by those who may list processes
+  --account ID:PASSWORD   the one account for the text login, neither empty; the password
+                          may hold colons, and both are seen by those who may list
+                          processes
   --stream DIR|FILE       what a backup reads: a folder goes to tape as a tar archive,
-                          a file as its bytes
+                          a file as an archive of one member. Length and SHA-256 stand
+                          at its end.
   --restore-to DIR|FILE   where a recover writes: an archive is unpacked into a folder
-                          that is there; any other name is a file for the bytes
+                          that is there; any other name is a file for the one file of
+                          the archive, or for a folder's archive as it is. What stood
+                          there stays until the stream was found whole.
+  --strict                end a backup at the first file that cannot be read. Without it
+                          such a file is left out, named in the log and counted in the
+                          backup's last line.
+  --sync each|marks       when tape writes are brought to the disk: each before it is
+                          answered (the default), or as a drive with a buffer does, at
+                          marks, rewind, close and end. With marks, a crash or a kill
+                          loses the writes since the last of these, though they were
+                          answered; a backup by the mover is not affected.
   --status [ADDRESS:]PORT a page for a browser with sessions, window, tape and log, and
                           the same as JSON at /status.json. Without ADDRESS only this
                           machine reaches it. Whoever reaches it reads it: it has no
                           login, and can change nothing.
+  --login-within SECONDS  end a connection that has not logged in by then (30)
   --idle SECONDS          end a connection that sends nothing for so long (3600)
-  --quiet                 no progress on standard error, only errors
+  --hold SECONDS          the same while it has the tape and nothing moves (600)
+  --send-within SECONDS   end a connection that does not take an answer for so long (60)
+  --quiet                 no progress and no refusals on standard error, only errors
 
 The devices are `tape0` and `changer0`, the method is `dump`, addresses are LOCAL.
 A backup, seen from the client: connect open (version 4), client auth (text), tape open
@@ -55,8 +72,12 @@ next window and continue. At `data halted`: data stop, mover stop, tape close.
 A recover is the same with mode 1 and data start recover, from a rewound tape; the mover
 reads are made by the vault.
 
+Names of a recover are those in the archive, with or without FILESYSTEM before them: only
+these are restored. Other wishes are not followed, and the log says so.
+
 One session at a time has the tape: tape open in a second one is answered with 15.
-The vault runs until it is ended by a signal; what a client was told is on the disk.
+The vault runs until SIGTERM or SIGINT, which end it in order; what a client was told is on
+the disk.
 
 Examples:
   mossgoblin serve --listen 127.0.0.1:10000 --cartridge tape --new-cartridge 128M \\

@@ -275,3 +275,68 @@ fn killed_during_a_backup() {
     println!("{rounds} kills, {partial} with a part of the stream on tape");
     assert!(rounds >= 5);
 }
+
+/// Tape writes and marks by requests, several at a time, until the connection ends. Gives what was acknowledged.
+fn write_on(mut c: Client, round: u64, acknowledged: &mut Vec<Vec<u8>>) {
+    let chance = noise(round, 64);
+    for i in 0.. {
+        let many = 1 + chance[i as usize % 64] as u32 % 4;
+        let first = c.sequence + 1;
+        let mut sent = Vec::new();
+        let mut bytes = Vec::new();
+        for k in 0..many {
+            let n = chance[(i + k) as usize % 64] as usize * 8;
+            // A mark has no bytes; a record has some.
+            let record = if n < 64 { Vec::new() } else { noise(round * 10_000 + i as u64 * 10 + k as u64, n) };
+            bytes.extend(if record.is_empty() {
+                request(first + k, TAPE_MTIO, &words(&[codes::WRITE_MARKS, 1]))
+            } else {
+                request(first + k, TAPE_WRITE, &text(&record))
+            });
+            sent.push(record);
+        }
+        if c.socket.write_all(&bytes).is_err() {
+            return;
+        }
+        for (k, record) in sent.into_iter().enumerate() {
+            c.sequence = first + k as u32;
+            match c.reply(if record.is_empty() { TAPE_MTIO } else { TAPE_WRITE }) {
+                Ok(m) if m.first() == 0 => acknowledged.push(record),
+                _ => return,
+            }
+        }
+    }
+}
+
+/// Whatever was acknowledged is there after a kill, entry for entry; behind it may be what was not.
+#[test]
+fn all_that_was_acknowledged_outlives_a_kill() {
+    let s = Scratch::new();
+    let tape = s.path("tape");
+    let chance = noise(78, 1_000);
+    let started = Instant::now();
+    let (mut rounds, mut total) = (0, 0);
+    while started.elapsed() < Duration::from_secs(4) && rounds < 200 {
+        let new = ["--new-cartridge", "8M"];
+        let mut host = Host::start(&tape, if rounds == 0 { &new } else { &[] });
+        let mut c = host.login();
+        c.tape_open(TO_WRITE).unwrap();
+        let client = std::thread::spawn(move || {
+            let mut acknowledged = Vec::new();
+            write_on(c, rounds, &mut acknowledged);
+            acknowledged
+        });
+        std::thread::sleep(Duration::from_micros(chance[rounds as usize] as u64 * 300));
+        host.child.kill().unwrap();
+        host.child.wait().unwrap();
+        let acknowledged = client.join().unwrap();
+        let there = list(&fs::read(&tape).unwrap()).expect("sound");
+        // A round in which nothing was acknowledged may have left the tape as it was.
+        assert!(acknowledged.is_empty() || there.starts_with(&acknowledged), "round {rounds}: {}", acknowledged.len());
+        assert!(there.len() <= acknowledged.len() + 4 || acknowledged.is_empty(), "round {rounds}");
+        total += acknowledged.len();
+        rounds += 1;
+    }
+    println!("{rounds} kills, {total} writes and marks acknowledged");
+    assert!(rounds >= 5 && total > 50, "{rounds} {total}");
+}

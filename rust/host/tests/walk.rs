@@ -174,7 +174,7 @@ fn what_changes_during_a_backup_is_named_and_the_backup_goes_on() {
     assert_eq!(why, FAILED);
     told(&log, &[&format!("{}: became shorter", at("a")), "backup ended (internal error): 0 files"]);
     let (records, used) = sound(&fs::read(&tape).unwrap()).unwrap();
-    assert!(used >= 1_400_000 && used < 3 << 20, "{records} records");
+    assert!((1_400_000..3 << 20).contains(&used), "{records} records");
 }
 
 /// A file that is swapped for another is the other whole, or left out; one that changes is named.
