@@ -34,12 +34,15 @@ pub struct Frames {
     start: usize,
     end: usize,
     record: Vec<u8>,
+    /// The socket's limit as it is set.
     limit: Duration,
+    whole_within: Duration,
 }
 
 impl Frames {
     pub fn new(socket: TcpStream) -> Frames {
-        Frames { socket, buffer: vec![0; ROOM], start: 0, end: 0, record: Vec::new(), limit: Duration::ZERO }
+        let (buffer, record) = (vec![0; ROOM], Vec::new());
+        Frames { socket, buffer, start: 0, end: 0, record, limit: Duration::ZERO, whole_within: RECORD_LIMIT }
     }
 
     /// Whether a byte, or the connection's end, waits to be read.
@@ -102,7 +105,7 @@ impl Frames {
                 return Err(End::Closed);
             }
         }
-        let deadline = Instant::now() + RECORD_LIMIT;
+        let deadline = Instant::now() + self.whole_within;
         let deadline = until.map_or(deadline, |u| u.min(deadline));
         self.record.clear();
         self.record.extend([0; 4]);
@@ -135,5 +138,57 @@ impl Frames {
         let rest = &self.buffer[self.start..self.end];
         let mark = rest.get(..4).map(|b| word(b, 0)).filter(|m| m & LAST != 0)?;
         rest.get(..4 + (mark & !LAST) as usize).filter(|r| r.len() >= HEADER && r.len() <= 4 + LONGEST)
+    }
+}
+
+#[cfg(test)]
+mod tests {
+    use super::*;
+    use std::io::Write;
+    use std::net::TcpListener;
+    use wire::{message, request, words};
+
+    fn pair() -> (TcpStream, Frames) {
+        let listener = TcpListener::bind("127.0.0.1:0").unwrap();
+        let client = TcpStream::connect(listener.local_addr().unwrap()).unwrap();
+        (client, Frames::new(listener.accept().unwrap().0))
+    }
+
+    const LONG: Duration = Duration::from_secs(20);
+
+    #[test]
+    fn record_that_comes_slowly_is_given_up() {
+        let (mut client, mut frames) = pair();
+        frames.whole_within = Duration::from_millis(300);
+        // A byte now and then, for ever.
+        let drip = std::thread::spawn(move || {
+            let all = [&words(&[0x8000_0100])[..], &[0; 200]].concat();
+            for byte in all {
+                if client.write_all(&[byte]).is_err() {
+                    return;
+                }
+                std::thread::sleep(Duration::from_millis(20));
+            }
+        });
+        assert_eq!(frames.read(LONG, None), Err(End::TooSlow));
+        drop(frames);
+        drip.join().unwrap();
+        // Nothing at all, and too late for another reason.
+        let (_client, mut frames) = pair();
+        assert_eq!(frames.read(Duration::from_millis(50), None), Err(End::Silent));
+        assert_eq!(frames.read(LONG, Some(Instant::now() + Duration::from_millis(50))), Err(End::Silent));
+        assert_eq!(frames.read(LONG, Some(Instant::now())), Err(End::Silent));
+    }
+
+    #[test]
+    fn next_record_is_known_if_it_came_too() {
+        let (mut client, mut frames) = pair();
+        let (a, b) = (request(1, message::TAPE_WRITE, &[1; 8]), request(2, message::TAPE_READ, &[2; 4]));
+        client.write_all(&[&a[..], &b, &a[..10]].concat()).unwrap();
+        std::thread::sleep(Duration::from_millis(100));
+        frames.read(LONG, None).unwrap();
+        assert_eq!((frames.record(), frames.next()), (&a[..], Some(&b[..])));
+        frames.read(LONG, None).unwrap();
+        assert_eq!((frames.record(), frames.next()), (&b[..], None));
     }
 }

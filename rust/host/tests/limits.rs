@@ -54,6 +54,19 @@ fn strangers_have_some_seconds_and_not_all_connections() {
 }
 
 #[test]
+fn connections_are_counted() {
+    let s = Scratch::new();
+    let log = s.path("log");
+    let host = Host::logged(&s.path("tape"), &log, &["--new-cartridge", "100K", "--quiet"]);
+    let mut known: Vec<Client> = (0..64).map(|_| host.login()).collect();
+    assert!(host.client().receive().is_err(), "one too many is let in");
+    told(&log, &["turned away, 64 connections are open"]);
+    known.iter_mut().for_each(|c| _ = c.good(CONFIG_GET_SERVER_INFO, b"").unwrap());
+    known.pop();
+    host.login_soon();
+}
+
+#[test]
 fn wrong_logins_are_told_late_and_few() {
     let s = Scratch::new();
     let log = s.path("log");
