@@ -42,13 +42,15 @@ fn is_text(body: &[u8], t: Text, wanted: &[u8]) -> bool
     xdr::same(&body[start..end], wanted)
 }
 
-// Whether the id and the password of a login are the account's.
+// Whether the id and the password of a login are the account's. Both are compared whatever the first is, so that the time tells nothing of which failed.
 fn is_right(body: &[u8], id: Text, password: Text, name: &[u8], word: &[u8]) -> bool
     requires { ⌜ Within (now body) id × Within (now body) password ⌝ }
     ensures { λ r. ⌜ r ≡ matches (bytesAt (now (body .entry)) id) (bytesAt (now (body .entry)) password) (record { id = now (name .entry); password = now (word .entry) }) ⌝ }
 {
-    if is_text(body, id, name) {
-        return is_text(body, password, word);
+    let known = is_text(body, id, name);
+    let right = is_text(body, password, word);
+    if known {
+        return right;
     }
     false
 }

@@ -17,11 +17,11 @@ is-text-requires-2 c κs = search needs
 
 returns : tie.Need-returns
 unfolding matches
-returns c = pick-if _ (asked (c .before .before .is-text .ensures) (c .before .if1 .taken)) (c .is-text2 .ensures)
+returns c = pick-if _ (asked (c .before .before .is-text .ensures) (c .if1 .taken)) (c .before .is-text2 .ensures)
 
 returns-2 : tie.Need-returns-2
 unfolding matches
-returns-2 c = pick-else _ (asked (c .before .is-text .ensures) (c .if1 .left)) refl
+returns-2 c = pick-else _ (asked (c .before .before .is-text .ensures) (c .if1 .left)) refl
 
 pub is-right-spec : {M : Type 1} → statement M
 is-right-spec = tie.close (tie.spec is-text-requires is-text-requires-2 returns returns-2)
