@@ -192,7 +192,12 @@ pub fn load(path: &Path) -> Result<Cartridge, String> {
     }
     let length = image.len() as u64;
     sys::allocate(&file, length).map_err(|e| told(&e))?;
-    file.sync_all().and_then(|()| sync_folder(path)).map_err(|e| told(&e))?;
+    file.sync_all().map_err(|e| told(&e))?;
+    match sync_folder(path) {
+        // A folder that may be entered and not read cannot be synced by this user.
+        Err(e) if e.kind() == io::ErrorKind::PermissionDenied => {}
+        other => other.map_err(|e| told(&e))?,
+    }
     let id = file.metadata().map(|m| Id::of(&m)).map_err(|e| told(&e))?;
     Ok(Cartridge::new(image, OnDisk { file, path: path.to_path_buf(), id, length }))
 }

@@ -71,7 +71,8 @@ impl Frames {
                     return Ok(n);
                 }
                 Err(e) if e.kind() == ErrorKind::Interrupted => {}
-                Err(e) if matches!(e.kind(), ErrorKind::WouldBlock | ErrorKind::TimedOut) => return Err(End::TooSlow),
+                Err(e) if e.kind() == ErrorKind::WouldBlock => return Err(End::TooSlow),
+                // Also a client that does not answer the system any more.
                 Err(_) => return Err(End::Cut),
             }
         }

@@ -114,9 +114,22 @@ pub struct Line<'a> {
     pub whole: Option<u64>,
     pub out: Vec<u8>,
     pub progress: Progress<'a>,
-    /// Bytes on the tape in memory that the file does not have yet.
+    /// Bytes on the tape in memory that the file does not have yet, and how many there may be.
     pub unstored: usize,
+    pub burst: usize,
     pub socket: TcpStream,
+}
+
+/// Bytes of a backup after which the cartridge file follows, at least and at most.
+pub const LEAST_BURST: usize = 4 << 20;
+const MOST_BURST: usize = 32 << 20;
+/// The client is not heard meanwhile: it should not take longer.
+const STORE_TIME: Duration = Duration::from_millis(400);
+
+/// As many bytes as a disk stores in that time that stored so many in this.
+fn burst(bytes: usize, took: Duration) -> usize {
+    let most = bytes as f64 * STORE_TIME.as_secs_f64() / took.as_secs_f64().max(1e-6);
+    (most as usize).clamp(LEAST_BURST, MOST_BURST)
 }
 
 pub fn seconds() -> u32 {
@@ -159,11 +172,15 @@ impl Line<'_> {
     /// The file follows the image.
     pub fn store(&mut self) -> Result<()> {
         self.sure()?;
+        let begun = Instant::now();
         if let Some(c) = &mut self.held {
             let changed = c.store().map_err(|e| format!("the cartridge file could not be written: {e}"))?;
             if let (Some(watch), Some(from)) = (&self.shared.watch, changed) {
                 watch.written(c, from);
             }
+        }
+        if self.unstored >= LEAST_BURST {
+            self.burst = burst(self.unstored, begun.elapsed());
         }
         self.unstored = 0;
         Ok(())
@@ -247,6 +264,19 @@ impl Drop for Line<'_> {
         self.hand_back();
         if let Some(watch) = &self.shared.watch {
             watch.went(self.number);
+        }
+    }
+}
+
+#[cfg(test)]
+mod tests {
+    use super::*;
+
+    #[test]
+    fn slow_disks_are_given_less_at_a_time() {
+        let mib = 1 << 20;
+        for (bytes, millis, next) in [(4, 1, 32), (8, 400, 8), (8, 200, 16), (32, 3_200, 4), (32, 60_000, 4)] {
+            assert_eq!(burst(bytes * mib, Duration::from_millis(millis)), next * mib);
         }
     }
 }

@@ -13,8 +13,6 @@ use wire::{message, quads, request};
 /// Bytes of one step, and its time: after either the client is heard.
 const STEP: usize = 4 << 20;
 const SPAN: Duration = Duration::from_millis(250);
-/// Bytes after which the cartridge file follows; it does so too before anything is sent.
-const UNSTORED: usize = 8 << 20;
 
 /// One step. False when there is nothing to do before the client's next request.
 pub fn step(line: &mut Line) -> Result<bool> {
@@ -109,7 +107,7 @@ impl Line<'_> {
                 self.deliver(done.len)?;
                 return Ok(true);
             }
-            if self.unstored >= UNSTORED
+            if self.unstored >= self.burst
                 && let Err(why) = self.store()
             {
                 self.medium_failed(why)?;

@@ -1,13 +1,16 @@
 //! One connection: each record goes to the core, and what the core writes goes to the client.
 use crate::frames::{End, Frames};
-use crate::line::{Line, Over, Result, Shared, seconds};
+use crate::line::{LEAST_BURST, Line, Over, Result, Shared, seconds};
 use crate::moves;
 use crate::progress::Progress;
 use crate::server::Leaves;
 use crate::sys;
 use crate::wishes::{self, Wishes};
 use proved::{Data, OUTPUT, codes};
+use std::ffi::OsStr;
 use std::net::TcpStream;
+use std::os::unix::ffi::OsStrExt;
+use std::path::Path;
 use std::sync::atomic::Ordering;
 use std::time::{Duration, Instant};
 use wire::{HEADER, Header, message, word_at};
@@ -54,6 +57,7 @@ pub fn serve(socket: TcpStream, shared: &Shared, number: usize, stranger: Leaves
         out,
         progress,
         unstored: 0,
+        burst: LEAST_BURST,
         socket,
     };
     if let Some(watch) = &shared.watch {
@@ -166,7 +170,7 @@ impl Connection<'_> {
         let id = wishes::login_id(record).unwrap_or_default();
         let id: String = String::from_utf8_lossy(&id).chars().take(64).collect();
         let peer = self.line.socket.peer_addr().map_or("?".into(), |a| a.to_string());
-        self.line.progress.error(format_args!("wrong login as {id:?} from {peer}"));
+        self.line.progress.error(format_args!("wrong login as \"{id}\" from {peer}"));
         std::thread::sleep(WRONG_LOGIN);
     }
 
@@ -242,7 +246,7 @@ impl Line<'_> {
         let (from, to) = (&self.shared.stream, &self.shared.restore_to);
         let backup = self.core.source.operation == Data::BACKUP;
         if let (Some(asked), Some(path), true) = (&self.wishes.filesystem, from, backup)
-            && asked != path.as_os_str().as_encoded_bytes()
+            && Path::new(OsStr::from_bytes(asked)) != path
         {
             let asked = String::from_utf8_lossy(asked);
             self.progress.line(format_args!(

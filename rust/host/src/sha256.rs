@@ -51,6 +51,64 @@ fn block(state: &mut [u32; 8], bytes: &[u8]) {
     }
 }
 
+/// The same by the processor's own instructions, where it has them.
+#[cfg(target_arch = "x86_64")]
+mod quick {
+    use super::ROUNDS;
+    use std::arch::x86_64::*;
+
+    pub fn is_there() -> bool {
+        is_x86_feature_detected!("sha") && is_x86_feature_detected!("ssse3") && is_x86_feature_detected!("sse4.1")
+    }
+
+    /// Whole blocks. Safety: the processor has these instructions.
+    #[target_feature(enable = "sha,sse2,ssse3,sse4.1")]
+    pub unsafe fn blocks(state: &mut [u32; 8], bytes: &[u8]) {
+        let turn = _mm_set_epi64x(0x0c0d0e0f08090a0b, 0x0405060700010203);
+        // The instructions take the words as a, b, e, f and c, d, g, h.
+        let [a, b, c, d, e, f, g, h] = state.map(|w| w as i32);
+        let mut abef = _mm_set_epi32(a, b, e, f);
+        let mut cdgh = _mm_set_epi32(c, d, g, h);
+        for block in bytes.chunks_exact(super::BLOCK) {
+            let (abef_before, cdgh_before) = (abef, cdgh);
+            let mut w = [_mm_setzero_si128(); 4];
+            for (i, word) in w.iter_mut().enumerate() {
+                *word = _mm_shuffle_epi8(unsafe { _mm_loadu_si128(block[16 * i..].as_ptr().cast()) }, turn);
+            }
+            for i in 0..16 {
+                let k = unsafe { _mm_loadu_si128(ROUNDS[4 * i..].as_ptr().cast()) };
+                let sum = _mm_add_epi32(w[i % 4], k);
+                cdgh = _mm_sha256rnds2_epu32(cdgh, abef, sum);
+                abef = _mm_sha256rnds2_epu32(abef, cdgh, _mm_shuffle_epi32(sum, 0x0e));
+                if i < 12 {
+                    // The four words that are needed four steps later.
+                    let (one, two, three) = (w[(i + 1) % 4], w[(i + 2) % 4], w[(i + 3) % 4]);
+                    let first = _mm_sha256msg1_epu32(w[i % 4], one);
+                    let next = _mm_add_epi32(first, _mm_alignr_epi8(three, two, 4));
+                    w[i % 4] = _mm_sha256msg2_epu32(next, three);
+                }
+            }
+            abef = _mm_add_epi32(abef, abef_before);
+            cdgh = _mm_add_epi32(cdgh, cdgh_before);
+        }
+        let (mut x, mut y) = ([0u32; 4], [0u32; 4]);
+        unsafe {
+            _mm_storeu_si128(x.as_mut_ptr().cast(), abef);
+            _mm_storeu_si128(y.as_mut_ptr().cast(), cdgh);
+        }
+        *state = [x[3], x[2], y[3], y[2], x[1], x[0], y[1], y[0]];
+    }
+}
+
+/// Whole blocks.
+fn blocks(state: &mut [u32; 8], bytes: &[u8]) {
+    #[cfg(target_arch = "x86_64")]
+    if quick::is_there() {
+        return unsafe { quick::blocks(state, bytes) };
+    }
+    bytes.chunks_exact(BLOCK).for_each(|b| block(state, b));
+}
+
 impl Default for Sha256 {
     fn default() -> Sha256 {
         Sha256 { state: START, rest: [0; BLOCK], length: 0 }
@@ -68,11 +126,10 @@ impl Sha256 {
             if have + n < BLOCK {
                 return;
             }
-            block(&mut self.state, &self.rest);
+            blocks(&mut self.state, &self.rest);
         }
-        let mut blocks = bytes.chunks_exact(BLOCK);
-        blocks.by_ref().for_each(|b| block(&mut self.state, b));
-        let left = blocks.remainder();
+        let (whole, left) = bytes.split_at(bytes.len() - bytes.len() % BLOCK);
+        blocks(&mut self.state, whole);
         self.rest[..left.len()].copy_from_slice(left);
     }
 
@@ -125,6 +182,16 @@ mod tests {
         }
         let million = "cdc76e5c9914fb9281a1c7e284d73e67f1809a48a497200e046d39ccc7112cd0";
         assert_eq!(of(&vec![b'a'; 1_000_000]), million);
+    }
+
+    /// Both ways give the same, on a processor that has both.
+    #[test]
+    fn both_ways_are_one() {
+        let bytes: Vec<u8> = (0..64_000u32).map(|i| (i * i / 7 + i) as u8).collect();
+        let (mut one, mut other) = (START, START);
+        bytes.chunks_exact(BLOCK).for_each(|b| block(&mut one, b));
+        blocks(&mut other, &bytes);
+        assert_eq!(one, other);
     }
 
     #[test]

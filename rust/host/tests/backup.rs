@@ -135,6 +135,30 @@ fn abort_is_heard_between_two_steps() {
     assert_eq!(sound(&fs::read(&tape).unwrap()), Ok((moved / 32_768, moved)));
 }
 
+/// Whenever the client asks how far a backup is, the file is as far.
+#[test]
+fn bytes_that_are_told_as_moved_are_in_the_file() {
+    use std::os::unix::fs::FileExt;
+    let s = Scratch::new();
+    let (from, tape) = (s.path("from"), s.path("tape"));
+    fs::write(&from, noise(8, 60 << 20)).unwrap();
+    let host = Host::start(&tape, &["--new-cartridge", "64M", "--stream", from.to_str().unwrap()]);
+    let mut c = host.login();
+    c.begin(Mover::TO_TAPE, 32_768, 1 << 30).unwrap();
+    let file = fs::File::open(&tape).unwrap();
+    let mut asked = 0;
+    while c.notices.is_empty() {
+        let moved = c.moved().unwrap();
+        let mut head = [0; 16];
+        file.read_exact_at(&mut head, 0).unwrap();
+        assert!(word(&head, 12) as u64 >= moved, "{moved} bytes are told, and {} stored", word(&head, 12));
+        asked += (moved > 0) as u32;
+        std::thread::sleep(std::time::Duration::from_millis(2));
+    }
+    assert_eq!(c.run(0, |_| ()).unwrap().why, DONE);
+    assert!(asked > 1, "{asked}");
+}
+
 #[test]
 fn second_backup_behind_a_mark() {
     let s = Scratch::new();

@@ -381,15 +381,15 @@ fn sync_at_marks_only_where_that_is_asked_for() {
     // The connection's end, and the vault's.
     n = 0;
     c.tape_open(TO_WRITE).unwrap();
-    writes(&mut c, &mut n);
+    (0..2).for_each(|_| writes(&mut c, &mut n));
     drop(c);
     let mut c = host.login();
     tape_open_soon(&mut c, TO_WRITE);
-    assert_eq!(on_disk(), n);
+    assert_eq!((on_disk(), n), (20, 20));
     n = 0;
-    writes(&mut c, &mut n);
+    (0..3).for_each(|_| writes(&mut c, &mut n));
     let id = host.child.id().to_string();
     assert!(std::process::Command::new("kill").args(["-TERM", &id]).status().unwrap().success());
     assert_eq!(host.child.wait().unwrap().code(), Some(0));
-    assert_eq!(on_disk(), n);
+    assert_eq!((on_disk(), n), (30, 30));
 }

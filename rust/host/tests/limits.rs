@@ -87,7 +87,7 @@ fn wrong_logins_are_told_late_and_few() {
         // Day, time, who; no line of another's making, and not the password.
         let (stamp, rest) = line.split_at(20);
         assert!(stamp.starts_with("20") && stamp.ends_with('Z') && &stamp[10..11] == "T", "{line}");
-        assert!(rest.starts_with(" mossgoblin: session 1: wrong login as \"va\\\\nult"), "{line}");
+        assert!(rest.starts_with(" mossgoblin: session 1: wrong login as \"va\\nult"), "{line}");
         assert!(!line.contains("secret") && !line.contains('\u{202e}') && line.contains("from 127.0.0.1:"), "{line}");
     }
     // Two wrong ones and a right one.
