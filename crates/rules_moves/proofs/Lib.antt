@@ -1,7 +1,8 @@
 -- `Asking` has what a request shows and leaves of the register, `Moving` what a move shows and leaves, `Sequence` what holds over any
--- sequence of calls, `Counts` what the counts are after it, `Cases` the computed cases.
+-- sequence of calls, `Counts` what the counts are after it, `Modes` each call in the other's mode, `Cases` the computed cases.
 pub mod Asking
 pub mod Moving
 pub mod Sequence
 pub mod Counts
+pub mod Modes
 pub mod Cases

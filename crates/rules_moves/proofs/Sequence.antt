@@ -247,13 +247,13 @@ runs-sound w (e ∷ es) h k a = runs-sound (step e w) es (stepped w h e .kept) (
 unmoved : (code : ℕ) (k : Kept) → Unmoved k (silent code k)
 unmoved code k = record { reply = refl; notices = refl; next = refl }
 
-idle : (code : ℕ) (k : Kept) (dest : List ℕ) → Idle k dest (idling code k dest)
-idle code k dest = record { answer = unmoved code k; none = refl; dest-end = refl }
+pub idles : (code : ℕ) (k : Kept) (dest : List ℕ) → Idle k dest (idling code k dest)
+idles code k dest = record { answer = unmoved code k; none = refl; dest-end = refl }
 
 moved-guards : (k : Kept) (l : Lent) (dest : List ℕ) (mv : Move) (image dest′ : List ℕ)
     → let e = guarded (k .session) (l .room) (λ code. idling code k dest) (moved k l mv image dest′) in Guards k l (e .answer .code) (Idle k dest e)
 moved-guards k l dest mv image dest′ =
-    guards (λ (e : Moving). e .answer .code) (Idle k dest) k l _ _ (λ _. refl) (λ code. idle code k dest) (announced-carries k l mv image .code)
+    guards (λ (e : Moving). e .answer .code) (Idle k dest) k l _ _ (λ _. refl) (λ code. idles code k dest) (announced-carries k l mv image .code)
 
 pub moves-keep : MovesKeep
 unfolding movedToTape movedFromTape methodEnded

@@ -21,10 +21,13 @@ pub record Idle (k : Kept) (dest : List ℕ) (e : Moving) : Type 0 where
   pub none : e .count ≡ 0
   pub dest-end : e .dest ≡ dest
 
--- the code that is told: 1001 for an output that is too short, before 1002 for a broken session, and no other but 0; what is refused, and a
--- closed session, leaves everything, which is Left
+-- 1001 for an output that is too short, before 1002 for a broken session, and no other but 0
+abbrev pub codeTold : Kept → Lent → ℕ
+codeTold k l = choose (ltb (l .room) leastRoom) shortOutput (choose (keeps (k .session)) 0 brokenSession)
+
+-- the code that is told; what is refused, and a closed session, leaves everything, which is Left
 pub record Guards (k : Kept) (l : Lent) (told : ℕ) (Left : Type 0) : Type 0 where
-  pub code : told ≡ choose (ltb (l .room) leastRoom) shortOutput (choose (keeps (k .session)) 0 brokenSession)
+  pub code : told ≡ codeTold k l
   pub refused : (told ≡ 0 → ⊥) → Left
   pub over : k .session .closed ≡ true → Left
 

@@ -6,3 +6,4 @@ pub mod RecoverCases
 pub mod Sequence
 pub mod Keeping
 pub mod Counts
+pub mod Modes

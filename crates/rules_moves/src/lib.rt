@@ -10,6 +10,7 @@ ghost use Rattle.rules_moves.specs.RecoverCases.{RecoverCasesHold};
 ghost use Rattle.rules_moves.specs.Sequence.{WindowHolds};
 ghost use Rattle.rules_moves.specs.Keeping.{MovesKeep};
 ghost use Rattle.rules_moves.specs.Counts.{CountsHold};
+ghost use Rattle.rules_moves.specs.Modes.{EachItsMode};
 use rules::types::Data;
 use rules::types::Mover;
 use rules::types::Tape;
@@ -179,4 +180,9 @@ pub fn moves_keep()
 // No work: its contract is what bytes moved, bytes processed and the record number are after any sequence of moves.
 pub fn counts_hold()
     ensures { λ r. ⌜ CountsHold ⌝ }
+{}
+
+// No work: its contract is that each of the two moves does nothing in the other's mode.
+pub fn each_its_mode()
+    ensures { λ r. ⌜ EachItsMode ⌝ }
 {}
