@@ -121,13 +121,15 @@ struct mossgoblin_answer mossgoblin_request(struct mossgoblin_session session, c
 
 /* One move to tape, in a backup: `stream` is what waits of the stream, `last` whether nothing will follow it. At most one record is written to the image, and `count` bytes
  * of the stream are taken from its front. At the window's end or where the tape is full the mover pauses; an empty last part, or a damaged image, halts both ends.
- * Otherwise, and in any other state, nothing happens. A pause and a halt send their notices. */
+ * Otherwise nothing happens. A pause and a halt send their notices. It is lent no destination, and hands nothing over. In mode 1, and while the mover is not ACTIVE or
+ * the data end not ACTIVE in a backup, it does nothing: count and len are 0, and session and image stay. */
 struct mossgoblin_moved mossgoblin_move_to_tape(struct mossgoblin_session session, uint8_t *image, size_t image_len, const uint8_t *stream,
                                                 size_t stream_len, bool last, uint32_t time, uint8_t *out, size_t out_len);
 
 /* One move from tape, in a recover: of the record that the seek position is in, `count` bytes are written to the front of `dest`; its other bytes stay. The image is only read.
- * Outside the window, at a mark and at the tape's end the mover pauses; a damaged image or a record of another size halts both ends. With nothing left to read, no room, and in
- * any other state, nothing happens. */
+ * Outside the window, at a mark and at the tape's end the mover pauses; a damaged image or a record of another size halts both ends. With nothing left to read and with no room
+ * nothing happens. A pause and a halt send their notices. It is lent no stream. In mode 0, and while the mover is not ACTIVE or the data end not ACTIVE in a recover, it does
+ * nothing: count and len are 0, and session and destination stay. */
 struct mossgoblin_moved mossgoblin_move_from_tape(struct mossgoblin_session session, const uint8_t *image, size_t image_len, uint8_t *dest,
                                                   size_t dest_len, uint32_t time, uint8_t *out, size_t out_len);
 
