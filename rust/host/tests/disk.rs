@@ -140,13 +140,13 @@ fn disk_without_room_is_told_at_the_start() {
     shim.say("fail-allocate", ENOSPC);
     let mut command = serve(&tape);
     command.args(["--listen", "127.0.0.1:0", "--new-cartridge", "1M"]);
-    let done = shim.before(&mut command).output().unwrap();
+    let done = finished(shim.before(&mut command));
     let why = String::from_utf8(done.stderr).unwrap();
     assert!(done.status.code() == Some(1) && why.contains("No space left on device"), "{why}");
     assert_eq!(fs::read_dir(&s.0).unwrap().count(), 2, "nothing is left but the shim");
     // And of a cartridge that is there, but has not all its blocks.
     drop(Host::start(&tape, &["--new-cartridge", "1M"]));
-    let done = shim.before(serve(&tape).args(["--listen", "127.0.0.1:0"])).output().unwrap();
+    let done = finished(shim.before(serve(&tape).args(["--listen", "127.0.0.1:0"])));
     assert!(String::from_utf8(done.stderr).unwrap().contains("No space left on device"));
 }
 

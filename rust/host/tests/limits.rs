@@ -104,11 +104,9 @@ fn wrong_logins_are_told_late_and_few() {
 fn empty_accounts_are_refused() {
     let s = Scratch::new();
     for account in [":", ":noon", "vault:"] {
-        let done = program()
-            .args(["serve", "--listen=127.0.0.1:0", "--new-cartridge=1M", "--account", account, "--cartridge"])
-            .arg(s.path("tape"))
-            .output()
-            .unwrap();
+        let mut command = program();
+        command.args(["serve", "--listen=127.0.0.1:0", "--new-cartridge=1M", "--account", account, "--cartridge"]);
+        let done = finished(command.arg(s.path("tape")));
         let why = String::from_utf8(done.stderr).unwrap();
         assert!(done.status.code() == Some(2) && why.contains("empty id or password"), "{why}");
     }

@@ -15,7 +15,7 @@ fn text_of(path: &Path) -> &str {
 
 /// Standard error of a start that must fail with 1.
 fn refused(cartridge: &Path, more: &[&str]) -> String {
-    let done = serve(cartridge).args(ANY).args(more).output().unwrap();
+    let done = finished(serve(cartridge).args(ANY).args(more));
     assert_eq!(done.status.code(), Some(1));
     String::from_utf8(done.stderr).unwrap()
 }
@@ -233,7 +233,10 @@ fn file_is_restored_whole_or_not_at_all() {
     changed[20_000] ^= 4;
     let mut headless = whole.clone();
     headless[..1_024].fill(b'x');
-    for bytes in [&whole[..10_240], &whole[..1_000], &changed, &headless] {
+    // Changed at its start and cut short as well.
+    let mut both = whole[..10_240].to_vec();
+    both[3] ^= 1;
+    for bytes in [&whole[..10_240], &whole[..1_000], &changed, &headless, &both] {
         let blank = s.path("blank");
         let _ = fs::remove_file(&blank);
         let host = Host::start(&blank, &["--new-cartridge", "1M", "--restore-to", text_of(&to)]);

@@ -6,7 +6,7 @@ use std::path::Path;
 
 /// The exit code and standard error of a start that must fail.
 fn failed(cartridge: &Path, more: &[&str]) -> (i32, String) {
-    let done = serve(cartridge).args(more).output().unwrap();
+    let done = finished(serve(cartridge).args(more));
     assert!(done.stdout.is_empty());
     (done.status.code().unwrap(), String::from_utf8(done.stderr).unwrap())
 }

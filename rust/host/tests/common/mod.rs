@@ -6,7 +6,7 @@ pub use proved::{Data, Mover, codes};
 use std::fs;
 use std::ops::{Deref, DerefMut};
 use std::path::{Path, PathBuf};
-use std::process::Command;
+use std::process::{Command, Output, Stdio};
 use std::time::Duration;
 pub use wire::message::*;
 pub use wire::{quad, quads, request, text, word, words};
@@ -49,6 +49,16 @@ pub fn serve(cartridge: &Path) -> Command {
     let mut command = program();
     command.args(["serve", "--account", "vault:noon", "--cartridge"]).arg(cartridge);
     command
+}
+
+/// What a command that ends by itself did; one that goes on for ten seconds has failed.
+pub fn finished(command: &mut Command) -> Output {
+    let mut child = command.stdout(Stdio::piped()).stderr(Stdio::piped()).spawn().unwrap();
+    if soon(|| child.try_wait().unwrap()).is_none() {
+        child.kill().unwrap();
+        panic!("goes on: {command:?}");
+    }
+    child.wait_with_output().unwrap()
 }
 
 pub struct Host(Running);
