@@ -281,9 +281,11 @@ impl Client {
         if word_at(&state, 12) != Some(Data::HALTED) {
             self.good(DATA_ABORT, b"")?;
         }
-        self.notices.clear();
         self.good(DATA_STOP, b"")?;
-        self.good(MOVER_STOP, b"").map(drop)
+        self.good(MOVER_STOP, b"")?;
+        // Those of the abort stand behind its reply.
+        self.notices.clear();
+        Ok(())
     }
 
     /// Opens the tape, joins both ends and starts a backup or a recover, by the mover's mode.

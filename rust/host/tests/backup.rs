@@ -187,6 +187,47 @@ fn second_backup_behind_a_mark() {
     assert_eq!(tree(&from), tree(&to));
 }
 
+/// Clients write marks between the windows of a backup, and go on behind them in a recover.
+#[test]
+fn recover_goes_on_behind_a_mark() {
+    let s = Scratch::new();
+    let (from, to, tape) = (s.path("from"), s.path("to"), s.path("tape"));
+    fs::write(&from, noise(5, 5_000)).unwrap();
+    fs::write(&to, b"stood there").unwrap();
+    let options = ["--new-cartridge", "1M", "--stream", from.to_str().unwrap(), "--restore-to", to.to_str().unwrap()];
+    let host = Host::start(&tape, &options);
+    let mut c = host.login();
+    c.begin(Mover::TO_TAPE, 1_024, 2_048).unwrap();
+    let mut windows = 1;
+    while c.notice().unwrap().header.message == NOTIFY_MOVER_PAUSED {
+        c.good(TAPE_MTIO, &words(&[codes::WRITE_MARKS, 2])).unwrap();
+        let moved = c.moved().unwrap();
+        c.window(moved, 2_048).unwrap();
+        c.good(MOVER_CONTINUE, b"").unwrap();
+        windows += 1;
+    }
+    c.finish().unwrap();
+    assert!(windows > 3, "{windows}");
+    for goes_on in [false, true] {
+        c.begin(Mover::FROM_TAPE, 1_024, 1_024_000).unwrap();
+        let mut marks = 0;
+        while c.run(0, |_| ()).unwrap().why == Why::Paused(Mover::END_OF_FILE) {
+            // Nothing is told as whole here, and nothing has its name.
+            assert_eq!(fs::read(&to).unwrap(), b"stood there");
+            marks += 1;
+            if !goes_on {
+                break;
+            }
+            let moved = c.moved().unwrap();
+            c.window(moved, 1_024_000).unwrap();
+            c.good(MOVER_CONTINUE, b"").unwrap();
+        }
+        assert_eq!(marks, if goes_on { 2 * (windows - 1) } else { 1 });
+        c.finish().unwrap();
+    }
+    assert_eq!(fs::read(&to).unwrap(), noise(5, 5_000));
+}
+
 #[test]
 fn nothing_to_read_or_write_ends_the_method() {
     let s = Scratch::new();
