@@ -80,7 +80,7 @@ fn wrong_logins_are_told_late_and_few() {
         c.expect(CONNECT_CLIENT_AUTH, &login("va\nult\u{202e}"), codes::NOT_AUTHORIZED).unwrap();
         assert!(begun.elapsed() >= Duration::from_millis(900));
     }
-    assert!(c.receive().is_err(), "closed");
+    closed(&mut c);
     let lines = fs::read_to_string(&log).unwrap();
     assert_eq!(lines.lines().count(), 3, "{lines}");
     for line in lines.lines() {

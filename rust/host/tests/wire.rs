@@ -49,15 +49,6 @@ fn fragments_are_joined() {
     }
 }
 
-/// The host ends the connection, and not the client's patience.
-fn closed(c: &mut Client) {
-    let kinds = [ErrorKind::UnexpectedEof, ErrorKind::ConnectionReset, ErrorKind::BrokenPipe];
-    match c.receive() {
-        Err(host::client::Error::Connection(e)) if kinds.contains(&e.kind()) => {}
-        other => panic!("still open: {other:?}"),
-    }
-}
-
 #[test]
 fn longest_record_and_one_byte_more() {
     let s = Scratch::new();

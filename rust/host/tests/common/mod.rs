@@ -4,6 +4,7 @@ pub use host::client::{Client, Ended, TO_READ, TO_WRITE, Why};
 pub use host::own::{Running, noise};
 pub use proved::{Data, Mover, codes};
 use std::fs;
+use std::io::ErrorKind;
 use std::ops::{Deref, DerefMut};
 use std::path::{Path, PathBuf};
 use std::process::{Command, Output, Stdio};
@@ -116,6 +117,15 @@ impl Host {
             Some(client)
         })
         .expect("every connection is turned away")
+    }
+}
+
+/// The host ends the connection, and not the client's patience.
+pub fn closed(c: &mut Client) {
+    let kinds = [ErrorKind::UnexpectedEof, ErrorKind::ConnectionReset, ErrorKind::BrokenPipe];
+    match c.receive() {
+        Err(host::client::Error::Connection(e)) if kinds.contains(&e.kind()) => {}
+        other => panic!("still open: {other:?}"),
     }
 }
 
