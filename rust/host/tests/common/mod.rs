@@ -8,7 +8,7 @@ use std::io::ErrorKind;
 use std::ops::{Deref, DerefMut};
 use std::path::{Path, PathBuf};
 use std::process::{Command, Output, Stdio};
-use std::time::Duration;
+use std::time::{Duration, Instant};
 pub use wire::message::*;
 pub use wire::{quad, quads, request, text, word, words};
 
@@ -147,11 +147,15 @@ pub fn told(log: &Path, parts: &[&str]) {
     soon(has).unwrap_or_else(|| panic!("{parts:?} is not all in {}", fs::read_to_string(log).unwrap()));
 }
 
-/// What is there within ten seconds, however busy the machine is.
+/// What is there within ten seconds, or at one of three looks, however busy the machine is.
 pub fn soon<T>(mut ask: impl FnMut() -> Option<T>) -> Option<T> {
-    for _ in 0..500 {
+    let begun = Instant::now();
+    for look in 1.. {
         if let Some(x) = ask() {
             return Some(x);
+        }
+        if look >= 3 && begun.elapsed() >= Duration::from_secs(10) {
+            break;
         }
         std::thread::sleep(Duration::from_millis(20));
     }
