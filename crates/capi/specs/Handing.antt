@@ -10,7 +10,7 @@ use Rattle.xdr.specs.Choose.{choose}
 use Rattle.xdr.specs.Xdr.{overlay}
 use Rattle.tape_ops.specs.declared.Part.{Part}
 use Rattle.tape_ops.specs.Operations.{part, readPart}
-use Rattle.tape_ops.specs.Promises.{bytesOf}
+use Rattle.tape_ops.specs.Promises.{spanOf}
 
 -- the buffer o is shorter than the bytes that are read
 abbrev pub tooShort : List ℕ → ℕ → ℕ → List ℕ → Bool
@@ -22,7 +22,7 @@ handedPart l p times o = choose (tooShort l p times o) (part shortOutput p 0 0) 
 
 -- the buffer after it: the bytes at its front, or all as it was
 unfoldable pub handedOut : List ℕ → ℕ → ℕ → List ℕ → List ℕ
-handedOut l p times o = choose (tooShort l p times o) o (overlay 0 (bytesOf l p times) o)
+handedOut l p times o = choose (tooShort l p times o) o (overlay 0 (spanOf l p times) o)
 
 -- the code gave r and left the buffer o′
 pub record Handed (l : List ℕ) (p times : ℕ) (o : List ℕ) (r : Part) (o′ : List ℕ) : Type 0 where

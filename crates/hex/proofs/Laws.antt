@@ -1,4 +1,4 @@
--- The laws of `held`: what the reader knows at a place of the text (`Reading`), and what each turn makes of it. Assumes nothing.
+-- The laws of `hexHeld`: what the reader knows at a place of the text (`Reading`), and what each turn makes of it. Assumes nothing.
 use Prim.Native.Nat.{ℕ, suc, _+_, _-_, _*_, _≤_, _<_}
 use native.Mathlib.Numerals.{add-one}
 use native.Mathlib.Omega.{arith}
@@ -11,7 +11,7 @@ use lib.Dec.{leb, eqb}
 use borrow.Author.Tests.{le-leb, lt-leb, eq-eqb, ne-eqb}
 use Rattle.xdr.specs.Choose.{choose}
 use Rattle.xdr.proofs.Tests.{leb-yes, leb-no, pick-if, pick-else}
-use Rattle.hex.specs.Hex.{digitOf, pairOf, blankOf, Held, bytes, other, more, after, held, saidOf, Reads}
+use Rattle.hex.specs.Hex.{digitOf, pairOf, blankOf, HexHeld, bytes, other, more, putBefore, hexHeld, saidOf, Reads}
 use Rattle.hex.specs.declared.Decoded.{Decoded}
 use Rattle.hex.specs.declared.Decoded.the-variants.{Bytes, NotHex, NoRoom}
 
@@ -30,40 +30,40 @@ module _ (a b : ℕ) {v : ℕ} (e : v ≡ digitOf a) where
     unfolding pairOf
     pair-both h = pick-else _ (leb-no (rw e at t)) (pick-else _ (leb-no (rw f at h)) (cc))
 
-after-none : (h : Held) → h ≡ after [] h
-unfolding after
+after-none : (h : HexHeld) → h ≡ putBefore [] h
+unfolding putBefore
 after-none (bytes m) = refl
 after-none other = refl
 after-none more = refl
 
-after-both : (l m : List ℕ) (h : Held) → after l (after m h) ≡ after (l ++ m) h
-unfolding after
+after-both : (l m : List ℕ) (h : HexHeld) → putBefore l (putBefore m h) ≡ putBefore (l ++ m) h
+unfolding putBefore
 after-both l m (bytes k) = ap bytes (sym (append-assoc l m k))
 after-both l m other = refl
 after-both l m more = refl
 
-blank-first : (room a : ℕ) (l : List ℕ) → blankOf a ≡ true → held room (a ∷ l) ≡ held room l
-unfolding held choose
+blank-first : (room a : ℕ) (l : List ℕ) → blankOf a ≡ true → hexHeld room (a ∷ l) ≡ hexHeld room l
+unfolding hexHeld choose
 blank-first room a [] e = rw e
 blank-first room a (b ∷ l) e = rw e
 
 -- ---- what the text holds from a place on, by what stands there. `h` is what the whole holds: the bytes `l`, then what is left.
-module _ (text : List ℕ) (i room : ℕ) (l : List ℕ) {h : Held} (e : h ≡ after l (held room (drop i text))) where
+module _ (text : List ℕ) (i room : ℕ) (l : List ℕ) {h : HexHeld} (e : h ≡ putBefore l (hexHeld room (drop i text))) where
   held-end : length text ≤ i → bytes l ≡ h
-  unfolding held after
-  held-end k = let d : after l (held room (drop i text)) ≡ bytes l = rw (drop-of-length-le text k, append-nil) in sym (e ∙ d)
+  unfolding hexHeld putBefore
+  held-end k = let d : putBefore l (hexHeld room (drop i text)) ≡ bytes l = rw (drop-of-length-le text k, append-nil) in sym (e ∙ d)
 
-  held-blank : i < length text → blankOf (getD text i 0) ≡ true → h ≡ after l (held room (drop (i + 1) text))
+  held-blank : i < length text → blankOf (getD text i 0) ≡ true → h ≡ putBefore l (hexHeld room (drop (i + 1) text))
   held-blank k b =
-      let d : held room (drop i text) ≡ held room (drop (i + 1) text) = rw (add-one, drop-cons text i 0 k) (blank-first room _ _ b) in
-      e ∙ ap (after l) d
+      let d : hexHeld room (drop i text) ≡ hexHeld room (drop (i + 1) text) = rw (add-one, drop-cons text i 0 k) (blank-first room _ _ b) in
+      e ∙ ap (putBefore l) d
 
   held-half : i < length text → length text < i + 2 → blankOf (getD text i 0) ≡ false → other ≡ h
-  unfolding held choose after
+  unfolding hexHeld choose putBefore
   held-half k m b =
       let p : length text ≤ suc i = omega arith in
       let n : drop (suc i) text ≡ [] = drop-of-length-le text p in
-      let d : after l (held room (drop i text)) ≡ other = rw (drop-cons text i 0 k, n, b) in
+      let d : putBefore l (hexHeld room (drop i text)) ≡ other = rw (drop-cons text i 0 k, n, b) in
       sym (e ∙ d)
 
   module _ (k : i + 2 ≤ length text) (b : blankOf (getD text i 0) ≡ false) where
@@ -76,33 +76,33 @@ module _ (text : List ℕ) (i room : ℕ) (l : List ℕ) {h : Held} (e : h ≡ a
         rw (p, q, drop-cons text i 0 j, drop-cons text (suc i) 0 m)
 
     held-other : 256 ≤ pairOf (getD text i 0) (getD text (i + 1) 0) → other ≡ h
-    unfolding held choose after
-    held-other t = let d : after l (held room (drop i text)) ≡ other = rw (two, b, le-leb _ _ t) in sym (e ∙ d)
+    unfolding hexHeld choose putBefore
+    held-other t = let d : putBefore l (hexHeld room (drop i text)) ≡ other = rw (two, b, le-leb _ _ t) in sym (e ∙ d)
 
     held-more : pairOf (getD text i 0) (getD text (i + 1) 0) < 256 → room ≡ 0 → more ≡ h
-    unfolding held choose after
-    held-more t z = let d : after l (held room (drop i text)) ≡ more = rw (two, b, lt-leb _ _ t, eq-eqb room 0 z) in sym (e ∙ d)
+    unfolding hexHeld choose putBefore
+    held-more t z = let d : putBefore l (hexHeld room (drop i text)) ≡ more = rw (two, b, lt-leb _ _ t, eq-eqb room 0 z) in sym (e ∙ d)
 
     held-byte : pairOf (getD text i 0) (getD text (i + 1) 0) < 256 → 0 < room
-        → h ≡ after (l ++ (pairOf (getD text i 0) (getD text (i + 1) 0) ∷ [])) (held (room - 1) (drop (i + 2) text))
-    unfolding held choose
+        → h ≡ putBefore (l ++ (pairOf (getD text i 0) (getD text (i + 1) 0) ∷ [])) (hexHeld (room - 1) (drop (i + 2) text))
+    unfolding hexHeld choose
     held-byte t z =
         let p : room ≡ 0 → ⊥ = λ q. omega arith in
-        let d : held room (drop i text) ≡ after (pairOf (getD text i 0) (getD text (i + 1) 0) ∷ []) (held (room - 1) (drop (i + 2) text)) =
+        let d : hexHeld room (drop i text) ≡ putBefore (pairOf (getD text i 0) (getD text (i + 1) 0) ∷ []) (hexHeld (room - 1) (drop (i + 2) text)) =
         rw (two, b, lt-leb _ _ t, ne-eqb room 0 p) in
-        e ∙ (ap (after l) d ∙ after-both l _ _)
+        e ∙ (ap (putBefore l) d ∙ after-both l _ _)
 
 -- ---- what the reader knows before each turn: n bytes in front of the output, and from i on what is left, in the room that is left
 pub record Reading (text : List ℕ) (room : ℕ) (out : List ℕ) (i n : ℕ) : Type 0 where
   pub at : i ≤ length text
   pub fits : n ≤ room
   pub size : length out ≡ room
-  pub so : held room text ≡ after (take n out) (held (room - n) (drop i text))
+  pub so : hexHeld room text ≡ putBefore (take n out) (hexHeld (room - n) (drop i text))
 
 pub start : (text out : List ℕ) → Reading text (length out) out 0 0
 start text out =
     let z : length out - 0 ≡ length out = omega arith in
-    record { at = omega arith; fits = omega arith; size = refl; so = rw z (after-none (held (length out) text)) }
+    record { at = omega arith; fits = omega arith; size = refl; so = rw z (after-none (hexHeld (length out) text)) }
 
 module _ {text out : List ℕ} {i n room : ℕ} (r : Reading text room out i n) where
   pub all-read : length text ≤ i → Reads text room out (Bytes n)

@@ -3,7 +3,7 @@ use Prim.Native.Nat.{ℕ}
 use mathlib.Core.Path.{_≡_}
 use mathlib.Core.List.{List, [], _∷_, map}
 use lib.ListN.{replicate}
-use Rattle.hex.specs.Hex.{digitOf, Held, bytes, other, more, held}
+use Rattle.hex.specs.Hex.{digitOf, HexHeld, bytes, other, more, hexHeld}
 
 -- "0123456789abcdef"
 abbrev pub digits : List ℕ
@@ -20,9 +20,9 @@ others = 47 ∷ 58 ∷ 96 ∷ 103 ∷ 65 ∷ 32 ∷ 0 ∷ 255 ∷ []
 pub record HexCases : Type 0 where
   pub digit : map digitOf digits ≡ values
   pub none : map digitOf others ≡ replicate 8 16
-  pub pairs : held 2 (32 ∷ 48 ∷ 97 ∷ 32 ∷ 102 ∷ 57 ∷ 10 ∷ []) ≡ bytes (10 ∷ 249 ∷ [])
-  pub empty : held 0 [] ≡ bytes []
-  pub parted : held 2 (48 ∷ 32 ∷ 97 ∷ []) ≡ other
-  pub half : held 2 (48 ∷ []) ≡ other
-  pub not : held 2 (48 ∷ 103 ∷ []) ≡ other
-  pub room : held 1 (48 ∷ 97 ∷ 48 ∷ 98 ∷ 48 ∷ []) ≡ more
+  pub pairs : hexHeld 2 (32 ∷ 48 ∷ 97 ∷ 32 ∷ 102 ∷ 57 ∷ 10 ∷ []) ≡ bytes (10 ∷ 249 ∷ [])
+  pub empty : hexHeld 0 [] ≡ bytes []
+  pub parted : hexHeld 2 (48 ∷ 32 ∷ 97 ∷ []) ≡ other
+  pub half : hexHeld 2 (48 ∷ []) ≡ other
+  pub not : hexHeld 2 (48 ∷ 103 ∷ []) ≡ other
+  pub room : hexHeld 1 (48 ∷ 97 ∷ 48 ∷ 98 ∷ 48 ∷ []) ≡ more

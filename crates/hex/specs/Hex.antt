@@ -26,39 +26,39 @@ unfoldable pub blankOf : ℕ → Bool
 blankOf c = choose (eqb c 32) true (eqb c 10)
 
 -- what a text holds: its bytes, or something else than digits, or more bytes than there is room for, whichever comes first
-pub data Held : Type 0 where
-  bytes : List ℕ → Held
-  other : Held
-  more : Held
+pub data HexHeld : Type 0 where
+  bytes : List ℕ → HexHeld
+  other : HexHeld
+  more : HexHeld
 
 -- bytes that come before the others
-unfoldable pub after : List ℕ → Held → Held
-after l (bytes m) = bytes (l ++ m)
-after l other = other
-after l more = more
+unfoldable pub putBefore : List ℕ → HexHeld → HexHeld
+putBefore l (bytes m) = bytes (l ++ m)
+putBefore l other = other
+putBefore l more = more
 
 -- what a text holds, where there is room for so many bytes
-unfoldable pub held : ℕ → List ℕ → Held
-held room [] = bytes []
-held room (a ∷ []) = choose (blankOf a) (bytes []) other
-held room (a ∷ b ∷ l) =
-    choose (blankOf a) (held room (b ∷ l))
+unfoldable pub hexHeld : ℕ → List ℕ → HexHeld
+hexHeld room [] = bytes []
+hexHeld room (a ∷ []) = choose (blankOf a) (bytes []) other
+hexHeld room (a ∷ b ∷ l) =
+    choose (blankOf a) (hexHeld room (b ∷ l))
     (choose (leb 256 (pairOf a b)) other
     (choose (eqb room 0) more
-    (after (pairOf a b ∷ []) (held (room - 1) l))))
+    (putBefore (pairOf a b ∷ []) (hexHeld (room - 1) l))))
 
 -- what the answer says of the output that was written
-unfoldable pub saidOf : Decoded → List ℕ → Held
+unfoldable pub saidOf : Decoded → List ℕ → HexHeld
 saidOf (Bytes n) out = bytes (take n out)
 saidOf NotHex out = other
 saidOf NoRoom out = more
 
-abbrev pub countOf : Decoded → ℕ
-countOf (Bytes n) = n
-countOf NotHex = 0
-countOf NoRoom = 0
+abbrev pub decodedCount : Decoded → ℕ
+decodedCount (Bytes n) = n
+decodedCount NotHex = 0
+decodedCount NoRoom = 0
 
 -- the answer for a text and an output of a length, and the output as it is left
 pub record Reads (text : List ℕ) (room : ℕ) (out : List ℕ) (r : Decoded) : Type 0 where
-  pub same : saidOf r out ≡ held room text
-  pub within : countOf r ≤ room
+  pub same : saidOf r out ≡ hexHeld room text
+  pub within : decodedCount r ≤ room

@@ -17,7 +17,7 @@ use Rattle.rules.proofs.Keeping.{clash}
 use Rattle.rules_moves.specs.Sequence.{Event, Asked, ToTape, FromTape, Ended, Inserted, Renumbered, step, runs}
 use Rattle.rules_moves.proofs.Sequence.{stepped}
 use Rattle.rules_annex.specs.Aside.{Untouched}
-use Rattle.rules_annex.specs.RoundTrip.{filled, Backs}
+use Rattle.rules_annex.specs.RoundTrip.{filledUp, Backs}
 use Rattle.rules_annex.proofs.Calls.{WroteOne, Fed, stood, wrote, to-tape-fed, aside-stays}
 use Rattle.rules_annex.proofs.Used.{one-length, one-small, one-room}
 use Rattle.rules_annex.proofs.Records.{Holds, holds-more, pad-whole, pad-part}
@@ -25,13 +25,13 @@ use Rattle.rules_annex.proofs.Records.{Holds, holds-more, pad-whole, pa
 -- what was taken, what is left, and what stands on the tape
 pub record Backed (size : ℕ) (stream taken rest l : List ℕ) (p : ℕ) : Type 0 where
   pub joins : taken ++ rest ≡ stream
-  pub holds : Holds size l p (filled size taken)
+  pub holds : Holds size l p (filledUp size taken)
   -- until the stream's end only whole records are taken
   pub level : (rest ≡ [] → ⊥) → length taken ≡ p * size
 
 -- ---- bytes
-fill-more : (size k n : ℕ) (s b : List ℕ) → length s ≡ k * size → length b ≡ n → 1 ≤ n → n ≤ size → filled size s ++ fillTo b size ≡ filled size (s ++ b)
-unfolding filled fillTo
+fill-more : (size k n : ℕ) (s b : List ℕ) → length s ≡ k * size → length b ≡ n → 1 ≤ n → n ≤ size → filledUp size s ++ fillTo b size ≡ filledUp size (s ++ b)
+unfolding filledUp fillTo
 fill-more size k n s b e f some fits =
     let g : length (s ++ b) ≡ k * size + n = length-append s b ∙ rw (e, f) refl in
     rw (pad-whole size k (length s) e, append-nil, f, pad-part size k (length (s ++ b)) n g some fits, append-assoc) refl
@@ -60,12 +60,12 @@ module _ (size : ℕ) (stream taken rest : List ℕ) (p : ℕ) (l part : List �
     there : n ≤ length rest
     there = let p = part-long in let q = o .there in omega arith
 
-    holds-now : Holds size l′ (p + 1) (filled size (taken ++ take n rest))
+    holds-now : Holds size l′ (p + 1) (filledUp size (taken ++ take n rest))
     holds-now =
-        let e : filled size taken ++ fillTo (take n part) size ≡ filled size (taken ++ take n rest) =
+        let e : filledUp size taken ++ fillTo (take n part) size ≡ filledUp size (taken ++ take n rest) =
         rw same-taken (fill-more size p n taken (take n rest) taken-level (length-take-le n rest there) (o .some) (o .fits)) in
         rw (o .image, ← e)
-        (holds-more size l p (filled size taken) (fillTo (take n part) size) (b .holds) (one-length size p l part last l′ p′ n o)
+        (holds-more size l p (filledUp size taken) (fillTo (take n part) size) (b .holds) (one-length size p l part last l′ p′ n o)
         (one-small size p l part last l′ p′ n o) (one-room size p l part last l′ p′ n o))
 
     whole : (drop n rest ≡ [] → ⊥) → (b : Bool) → eqb n size ≡ b → n ≡ size
@@ -110,7 +110,7 @@ same-backed size stream taken rest w v s b = rw (s .image, s .position) b
 -- the tape holds the stream
 pub record Taped (size : ℕ) (stream : List ℕ) (w : Kept) : Type 0 where
   pub kept : keeps (w .session) ≡ true
-  pub holds : Holds size (w .image) (w .session .tape .position) (filled size stream)
+  pub holds : Holds size (w .image) (w .session .tape .position) (filledUp size stream)
 
 pub taped : (size : ℕ) (stream taken rest : List ℕ) (w : Kept) (es : List Event) → keeps (w .session) ≡ true
     → Backed size stream taken rest (w .image) (w .session .tape .position) → Backs size rest w es → Taped size stream (runs w es)

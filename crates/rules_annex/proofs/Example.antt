@@ -28,23 +28,23 @@ use Rattle.rules_moves.specs.Events.{movedToTape, movedFromTape}
 use Rattle.rules_moves.specs.Moves.{idle, streamEnds, scant, filling, toTape, outside, seekFrom, amount, reading, onFound, seeking, fromTape}
 use Rattle.rules_moves.specs.Sequence.{Asked, step, runs, isHeard, moverAsked, dataAsked, jointAsked, asked, moveShown, seen}
 use Rattle.rules_moves.specs.Counts.{trace, recordsIn, sum}
-use Rattle.rules_annex.specs.RoundTrip.{padding, filled, handedOver, moverNote, note, noted, askedAfter, endAfter}
-use Rattle.rules_annex.specs.Example.{call, blank, started, stream, backup, rewind, between, recover, ExampleHolds}
+use Rattle.rules_annex.specs.RoundTrip.{padding, filledUp, handedOver, moverNote, note, noted, askedAfter, endAfter}
+use Rattle.rules_annex.specs.Example.{call, blank, started, stream, backup, rewind, meanwhile, recover, ExampleHolds}
 use Rattle.rules_annex.proofs.Deciding.{untouched, asideRequest, aside, asides, asides-hold, atSize, lasts, backs, backs-hold, backs-feed, inTurn, recovers, recovers-hold}
 
 pub example-holds : ExampleHolds
 unfolding
     choose allOf be32 be32s word be64 hyper overlay sameBytes allZero opaqueAt opaque headerOk
     tableOk isSound faulty kept roomFor withEntry entryBytes written fillTo least writeStep mtioStep wellFramed
-    recordBytes look rowOf layout.textOf layout.partAt layout.prepend layout.andPart layout.andGot layout.partsAt layout.timesAt layout.single
-    layout.counted layout.fieldAt layout.first layout.andRead layout.readAs put puts summed scanned decoded connectBody tapeBody dataBody moverBody jointBody
+    recordBytes look rowOf layout.pieceOf layout.partAt layout.prepend layout.andPart layout.andGot layout.partsAt layout.timesAt layout.single
+    layout.counted layout.fieldAt layout.andValue layout.andRead layout.readAs put puts summed scanned decoded connectBody tapeBody dataBody moverBody jointBody
     opaques bodyBytes shapeOf headerError replyBytes guarded noticed outcome needsLogin isLocked verdict isUnread refusing settled isClose judged
     requested answered connectOpen matches clientAuth connectStep dump dataStart dataStop dataStep dataConnect jointStep judge onto isAccepted offsetWrong
     moverListen moverContinue moverStop moverRead busy elsewhere setWindow setSize moverStep pastTop dataJoined moverJoined holdsTape unwritable dataWrong
     numbersWrong windowWrong startWrong holdWrong strays resumeWrong placeWrong originWrong moverWrong sameFlag keeps tape0 tapeOpen isRefusal
     protects tapeMtio tapeWrite deviceStep tapeStep moverPartStep movedToTape movedFromTape idle streamEnds scant filling toTape
     outside seekFrom amount reading onFound seeking fromTape step runs isHeard moverAsked dataAsked jointAsked asked moveShown seen trace recordsIn sum
-    padding filled handedOver moverNote note noted askedAfter endAfter call blank
+    padding filledUp handedOver moverNote note noted askedAfter endAfter call blank
     untouched asideRequest aside asides atSize lasts backs inTurn recovers
 example-holds =
     record {
@@ -54,9 +54,9 @@ example-holds =
         empty = refl;
         backs = backs-hold 4 stream started backup refl;
         rewinds = record { heard = refl; request = refl; accepted = refl };
-        aside = asides-hold (step (Asked rewind) (runs started backup)) between refl;
+        aside = asides-hold (step (Asked rewind) (runs started backup)) meanwhile refl;
         rests = refl;
-        recovers = recovers-hold (length (filled 4 stream)) 0 (windowEnd 0 0) 0 (runs (step (Asked rewind) (runs started backup)) between) recover refl;
+        recovers = recovers-hold (length (filledUp 4 stream)) 0 (windowEnd 0 0) 0 (runs (step (Asked rewind) (runs started backup)) meanwhile) recover refl;
       };
       stands = refl;
       fed = backs-feed 4 stream started backup (backs-hold 4 stream started backup refl);

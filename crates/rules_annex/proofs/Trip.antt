@@ -17,7 +17,7 @@ use Rattle.rules.proofs.Keeping.{clash}
 use Rattle.rules_moves.specs.Sequence.{Event, Asked, ToTape, FromTape, Ended, Inserted, Renumbered, step, runs}
 use Rattle.rules_moves.proofs.Sequence.{stepped}
 use Rattle.rules_annex.specs.Aside.{Untouched, Aside, Asides}
-use Rattle.rules_annex.specs.RoundTrip.{filled, Backs, handedBy, handedOver, ComesOut}
+use Rattle.rules_annex.specs.RoundTrip.{filledUp, Backs, handedBy, handedOver, ComesOut}
 use Rattle.rules_annex.proofs.Calls.{aside-stays}
 use Rattle.rules_annex.proofs.Records.{holds-none, pad-whole}
 use Rattle.rules_annex.proofs.Backup.{Backed, taped, stuck}
@@ -26,8 +26,8 @@ use Rattle.rules_annex.proofs.Along.{Along}
 use Rattle.rules_annex.proofs.Recover.{holds-in, recovered}
 
 -- ---- before the backup nothing is taken
-fill-empty : (size : ℕ) → [] ≡ filled size []
-unfolding filled
+fill-empty : (size : ℕ) → [] ≡ filledUp size []
+unfolding filledUp
 fill-empty size = rw (pad-whole size 0 0 (sym (zero-mul size))) refl
 
 none-backed : (size : ℕ) (stream l : List ℕ) (p : ℕ) → Placed l p → count l ≡ 0 → Backed size stream [] stream l p
@@ -122,7 +122,7 @@ comes-out w size stream backup rewind times between first recover trip =
     backs-hands size stream w backup (Asked rewind ∷ (between ++ recover)) (trip .backs)
     ∙ asked-hands u rewind (between ++ recover)
     ∙ asides-hand v between recover (trip .aside)
-    ∙ recovered size (filled size stream) (u .session .tape .position) (trip .some) 0 (windowEnd 0 first) 0 x recover (s .kept)
-    (holds-in size (u .image) (x .image) (u .session .tape .position) (filled size stream) (s .image ∙ r .0) (b .holds))
+    ∙ recovered size (filledUp size stream) (u .session .tape .position) (trip .some) 0 (windowEnd 0 first) 0 x recover (s .kept)
+    (holds-in size (u .image) (x .image) (u .session .tape .position) (filledUp size stream) (s .image ∙ r .0) (b .holds))
     (rest-along size first (x .session .mover) (x .session .tape .position) (trip .some) (trip .rests) (s .position ∙ r .1))
     (trip .recovers)

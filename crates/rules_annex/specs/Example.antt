@@ -80,8 +80,8 @@ backup =
 abbrev pub rewind : Call
 rewind = call 0x303 (be32s (rewindTape ∷ 1 ∷ []))
 
-abbrev pub between : List Event
-between = asks 0x407 [] ∷ asks 0xA04 [] ∷ []
+abbrev pub meanwhile : List Event
+meanwhile = asks 0x407 [] ∷ asks 0xA04 [] ∷ []
 
 -- ---- the recover: window (0, 8), listen in mode 1, connect, start; a read of two bytes, and one of the other ten; SEEK; window (8, 4), continue
 abbrev pub recover : List Event
@@ -104,10 +104,10 @@ recover =
     ∷ []
 
 pub record ExampleHolds : Type 0 where
-  pub trip : Trip started 4 stream backup rewind 1 between 0 recover
+  pub trip : Trip started 4 stream backup rewind 1 meanwhile 0 recover
   -- the backup meets the premises of `UsedGrows` too
   pub stands : started .session .tape .position ≡ count (started .image)
   pub fed : Feeds 4 started backup
   pub records : sum recordsIn (trace started backup) ≡ 3
   pub uses : used (runs started backup .image) ≡ 12
-  pub out : handedOver started (calls backup rewind between recover) ≡ stream ++ (0 ∷ 0 ∷ [])
+  pub out : handedOver started (calls backup rewind meanwhile recover) ≡ stream ++ (0 ∷ 0 ∷ [])

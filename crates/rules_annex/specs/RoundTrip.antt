@@ -26,8 +26,8 @@ use Rattle.rules_annex.specs.Aside.{Aside, Asides, AtSize}
 unfoldable pub padding : ℕ → ℕ → ℕ
 padding size n = (size - n % size) % size
 
-unfoldable pub filled : ℕ → List ℕ → List ℕ
-filled size s = s ++ replicate (padding size (length s)) 0
+unfoldable pub filledUp : ℕ → List ℕ → List ℕ
+filledUp size s = s ++ replicate (padding size (length s)) 0
 
 -- ---- the backup: "a stream, only its end marked last, written to that end by any windows, pauses and continues"
 -- `rest` is what is left of the stream. Each part that is lent is the next of it, a part is marked last only where it reaches its end, and what a
@@ -146,7 +146,7 @@ pub record Trip (w : Kept) (size : ℕ) (stream : List ℕ) (backup : List Event
   -- already: `first` is its length, or 0.
   pub aside : Asides (step (Asked rewind) (runs w backup)) between
   pub rests : runs (step (Asked rewind) (runs w backup)) between .session .mover ≡ moverWindow 0 first (restMover size)
-  pub recovers : Recovers (length (filled size stream)) 0 (windowEnd 0 first) 0 (runs (step (Asked rewind) (runs w backup)) between) recover
+  pub recovers : Recovers (length (filledUp size stream)) 0 (windowEnd 0 first) 0 (runs (step (Asked rewind) (runs w backup)) between) recover
 
 -- all calls, in their order
 abbrev pub calls : List Event → Call → List Event → List Event → List Event
@@ -157,4 +157,4 @@ abbrev pub ComesOut : Type 0
 ComesOut =
     (w : Kept) (size : ℕ) (stream : List ℕ) (backup : List Event) (rewind : Call) (times : ℕ) (between : List Event) (first : ℕ) (recover : List Event)
     → Trip w size stream backup rewind times between first recover
-    → handedOver w (calls backup rewind between recover) ≡ filled size stream
+    → handedOver w (calls backup rewind between recover) ≡ filledUp size stream

@@ -35,13 +35,13 @@ use Rattle.rules.specs.Answer.{Kept, Lent, held, Answered, guarded, answered, r
 use Rattle.rules.specs.Answer.{Done, tapePart, withData, withTape, withChanger, withLogin, withEnds, requestIn}
 use Rattle.rules.proofs.JudgeLaws.{judged-by, accepts, accepts-any, refusal-says, carried}
 use Rattle.rules.proofs.Calls.{noticed-holds, close-is}
-use Rattle.rules_moves.specs.Sequence.{Seen, Sized, Windowed, Sought, MoverStopped, DataStopped, Began, Nothing, partsRegister, registerOf, after, Fits, isHeard}
+use Rattle.rules_moves.specs.Sequence.{Seen, Sized, Windowed, Sought, MoverStopped, DataStopped, Began, Nothing, partsRegister, registerOf, after, FitsRegister, isHeard}
 use Rattle.rules_moves.specs.Sequence.{moverAsked, dataAsked, jointAsked, asked}
 
 -- ---- the mover and the data end: what is shown makes the next register, and fits the one before
 module _ (d : Data) (m : Mover) where
   Shown : Seen → Data → Mover → Type 0
-  Shown x e n = (partsRegister e n ≡ after (partsRegister d m) x) × Fits (partsRegister d m) x
+  Shown x e n = (partsRegister e n ≡ after (partsRegister d m) x) × FitsRegister (partsRegister d m) x
 
   MoverShown : Seen → Reply → Mover → Type 0
   MoverShown x _ n = Shown x d n
@@ -146,7 +146,7 @@ module _ {X : Type 0} (none : X) (note : Request → X) (k : Kept) (l : Lent) (r
 -- ---- a request call
 module _ (k : Kept) (l : Lent) (r : List ℕ) where
   Left : Seen → Kept → Type 0
-  Left x n = (registerOf (n .session) ≡ after (registerOf (k .session)) x) × Fits (registerOf (k .session)) x
+  Left x n = (registerOf (n .session) ≡ after (registerOf (k .session)) x) × FitsRegister (registerOf (k .session)) x
 
   DoneLeft : Seen → Reply → Done → Type 0
   DoneLeft x _ d = Left x (d .kept)
@@ -182,7 +182,7 @@ module _ (k : Kept) (l : Lent) (r : List ℕ) where
   close-shows q e = rw (close-is q e) refl
 
   pub asked-left : let x = choose (isHeard k l r) (choose (isAccepted (verdict k l r (requestIn r))) (asked k (requestIn r)) Nothing) Nothing in
-      (registerOf (answered k l r .next .session) ≡ after (registerOf (k .session)) x) × Fits (registerOf (k .session)) x
+      (registerOf (answered k l r .next .session) ≡ after (registerOf (k .session)) x) × FitsRegister (registerOf (k .session)) x
   unfolding Left DoneLeft after
   asked-left =
       call-noted Nothing (asked k) k l r Left (λ _ _ _ h. h) (λ _ _ h. h) (refl, tt) (close-shows (requestIn r)) (outcome-left (requestIn r))

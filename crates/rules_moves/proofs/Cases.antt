@@ -27,7 +27,7 @@ use Rattle.rules.specs.Parts.{pastTop, toldIn, dataJoined, moverJoined, holdsTa
 use Rattle.rules.specs.Relation.{dataWrong, numbersWrong, windowWrong, startWrong, holdWrong, strays, resumeWrong, placeWrong}
 use Rattle.rules.specs.Relation.{originWrong, moverWrong, sameFlag, keeps}
 use Rattle.rules.specs.TapeService.{tape0, tapeOpen, isRefusal, protects, tapeState, tapeMtio, deviceStep, tapeStep, moverPartStep}
-use Rattle.rules_moves.specs.Cases.{bytesOf, wire, wide, runLine, run, notices, expect, streamed}
+use Rattle.rules_moves.specs.Cases.{wordsBytes, wire, wide, runLine, runCase, notices, expect, streamed}
 use Rattle.rules_moves.specs.Events.{movedToTape, movedFromTape, methodEnded}
 use Rattle.rules_moves.specs.Examples.{ExamplesHold}
 use Rattle.rules_moves.specs.RecoverCases.{RecoverCasesHold}
@@ -37,15 +37,15 @@ pub cases-hold : ExamplesHold × RecoverCasesHold
 unfolding
     choose allOf be32 be32s word be64 hyper overlay sameBytes allZero opaqueAt opaque
     entryBytes headerOk tableOk isSound faulty marksBefore recordsSince aheadOf passes positionAfter leftAfter stops walk spacing
-    kept roomFor withEntry written fillTo least mtioStep standingAt wellFramed recordBytes look rowOf layout.textOf layout.partAt layout.prepend
-    layout.andPart layout.andGot layout.partsAt layout.timesAt layout.single layout.counted layout.fieldAt layout.first layout.andRead
+    kept roomFor withEntry written fillTo least mtioStep standingAt wellFramed recordBytes look rowOf layout.pieceOf layout.partAt layout.prepend
+    layout.andPart layout.andGot layout.partsAt layout.timesAt layout.single layout.counted layout.fieldAt layout.andValue layout.andRead
     layout.readAs put puts summed scanned decoded connectBody tapeBody dataBody moverBody jointBody opaques bodyBytes shapeOf headerError
     replyBytes noticeNumber noticeWords noticeBytes guarded noticed outcome needsLogin isLocked verdict isUnread refusing settled
     isClose judged requested answered opening connectOpen matches clientAuth connectStep dump dataStart dataState dataStop
     dataStep dataConnect moverClose jointStep judge onto recordNumber moverState offsetWrong moverListen moverContinue moverStop
     busy elsewhere setWindow moverRead setSize moverStep pastTop toldIn dataJoined moverJoined holdsTape unwritable dataWrong
     numbersWrong windowWrong startWrong holdWrong strays resumeWrong placeWrong originWrong moverWrong sameFlag keeps tape0
-    tapeOpen isRefusal protects tapeState tapeMtio deviceStep tapeStep moverPartStep movedToTape movedFromTape methodEnded bytesOf
-    wire wide runLine run notices expect streamed idle streamEnds scant filling toTape outside seekFrom amount reading onFound
+    tapeOpen isRefusal protects tapeState tapeMtio deviceStep tapeStep moverPartStep movedToTape movedFromTape methodEnded wordsBytes
+    wire wide runLine runCase notices expect streamed idle streamEnds scant filling toTape outside seekFrom amount reading onFound
     seeking fromTape methodEnd
 cases-hold = (refl, refl)

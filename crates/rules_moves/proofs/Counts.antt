@@ -17,7 +17,7 @@ use Rattle.rules.specs.Relation.{keeps}
 use Rattle.rules.specs.Answer.{Kept}
 use Rattle.rules_moves.specs.Sequence.{Event, Asked, ToTape, FromTape, Ended, Inserted, Renumbered, step, runs}
 use Rattle.rules_moves.specs.Sequence.{Seen, Sized, Windowed, Sought, MoverStopped, DataStopped, Began, Paused, Wrote, Handed, Nothing}
-use Rattle.rules_moves.specs.Sequence.{Register, registerOf, after, seen, Fits, Legitimate, moveShown, countOf}
+use Rattle.rules_moves.specs.Sequence.{Register, registerOf, after, seen, FitsRegister, Legitimate, moveShown, countOf}
 use Rattle.rules_moves.specs.Counts.{trace, replay, movedBy, recordsIn, sum, IsMove, IsToTape, CountsOfMoves, CountsOfRecords, CountsHold}
 use Rattle.rules_moves.proofs.Sequence.{stepped, legitimate}
 
@@ -118,7 +118,7 @@ record Written (r : Register) (x : Seen) : Type 0 where
   size : after r x .size ≡ r .size
   moved : after r x .moved ≡ r .moved + recordsIn x * r .size
 
-one-record : (r : Register) (x : Seen) → Writes x → Fits r x → Legitimate r → Written r x
+one-record : (r : Register) (x : Seen) → Writes x → FitsRegister r x → Legitimate r → Written r x
 unfolding after recordsIn
 one-record r (Wrote n k) i f l =
     let e = f .exact in

@@ -28,7 +28,7 @@ use Rattle.rules_moves.specs.declared.Move.{Move}
 use Rattle.rules_moves.specs.declared.Found.{Found}
 use Rattle.rules_moves.specs.Moves.{still, pauses, halts, takes, hands, idle, streamEnds, scant, writing, filling, toTape}
 use Rattle.rules_moves.specs.Moves.{outside, ordinal, inRecord, seekFrom, amount, Handing, untouched, reading, onFound, sought, seeking, fromTape, methodEnd}
-use Rattle.rules_moves.specs.Sequence.{Seen, Wrote, Handed, Paused, Nothing, partsRegister, after, Fits, moveShown, imageAfter, HandedFrom, destAfter, countOf}
+use Rattle.rules_moves.specs.Sequence.{Seen, Wrote, Handed, Paused, Nothing, partsRegister, after, FitsRegister, moveShown, imageAfter, HandedFrom, destAfter, countOf}
 
 -- the relation, on the parts that a move may change
 pub record PartsKept (d : Data) (m : Mover) (t : Tape) : Type 0 where
@@ -58,12 +58,12 @@ module _ (m : Mover) (x : Seen) where
 
 -- a move's result: what is shown of it fits, the register after it, and the bytes told
 pub record Turn (d : Data) (m : Mover) (what : ℕ → Seen) (mv : Move) : Type 0 where
-  pub fits : Fits (partsRegister d m) (moveShown m (mv .mover) (mv .count) (what (mv .count)))
+  pub fits : FitsRegister (partsRegister d m) (moveShown m (mv .mover) (mv .count) (what (mv .count)))
   pub register : partsRegister (mv .source) (mv .mover) ≡ after (partsRegister d m) (moveShown m (mv .mover) (mv .count) (what (mv .count)))
   pub taken : mv .count ≡ countOf (moveShown m (mv .mover) (mv .count) (what (mv .count)))
 
 module _ (d : Data) (m : Mover) (what : ℕ → Seen) where
-  turn-by : (mv : Move) (x : Seen) → moveShown m (mv .mover) (mv .count) (what (mv .count)) ≡ x → Fits (partsRegister d m) x
+  turn-by : (mv : Move) (x : Seen) → moveShown m (mv .mover) (mv .count) (what (mv .count)) ≡ x → FitsRegister (partsRegister d m) x
       → partsRegister (mv .source) (mv .mover) ≡ after (partsRegister d m) x → mv .count ≡ countOf x → Turn d m what mv
   turn-by mv x e f r c = record { fits = rw e f; register = rw e r; taken = rw e c }
 

@@ -23,7 +23,7 @@ use Rattle.rules.proofs.Calls.{kept-facts, facts-kept, calls-keep}
 use Rattle.rules_moves.specs.declared.Move.{Move}
 use Rattle.rules_moves.specs.Moves.{Handing, toTape, fromTape, methodEnd}
 use Rattle.rules_moves.specs.Events.{Moving, idling, announced, moved, movedToTape, movedFromTape, methodEnded}
-use Rattle.rules_moves.specs.Sequence.{Event, Asked, ToTape, FromTape, Ended, Inserted, Renumbered, renumbered, step, runs, Wrote, Handed, registerOf, after, Fits, Legitimate}
+use Rattle.rules_moves.specs.Sequence.{Event, Asked, ToTape, FromTape, Ended, Inserted, Renumbered, renumbered, step, runs, Wrote, Handed, registerOf, after, FitsRegister, Legitimate}
 use Rattle.rules_moves.specs.Sequence.{toTapeShown, fromTapeShown, seen, imageAfter, destAfter, countOf, ToTapeLeaves, FromTapeLeaves, Leaves, Inside, finished, more, WindowHolds}
 use Rattle.rules_moves.specs.Keeping.{Idle, Guards, Sounds, MovesKeep}
 use Rattle.rules_moves.proofs.Asking.{asked-left}
@@ -77,7 +77,7 @@ module _ {A : Type 0} (code : A → ℕ) (Left : A → Type 0) (k : Kept) (l : L
 
 -- ---- a move to tape, as a call
 record ToCall (w : Kept) (stream : List ℕ) (e : Moving) : Type 0 where
-  fits : Fits (registerOf (w .session)) (toTapeShown (w .session .mover) e)
+  fits : FitsRegister (registerOf (w .session)) (toTapeShown (w .session .mover) e)
   register : registerOf (e .answer .next .session) ≡ after (registerOf (w .session)) (toTapeShown (w .session .mover) e)
   leaves : ToTapeLeaves w stream e
   kept : keeps (e .answer .next .session) ≡ true
@@ -121,7 +121,7 @@ module _ (w : Kept) (stream : List ℕ) (h : keeps (w .session) ≡ true) where
 
 -- ---- a move from tape, as a call
 record FromCall (w : Kept) (dest : List ℕ) (e : Moving) : Type 0 where
-  fits : Fits (registerOf (w .session)) (fromTapeShown (w .session .mover) e)
+  fits : FitsRegister (registerOf (w .session)) (fromTapeShown (w .session .mover) e)
   register : registerOf (e .answer .next .session) ≡ after (registerOf (w .session)) (fromTapeShown (w .session .mover) e)
   leaves : FromTapeLeaves (registerOf (w .session)) w dest e
   kept : keeps (e .answer .next .session) ≡ true
@@ -187,7 +187,7 @@ renumbered-kept n s h = h
 
 -- ---- any call
 pub record Stepped (w : Kept) (e : Event) : Type 0 where
-  pub fits : Fits (registerOf (w .session)) (seen e w)
+  pub fits : FitsRegister (registerOf (w .session)) (seen e w)
   pub register : registerOf (step e w .session) ≡ after (registerOf (w .session)) (seen e w)
   pub leaves : Leaves (registerOf (w .session)) w e
   pub kept : keeps (step e w .session) ≡ true

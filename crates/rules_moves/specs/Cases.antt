@@ -11,13 +11,13 @@ use Rattle.rules_moves.specs.Events.{Moving, movedToTape, movedFromTape,
 
 -- ---- the bytes of a record
 -- words, each of four bytes, the most significant first
-unfoldable pub bytesOf : List ℕ → List ℕ
-bytesOf [] = []
-bytesOf (v ∷ vs) = v / 0x100_0000 ∷ v / 0x1_0000 % 0x100 ∷ v / 0x100 % 0x100 ∷ v % 0x100 ∷ bytesOf vs
+unfoldable pub wordsBytes : List ℕ → List ℕ
+wordsBytes [] = []
+wordsBytes (v ∷ vs) = v / 0x100_0000 ∷ v / 0x1_0000 % 0x100 ∷ v / 0x100 % 0x100 ∷ v % 0x100 ∷ wordsBytes vs
 
 -- the mark; sequence, time stamp, type (0 request, 1 reply), message, reply sequence, error 0; the body, which is words
 unfoldable pub wire : ℕ → ℕ → ℕ → ℕ → ℕ → List ℕ → List ℕ
-wire sequence time kind message echo body = bytesOf ((0x8000_0018 + length (bytesOf body)) ∷ sequence ∷ time ∷ kind ∷ message ∷ echo ∷ 0 ∷ body)
+wire sequence time kind message echo body = wordsBytes ((0x8000_0018 + length (wordsBytes body)) ∷ sequence ∷ time ∷ kind ∷ message ∷ echo ∷ 0 ∷ body)
 
 -- two words that are a hyper
 unfoldable pub wide : ℕ → List ℕ
@@ -25,25 +25,25 @@ wide v = v / 0x1_0000_0000 ∷ v % 0x1_0000_0000 ∷ []
 
 -- ---- a line: what goes in, and what comes of it
 -- a notice: its number, and the words of its body
-pub data Told : Type 0 where
-  tell : ℕ → List ℕ → Told
+pub data Notified : Type 0 where
+  tell : ℕ → List ℕ → Notified
 
-pub data Line : Type 0 where
+pub data CaseLine : Type 0 where
   -- a request: its number and the words of its body; the words of the reply's body, and the notices behind it
-  Ask : ℕ → List ℕ → List ℕ → List Told → Line
+  Ask : ℕ → List ℕ → List ℕ → List Notified → CaseLine
   -- a move to tape: so many bytes of what is left of the stream, the last part or not; how many are taken, and the notices
-  Feed : ℕ → Bool → ℕ → List Told → Line
+  Feed : ℕ → Bool → ℕ → List Notified → CaseLine
   -- a move from tape: the length of the destination; the bytes handed over, and the notices
-  Fetch : ℕ → List ℕ → List Told → Line
+  Fetch : ℕ → List ℕ → List Notified → CaseLine
   -- the method's end, in success or not; the notices
-  End : Bool → List Told → Line
+  End : Bool → List Notified → CaseLine
   -- another cartridge is put in: the one taken out, as it should be by then, and the one that the calls which follow are handed
-  Insert : List ℕ → List ℕ → Line
+  Insert : List ℕ → List ℕ → CaseLine
 
 pub record Case : Type 0 where
   pub image : List ℕ
   pub stream : List ℕ
-  pub lines : List Line
+  pub lines : List CaseLine
   -- the cartridge and the tape's position at the end
   pub last : List ℕ
   pub position : ℕ
@@ -94,7 +94,7 @@ moving e stream = record { shown = showing (e .answer) (e .count) (e .dest); wor
 abbrev pub echoed : ℕ
 echoed = 7
 
-unfoldable pub runLine : World → Line → Ran
+unfoldable pub runLine : World → CaseLine → Ran
 runLine w (Ask message body reply notices) = calling w (answered (w .kept) lending (wire echoed 5 0 message 0 body))
 runLine w (Feed n last taken notices) =
     let e = movedToTape (w .kept) lending (take n (w .stream)) last in
@@ -105,29 +105,29 @@ runLine w (Insert out image) =
     let k = w .kept in
     record { shown = record { code = 0; sent = []; count = 0; dest = k .image }; world = record { kept = held (k .session) image; stream = w .stream } }
 
-unfoldable pub run : World → List Line → Final
-run w [] = record { shown = []; image = w .kept .image; position = w .kept .session .tape .position }
-run w (l ∷ ls) =
+unfoldable pub runCase : World → List CaseLine → Final
+runCase w [] = record { shown = []; image = w .kept .image; position = w .kept .session .tape .position }
+runCase w (l ∷ ls) =
     let n = runLine w l in
-    let r = run (n .world) ls in
+    let r = runCase (n .world) ls in
     record { shown = n .shown ∷ r .shown; image = r .image; position = r .position }
 
 abbrev pub played : Case → Final
 played c =
     let a = opening (lending .time) (lending .room) in
-    let r = run (record { kept = held (a .next .session) (c .image); stream = c .stream }) (c .lines) in
+    let r = runCase (record { kept = held (a .next .session) (c .image); stream = c .stream }) (c .lines) in
     record { shown = showing a 0 [] ∷ r .shown; image = r .image; position = r .position }
 
 -- ---- what they should give. "The vault numbers what it sends from 1": n is the next number
 -- notices: "type 0 with reply sequence 0"
-unfoldable pub notices : ℕ → List Told → List ℕ
+unfoldable pub notices : ℕ → List Notified → List ℕ
 notices n [] = []
 notices n (tell message body ∷ ts) = wire n stamp 0 message 0 body ++ notices (n + 1) ts
 
 abbrev pub shows : List ℕ → ℕ → List ℕ → Shown
 shows sent count dest = record { code = 0; sent = sent; count = count; dest = dest }
 
-unfoldable pub expect : ℕ → List Line → List Shown
+unfoldable pub expect : ℕ → List CaseLine → List Shown
 expect n [] = []
 expect n (Ask message body reply told ∷ ls) =
     shows (wire n stamp 1 message echoed reply ++ notices (n + 1) told) 0 [] ∷ expect (n + 1 + length told) ls
@@ -214,69 +214,69 @@ rew = 4
 
 -- ---- lines of the cases
 -- a request that gets the error word e and no more
-abbrev pub says : ℕ → List ℕ → ℕ → Line
+abbrev pub says : ℕ → List ℕ → ℕ → CaseLine
 says message body e = Ask message body (e ∷ []) []
 
 -- CONNECT open with version 4, and auth in text
-abbrev pub login : List Line
+abbrev pub login : List CaseLine
 login = says 0x900 (4 ∷ []) 0 ∷ says 0x901 (1 ∷ 1 ∷ 0x7600_0000 ∷ 2 ∷ 0x7077_0000 ∷ []) 0 ∷ []
 
-abbrev pub setSize : ℕ → Line
-setSize n = says 0xA08 (n ∷ []) 0
+abbrev pub sizeLine : ℕ → CaseLine
+sizeLine n = says 0xA08 (n ∷ []) 0
 
-abbrev pub setWindow : ℕ → ℕ → ℕ → Line
-setWindow offset length e = says 0xA05 (wide offset ++ wide length) e
+abbrev pub windowLine : ℕ → ℕ → ℕ → CaseLine
+windowLine offset length e = says 0xA05 (wide offset ++ wide length) e
 
 -- tape open of `tape0`: mode 0 reads, 1 also writes
-abbrev pub openTape : ℕ → Line
+abbrev pub openTape : ℕ → CaseLine
 openTape mode = says 0x300 (5 ∷ 0x7461_7065 ∷ 0x3000_0000 ∷ mode ∷ []) 0
 
 -- MTIO: operation and count; error and residue
-abbrev pub mtio : ℕ → ℕ → ℕ → ℕ → Line
+abbrev pub mtio : ℕ → ℕ → ℕ → ℕ → CaseLine
 mtio op n e residue = Ask 0x303 (op ∷ n ∷ []) (e ∷ residue ∷ []) []
 
 -- mover listen at LOCAL; the address told is LOCAL
-abbrev pub listen : ℕ → ℕ → Line
+abbrev pub listen : ℕ → ℕ → CaseLine
 listen mode e = Ask 0xA01 (mode ∷ 0 ∷ []) (e ∷ 0 ∷ []) []
 
 -- data connect at LOCAL
-abbrev pub connect : Line
-connect = says 0x40A (0 ∷ []) 0
+abbrev pub connectLine : CaseLine
+connectLine = says 0x40A (0 ∷ []) 0
 
 -- start backup by `dump` with no environment; start recover with no environment and no names, by `dump`
-abbrev pub startBackup : Line
+abbrev pub startBackup : CaseLine
 startBackup = says 0x401 (4 ∷ 0x6475_6D70 ∷ 0 ∷ []) 0
 
-abbrev pub startRecover : Line
+abbrev pub startRecover : CaseLine
 startRecover = says 0x402 (0 ∷ 0 ∷ 4 ∷ 0x6475_6D70 ∷ []) 0
 
 -- mover read, continue, stop; data stop
-abbrev pub read : ℕ → ℕ → Line
+abbrev pub read : ℕ → ℕ → CaseLine
 read offset length = says 0xA06 (wide offset ++ wide length) 0
 
-abbrev pub continue : Line
-continue = says 0xA02 [] 0
+abbrev pub continueLine : CaseLine
+continueLine = says 0xA02 [] 0
 
-abbrev pub stopMover : Line
+abbrev pub stopMover : CaseLine
 stopMover = says 0xA04 [] 0
 
-abbrev pub stopData : Line
+abbrev pub stopData : CaseLine
 stopData = says 0x407 [] 0
 
 -- mover paused: reason and seek position; "data first, mover second" where both halt
-abbrev pub pauses : ℕ → ℕ → List Told
-pauses why at = tell 0x504 (why ∷ wide at) ∷ []
+abbrev pub pauseNotices : ℕ → ℕ → List Notified
+pauseNotices why at = tell 0x504 (why ∷ wide at) ∷ []
 
-abbrev pub halts : ℕ → ℕ → List Told
-halts dwhy mwhy = tell 0x501 (dwhy ∷ []) ∷ tell 0x503 (mwhy ∷ []) ∷ []
+abbrev pub haltNotices : ℕ → ℕ → List Notified
+haltNotices dwhy mwhy = tell 0x501 (dwhy ∷ []) ∷ tell 0x503 (mwhy ∷ []) ∷ []
 
 -- mover close: its reply, then why each end halts
-abbrev pub closeMover : ℕ → ℕ → Line
-closeMover dwhy mwhy = Ask 0xA07 [] (0 ∷ []) (halts dwhy mwhy)
+abbrev pub closeMover : ℕ → ℕ → CaseLine
+closeMover dwhy mwhy = Ask 0xA07 [] (0 ∷ []) (haltNotices dwhy mwhy)
 
 -- the mover's state with its pause and halt reason: IDLE 0, ACTIVE 2, PAUSED 3, HALTED 4
-abbrev pub idle : List ℕ
-idle = 0 ∷ 0 ∷ 0 ∷ []
+abbrev pub moverIdleWords : List ℕ
+moverIdleWords = 0 ∷ 0 ∷ 0 ∷ []
 
 abbrev pub active : List ℕ
 active = 2 ∷ 0 ∷ 0 ∷ []
@@ -294,29 +294,29 @@ counts size number moved = size ∷ number ∷ wide moved
 abbrev pub reads : ℕ → ℕ → List ℕ
 reads at left = wide at ++ wide left
 
-abbrev pub window : ℕ → ℕ → List ℕ
-window offset length = wide offset ++ wide length
+abbrev pub windowWords : ℕ → ℕ → List ℕ
+windowWords offset length = wide offset ++ wide length
 
 -- mover get state; the address is LOCAL
-abbrev pub moverIs : ℕ → List ℕ → List ℕ → List ℕ → List ℕ → Line
+abbrev pub moverIs : ℕ → List ℕ → List ℕ → List ℕ → List ℕ → CaseLine
 moverIs mode state counted reading in-force = Ask 0xA00 [] (0 ∷ mode ∷ state ++ (counted ++ (reading ++ (in-force ++ (0 ∷ []))))) []
 
 -- the data end's state with its halt reason: IDLE 0, ACTIVE 1, HALTED 2
-abbrev pub dataIdle : List ℕ
-dataIdle = 0 ∷ 0 ∷ []
+abbrev pub dataIdleWords : List ℕ
+dataIdleWords = 0 ∷ 0 ∷ []
 
-abbrev pub dataActive : List ℕ
-dataActive = 1 ∷ 0 ∷ []
+abbrev pub dataActiveWords : List ℕ
+dataActiveWords = 1 ∷ 0 ∷ []
 
 abbrev pub dataHaltedFor : ℕ → List ℕ
 dataHaltedFor why = 2 ∷ why ∷ []
 
 -- data get state: what runs, state, bytes processed; its two estimates are marked unsupported (3), all else is zero
-abbrev pub dataIs : ℕ → List ℕ → ℕ → Line
+abbrev pub dataIs : ℕ → List ℕ → ℕ → CaseLine
 dataIs operation state processed = Ask 0x400 [] (3 ∷ 0 ∷ operation ∷ state ++ (wide processed ++ replicate 8 0)) []
 
 -- tape get state: file and block number
-abbrev pub tapeIs : ℕ → ℕ → Line
+abbrev pub tapeIs : ℕ → ℕ → CaseLine
 tapeIs file block = Ask 0x302 [] (0 ∷ 0 ∷ 0 ∷ file ∷ 0 ∷ 0 ∷ block ∷ 0 ∷ 0 ∷ 0 ∷ 0 ∷ []) []
 
 -- ---- streams and cartridges
@@ -327,4 +327,4 @@ streamed (suc n) i = i % 251 ∷ streamed n (i + 1)
 
 -- a cartridge: its words (1, C, n, bytes used, then length and start of each of C entries) and its body
 abbrev pub cartridge : List ℕ → List ℕ → List ℕ
-cartridge header body = bytesOf header ++ body
+cartridge header body = wordsBytes header ++ body

@@ -4,54 +4,54 @@ use mathlib.Core.Bool.{true, false}
 use mathlib.Core.List.{List, [], _∷_, _++_}
 use mathlib.Core.Path.{_≡_}
 use lib.ListN.{take, replicate}
-use Rattle.rules_moves.specs.Cases.{Line, Feed, Case, allPlayed, allWanted, toTapeMode, eow, connectClosed, successful, backupRuns, fsr}
-use Rattle.rules_moves.specs.Cases.{login, setSize, setWindow, openTape, mtio, listen, connect, startBackup, continue, pauses, halts}
-use Rattle.rules_moves.specs.Cases.{active, pausedFor, haltedFor, counts, reads, window, moverIs, dataActive, dataHaltedFor, dataIs, streamed, cartridge}
+use Rattle.rules_moves.specs.Cases.{CaseLine, Feed, Case, allPlayed, allWanted, toTapeMode, eow, connectClosed, successful, backupRuns, fsr}
+use Rattle.rules_moves.specs.Cases.{login, sizeLine, windowLine, openTape, mtio, listen, connectLine, startBackup, continueLine, pauseNotices, haltNotices}
+use Rattle.rules_moves.specs.Cases.{active, pausedFor, haltedFor, counts, reads, windowWords, moverIs, dataActiveWords, dataHaltedFor, dataIs, streamed, cartridge}
 
 -- "record size 1,024 where unsaid"
-abbrev pub prepared : List Line
-prepared = login ++ (setSize 1024 ∷ [])
+abbrev pub prepared : List CaseLine
+prepared = login ++ (sizeLine 1024 ∷ [])
 
 -- an empty cartridge: C 4, B 4,096
 abbrev pub blank : List ℕ
 blank = cartridge (1 ∷ 4 ∷ 0 ∷ 0 ∷ replicate 8 0) (replicate 4096 0)
 
 -- a case that leaves the cartridge, with the tape at its start
-abbrev pub asking : List Line → Case
+abbrev pub asking : List CaseLine → Case
 asking lines = record { image = blank; stream = []; lines = prepared ++ lines; last = blank; position = 0 }
 
 -- the same of one window, and the error it is answered
 abbrev pub windowCase : ℕ → ℕ → ℕ → Case
-windowCase offset length e = asking (setWindow offset length e ∷ [])
+windowCase offset length e = asking (windowLine offset length e ∷ [])
 
 -- g: "Window (0, 2048), stream of 3,000 bytes: two records, then EOW with nothing taken."
-abbrev pub linesG : List Line
+abbrev pub linesG : List CaseLine
 linesG =
     prepared
-    ++ (openTape 1 ∷ setWindow 0 2048 0 ∷ listen toTapeMode 0 ∷ connect ∷ startBackup
+    ++ (openTape 1 ∷ windowLine 0 2048 0 ∷ listen toTapeMode 0 ∷ connectLine ∷ startBackup
     ∷ Feed 3000 false 1024 []
-    ∷ moverIs toTapeMode active (counts 1024 1 1024) (reads 0 0) (window 0 2048) ∷ dataIs backupRuns dataActive 1024
+    ∷ moverIs toTapeMode active (counts 1024 1 1024) (reads 0 0) (windowWords 0 2048) ∷ dataIs backupRuns dataActiveWords 1024
     ∷ Feed 1976 false 1024 []
-    ∷ moverIs toTapeMode active (counts 1024 2 2048) (reads 0 0) (window 0 2048) ∷ dataIs backupRuns dataActive 2048
-    ∷ Feed 952 false 0 (pauses eow 0)
-    ∷ moverIs toTapeMode (pausedFor eow) (counts 1024 2 2048) (reads 0 0) (window 0 0) ∷ dataIs backupRuns dataActive 2048 ∷ [])
+    ∷ moverIs toTapeMode active (counts 1024 2 2048) (reads 0 0) (windowWords 0 2048) ∷ dataIs backupRuns dataActiveWords 2048
+    ∷ Feed 952 false 0 (pauseNotices eow 0)
+    ∷ moverIs toTapeMode (pausedFor eow) (counts 1024 2 2048) (reads 0 0) (windowWords 0 0) ∷ dataIs backupRuns dataActiveWords 2048 ∷ [])
 
 -- h: "Then (2048, 1024), continue, last 952 bytes: a record with 72 zeros; moved 3,072, processed 3,000."
-abbrev pub linesH : List Line
+abbrev pub linesH : List CaseLine
 linesH =
     linesG
-    ++ (setWindow 2048 1024 0 ∷ continue ∷ Feed 952 true 952 []
-    ∷ moverIs toTapeMode active (counts 1024 3 3072) (reads 0 0) (window 2048 1024) ∷ dataIs backupRuns dataActive 3000 ∷ [])
+    ++ (windowLine 2048 1024 0 ∷ continueLine ∷ Feed 952 true 952 []
+    ∷ moverIs toTapeMode active (counts 1024 3 3072) (reads 0 0) (windowWords 2048 1024) ∷ dataIs backupRuns dataActiveWords 3000 ∷ [])
 
 -- i: "Then an empty last part: halted, not EOW."
-abbrev pub linesI : List Line
+abbrev pub linesI : List CaseLine
 linesI =
     linesH
-    ++ (Feed 0 true 0 (halts successful connectClosed)
-    ∷ moverIs toTapeMode (haltedFor connectClosed) (counts 1024 3 3072) (reads 0 0) (window 2048 1024)
+    ++ (Feed 0 true 0 (haltNotices successful connectClosed)
+    ∷ moverIs toTapeMode (haltedFor connectClosed) (counts 1024 3 3072) (reads 0 0) (windowWords 2048 1024)
     ∷ dataIs backupRuns (dataHaltedFor successful) 3000 ∷ [])
 
-abbrev pub streaming : List Line → List ℕ → ℕ → Case
+abbrev pub streaming : List CaseLine → List ℕ → ℕ → Case
 streaming lines last position = record { image = blank; stream = streamed 3000 0; lines = lines; last = last; position = position }
 
 abbrev pub twoRecords : List ℕ
@@ -70,7 +70,7 @@ cases =
     windowCase 0 4096 0
     ∷ windowCase 512 4096 9
     -- c. "Writable tape open; window, then the same record size again, then listen: 26."
-    ∷ asking (openTape 1 ∷ setWindow 0 4096 0 ∷ setSize 1024 ∷ listen toTapeMode 26 ∷ [])
+    ∷ asking (openTape 1 ∷ windowLine 0 4096 0 ∷ sizeLine 1024 ∷ listen toTapeMode 26 ∷ [])
     -- d. "(0, 0) and (0, 1536): 9."
     ∷ windowCase 0 0 9
     ∷ windowCase 0 1536 9

@@ -232,17 +232,17 @@ pub record HandedInside (r : Register) (k : ℕ) : Type 0 where
   pub from : r .offset ≤ r .seek
   pub to : r .seek + k ≤ windowEnd (r .offset) (r .length)
 
-abbrev pub Fits : Register → Seen → Type 0
-Fits r (Wrote n k) = WroteInside r n k
-Fits r (Handed k) = HandedInside r k
-Fits r (Sized n) = Unit {0}
-Fits r (Windowed o n) = Unit {0}
-Fits r (Sought o n) = Unit {0}
-Fits r MoverStopped = Unit {0}
-Fits r DataStopped = Unit {0}
-Fits r (Began position) = Unit {0}
-Fits r Paused = Unit {0}
-Fits r Nothing = Unit {0}
+abbrev pub FitsRegister : Register → Seen → Type 0
+FitsRegister r (Wrote n k) = WroteInside r n k
+FitsRegister r (Handed k) = HandedInside r k
+FitsRegister r (Sized n) = Unit {0}
+FitsRegister r (Windowed o n) = Unit {0}
+FitsRegister r (Sought o n) = Unit {0}
+FitsRegister r MoverStopped = Unit {0}
+FitsRegister r DataStopped = Unit {0}
+FitsRegister r (Began position) = Unit {0}
+FitsRegister r Paused = Unit {0}
+FitsRegister r Nothing = Unit {0}
 
 -- a window in force is one that set window accepts for the record size in force: its offset and length are multiples of it
 abbrev pub Legitimate : Register → Type 0
@@ -328,7 +328,7 @@ Leaves r w (Renumbered n) = RenumberedLeaves n w (step (Renumbered n) w)
 pub record At (r : Register) (w : Kept) (e : Event) : Type 0 where
   pub register : registerOf (w .session) ≡ r
   pub window : Legitimate r
-  pub fits : Fits r (seen e w)
+  pub fits : FitsRegister r (seen e w)
   pub leaves : Leaves r w e
 
 pub data Inside : Register → Kept → List Event → Type 0 where

@@ -25,7 +25,7 @@ use Rattle.tape_ops.specs.declared.Wrote.{Wrote}
 use Rattle.tape_ops.specs.declared.Part.{Part}
 use Rattle.tape_ops.specs.Step.{Step, keeping}
 use Rattle.tape_ops.specs.Operations.{wrote, part, writeStep, readPart, entryPart, markStep, mtioStep}
-use Rattle.tape_ops.specs.Promises.{bytesOf, StaySound, Refused, Stand, Leave, PastEnd, ReadBack, FirstBytes, Promises}
+use Rattle.tape_ops.specs.Promises.{spanOf, StaySound, Refused, Stand, Leave, PastEnd, ReadBack, FirstBytes, TapePromises}
 
 -- ---- a sound image stays sound
 Kept : Step Wrote → Type 0
@@ -331,7 +331,7 @@ read-record m p times at small some below long =
 module _ (l : List ℕ) (p : ℕ) (b : List ℕ) (at : Placed l p) (some : 0 < length b) where
   pub record Back (m : List ℕ) : Type 0 where
     pub error : readPart m p (length b) .error ≡ 0
-    pub bytes : bytesOf m p (length b) ≡ b
+    pub bytes : spanOf m p (length b) ≡ b
     pub before : (i : ℕ) → i < p → entryBytes m i ≡ entryBytes l i
 
   written-back : length b ≤ longestRecord → Room l p (length b) → Back (written l p b)
@@ -363,7 +363,7 @@ module _ (l : List ℕ) (p : ℕ) (b : List ℕ) (at : Placed l p) (some : 0 < l
       (λ r _. written-back (ltb-false longestRecord (length b) s) (room-facts l p (length b) r))
       (λ _ h. absurd (omega arith)))))
 
-pub promises : Promises
+pub promises : TapePromises
 unfolding Kept Spaces InTape Writes Moves Same WriteStands MtioStands ReadStands ReadMark ReadEnd WriteMark WriteEnd MtioMark MtioEnd WritePast MtioPast First Returned
 promises =
     record {

@@ -13,8 +13,8 @@ use Rattle.tape_ops.specs.Step.{Step}
 use Rattle.tape_ops.specs.Operations.{writeStep, readPart, mtioStep, part}
 
 -- the bytes that a read hands out
-abbrev pub bytesOf : List ℕ → ℕ → ℕ → List ℕ
-bytesOf l p times = take (readPart l p times .len) (drop (readPart l p times .start) l)
+abbrev pub spanOf : List ℕ → ℕ → ℕ → List ℕ
+spanOf l p times = take (readPart l p times .len) (drop (readPart l p times .start) l)
 
 -- a sound image stays sound, and the position stays one of its tape
 pub record StaySound (l : List ℕ) (p : ℕ) : Type 0 where
@@ -41,12 +41,12 @@ pub record Leave (l : List ℕ) (p : ℕ) : Type 0 where
 -- a record of some bytes that was written at p is what a read at p gives, and what was read before p stays the same
 pub record ReadBack (l : List ℕ) (p : ℕ) (b : List ℕ) : Type 0 where
   pub error : readPart (writeStep l p b .image) p (length b) .error ≡ 0
-  pub bytes : bytesOf (writeStep l p b .image) p (length b) ≡ b
+  pub bytes : spanOf (writeStep l p b .image) p (length b) ≡ b
   pub before : (i : ℕ) → i < p → entryBytes (writeStep l p b .image) i ≡ entryBytes l i
 
 -- "a record gives its first count bytes": a read that is answered 0 hands out the start of the entry at p
 abbrev pub FirstBytes : List ℕ → ℕ → Type 0
-FirstBytes l p = (times : ℕ) → 0 < times → readPart l p times .error ≡ 0 → bytesOf l p times ≡ take times (entryBytes l p)
+FirstBytes l p = (times : ℕ) → 0 < times → readPart l p times .error ≡ 0 → spanOf l p times ≡ take times (entryBytes l p)
 
 -- "12, 13: tape outcomes": the image stays (`Leave`), and the tape stands after the mark that was passed, at the end that was met, or, where marks or
 -- a record find no room, where it was
@@ -69,7 +69,7 @@ pub record Past (l : List ℕ) (p : ℕ) : Type 0 where
   pub write : (b : List ℕ) → PastEnd l (writeStep l p b .image)
   pub mtio : (op times : ℕ) → PastEnd l (mtioStep l op p times .image)
 
-pub record Promises : Type 0 where
+pub record TapePromises : Type 0 where
   pub sound : (l : List ℕ) (p : ℕ) → Placed l p → StaySound l p
   pub leave : (l : List ℕ) (p : ℕ) → Leave l p
   pub stand : (l : List ℕ) (p : ℕ) → Stand l p

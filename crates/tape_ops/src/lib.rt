@@ -4,7 +4,7 @@ ghost use mathlib.Core.Path.{_≡_};
 ghost use Rattle.tape_image.specs.Sound.{Placed};
 ghost use Rattle.tape_ops.specs.Step.{Told};
 ghost use Rattle.tape_ops.specs.Operations.{writeStep, readPart, markStep, mtioStep, entryPart, standingAt};
-ghost use Rattle.tape_ops.specs.Promises.{Promises};
+ghost use Rattle.tape_ops.specs.Promises.{TapePromises};
 use tape_spacing::Spaced;
 
 // What a write gives: the error, the bytes written and the next position.
@@ -213,5 +213,5 @@ pub fn state(image: &[u8], position: usize) -> Standing
 
 // No work: its contract is the promises on the operations, so that the crate is proved only with them.
 pub fn promises_hold()
-    ensures { λ r. ⌜ Promises ⌝ }
+    ensures { λ r. ⌜ TapePromises ⌝ }
 {}

@@ -56,5 +56,5 @@ abbrev pub spacedRight : List SpacingCase → List Spaced
 spacedRight [] = []
 spacedRight (c ∷ cs) = c .gives ∷ spacedRight cs
 
-abbrev pub ExamplesHold : Type 0
-ExamplesHold = spacedBy spacingCases ≡ spacedRight spacingCases
+abbrev pub SpacingExamplesHold : Type 0
+SpacingExamplesHold = spacedBy spacingCases ≡ spacedRight spacingCases

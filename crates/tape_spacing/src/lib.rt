@@ -5,7 +5,7 @@ ghost use lib.ListN.{length};
 ghost use Rattle.tape_image.specs.Image.{mostEntries};
 ghost use Rattle.tape_image.specs.Sound.{Placed};
 ghost use Rattle.tape_spacing.specs.Spacing.{spacing, aheadOf, passes, positionAfter};
-ghost use Rattle.tape_spacing.specs.Examples.{ExamplesHold};
+ghost use Rattle.tape_spacing.specs.Examples.{SpacingExamplesHold};
 
 // Where a walk over the table ended: the error, the position and the residue.
 #[repr(C)]
@@ -100,5 +100,5 @@ pub fn space(image: &[u8], op: u32, position: usize, times: u32) -> Spaced
 
 // No work: its contract is the list of worked examples, so that the crate is proved only with them.
 pub fn examples_hold()
-    ensures { λ r. ⌜ ExamplesHold ⌝ }
+    ensures { λ r. ⌜ SpacingExamplesHold ⌝ }
 {}

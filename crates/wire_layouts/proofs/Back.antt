@@ -15,10 +15,10 @@ use Rattle.xdr_opaque.specs.Opaque.{opaqueAt}
 use Rattle.xdr_opaque.specs.Put.{opaque}
 use Rattle.xdr_opaque.proofs.Fields.{From, all-of, from-length, past, grouped, word-is, opaque-found, opaque-bytes, hyper-is}
 use Rattle.wire_layouts.specs.Layout.{Part, word, hyper, text, Field, one, many, tag, Item, four, eight, bytes, Value, value, itemBytes, valueBytes, writeAs, Piece}
-use Rattle.wire_layouts.specs.Layout.{piece, place, textOf, partAt, Got, got, cut, prepend, andPart, andGot, partsAt, timesAt, Given, given, single, counted, fieldAt}
-use Rattle.wire_layouts.specs.Layout.{Read, whole, before, broken, first, andRead, readAs}
+use Rattle.wire_layouts.specs.Layout.{piece, place, pieceOf, partAt, Got, got, cut, prepend, andPart, andGot, partsAt, timesAt, FieldGot, fieldGot, single, counted, fieldAt}
+use Rattle.wire_layouts.specs.Layout.{Read, whole, before, broken, andValue, andRead, readAs}
 use Rattle.wire_layouts.specs.Laws.{content, contents, PartFits, is-word, is-hyper, is-text, PartsFit, no-part, part-on, TimesFit, no-time, time-on, FieldFits, is-one}
-use Rattle.wire_layouts.specs.Laws.{is-many, is-tag, Fits, no-field, field-on, RoundTrip}
+use Rattle.wire_layouts.specs.Laws.{is-many, is-tag, FieldsFit, no-field, field-on, FieldsRoundTrip}
 use Rattle.wire_layouts.specs.declared.Text.{Text}
 
 abbrev itemsBytes : List (Item (List ℕ)) → List ℕ
@@ -44,9 +44,9 @@ module _ (b : List ℕ) where
     read : g ≡ got places (at + length (itemsBytes is))
     same : map (content b) places ≡ is
 
-  record FieldBack (at : ℕ) (v : Value (List ℕ)) (g : Given) : Type 0 where
+  record FieldBack (at : ℕ) (v : Value (List ℕ)) (g : FieldGot) : Type 0 where
     places : Value Text
-    read : g ≡ given (places .first) (places .others) (at + length (valueBytes v))
+    read : g ≡ fieldGot (places .first) (places .others) (at + length (valueBytes v))
     same : contents b places ≡ v
 
   -- to the end of what was written: whole where the body ends there
@@ -56,7 +56,7 @@ module _ (b : List ℕ) where
     same : map (contents b) places ≡ vs
 
   part-back : {p : Part} {i : Item (List ℕ)} → PartFits p i → (at : ℕ) (q : List ℕ) → From b at (itemBytes i ++ q) → PartBack at i (partAt p b at)
-  unfolding partAt choose textOf
+  unfolding partAt choose pieceOf
   part-back (is-word {v = v} h) at q f =
       let n : at + 4 ≤ length b = rw (from-length f, length-append, length-be32) (omega arith) in
       record { at-place = four v; read = rw (le-leb (at + 4) (length b) n, ← word-is q v f h, length-be32); same = refl }
@@ -92,7 +92,7 @@ module _ (b : List ℕ) where
   one-back : (at : ℕ) (i : Item (List ℕ)) {r : Piece} → PartBack at i r → FieldBack at (value i []) (single r)
   unfolding single flatMap
   one-back at i p =
-      record { places = value (p .at-place) []; read = ap single (p .read) ∙ ap (λ (j : List ℕ). given (p .at-place) [] (at + length j)) (sym (append-nil (itemBytes i))); same = cc (p .same) }
+      record { places = value (p .at-place) []; read = ap single (p .read) ∙ ap (λ (j : List ℕ). fieldGot (p .at-place) [] (at + length j)) (sym (append-nil (itemBytes i))); same = cc (p .same) }
 
   field-back : {f : Field} {v : Value (List ℕ)} → FieldFits f v → (at : ℕ) (q : List ℕ) → From b at (valueBytes v ++ q) → FieldBack at v (fieldAt f b at)
   unfolding fieldAt single counted choose flatMap
@@ -110,26 +110,26 @@ module _ (b : List ℕ) where
       let m : at + 4 ≡ at + length (xdr.be32 k ++ []) = rw (append-nil, length-be32) in
       record { places = value (four k) []; read = rw (le-leb (at + 4) (length b) n, ← e, eq-eqb k k refl, m); same = refl }
 
-  first-end : (v : Value Text) (t : Bool) (vs : List (Value Text)) → first v (choose t (whole vs) broken) ≡ choose t (whole (v ∷ vs)) broken
-  unfolding first choose
+  first-end : (v : Value Text) (t : Bool) (vs : List (Value Text)) → andValue v (choose t (whole vs) broken) ≡ choose t (whole (v ∷ vs)) broken
+  unfolding andValue choose
   first-end v true vs = refl
   first-end v false vs = refl
 
-  step-back : (at : ℕ) (v : Value (List ℕ)) (vs : List (Value (List ℕ))) {g : Given} (F : ℕ → Read)
+  step-back : (at : ℕ) (v : Value (List ℕ)) (vs : List (Value (List ℕ))) {g : FieldGot} (F : ℕ → Read)
       → FieldBack at v g → AllBack (at + length (valueBytes v)) vs (F (at + length (valueBytes v))) → AllBack at (v ∷ vs) (andRead g F)
   unfolding andRead writeAs flatMap
   step-back at v vs F r s =
       let e : at + length (valueBytes v) + length (writeAs vs) ≡ at + length (valueBytes v ++ writeAs vs) = omega (arith, length-append (valueBytes v) (writeAs vs)) in
       record { places = r .places ∷ s .places; read = rw (r .read, s .read, e) (first-end (r .places) _ (s .places)); same = cc (r .same, s .same) }
 
-  all-back : {fs : List Field} {vs : List (Value (List ℕ))} → Fits fs vs → (at : ℕ) (q : List ℕ) → From b at (writeAs vs ++ q) → AllBack at vs (readAs fs b at)
+  all-back : {fs : List Field} {vs : List (Value (List ℕ))} → FieldsFit fs vs → (at : ℕ) (q : List ℕ) → From b at (writeAs vs ++ q) → AllBack at vs (readAs fs b at)
   unfolding readAs andRead writeAs flatMap
   all-back no-field at q f = record { places = []; read = rw add-zero; same = refl }
   all-back (field-on {v = v} {vs = vs} h hs) at q f =
       let f₁ = grouped q (valueBytes v) (writeAs vs) f in
       step-back at v vs _ (field-back h at (writeAs vs ++ q) f₁) (all-back hs (at + length (valueBytes v)) q (past (valueBytes v) f₁))
 
-pub round-trip : RoundTrip
+pub round-trip : FieldsRoundTrip
 unfolding choose
 round-trip fs vs h =
     let w = writeAs vs in

@@ -19,10 +19,10 @@ use Rattle.xdr_opaque.specs.declared.Opaque.the-variants as Opaque
 use Rattle.wire_layouts.specs.declared.After.{After}
 use Rattle.wire_layouts.specs.declared.After.the-variants as After
 use Rattle.xdr_opaque.proofs.Laws.{word-within, word-missing}
-use Rattle.wire_layouts.specs.Layout.{Part, word, hyper, text, Field, one, many, tag, never, Item, four, eight, bytes, Value, value, place, Piece, piece, short, textOf}
-use Rattle.wire_layouts.specs.Layout.{partAt, Got, got, cut, prepend, andPart, andGot, partsAt, timesAt, Given, given, stop, bad, single, counted, fieldAt, Read, whole}
-use Rattle.wire_layouts.specs.Layout.{before, broken, first, andRead, readAs}
-use Rattle.wire_layouts.specs.Scans.{fieldOf, partOf, past, forget, seen, kept, put, puts, summed, scanned}
+use Rattle.wire_layouts.specs.Layout.{Part, word, hyper, text, Field, one, many, tag, never, Item, four, eight, bytes, Value, value, place, Piece, piece, short, pieceOf}
+use Rattle.wire_layouts.specs.Layout.{partAt, Got, got, cut, prepend, andPart, andGot, partsAt, timesAt, FieldGot, fieldGot, stop, bad, single, counted, fieldAt, Read, whole}
+use Rattle.wire_layouts.specs.Layout.{before, broken, andValue, andRead, readAs}
+use Rattle.wire_layouts.specs.Scans.{fieldOf, partOf, past, forget, fieldSeen, emptyScan, put, puts, summed, scanned}
 use Rattle.wire_layouts.specs.declared.Text.{Text}
 use Rattle.wire_layouts.specs.declared.Scan.{Scan}
 use Rattle.wire_layouts.specs.declared.Seen.{Seen}
@@ -86,70 +86,70 @@ module _ (ps : List Part) (b : List ℕ) (at : ℕ) where
   times-none zero h = refl
   times-none (suc n) h = absurd (not-suc-le-zero h)
 
-seen-counted : (n : ℕ) (g : Got) (x : ℕ) → After.Next x ≡ forget g → Seen.Word n x ≡ seen (counted n g)
-unfolding seen counted forget
+seen-counted : (n : ℕ) (g : Got) (x : ℕ) → After.Next x ≡ forget g → Seen.Word n x ≡ fieldSeen (counted n g)
+unfolding fieldSeen counted forget
 seen-counted n (got is y) x e = cc
 seen-counted n cut x e = let z : _≡_ {A = ℕ} 0 1 = cc in absurd (omega arith)
 
-seen-cut : (n : ℕ) (g : Got) → After.Short ≡ forget g → Seen.Bad ≡ seen (counted n g)
-unfolding seen counted forget
+seen-cut : (n : ℕ) (g : Got) → After.Short ≡ forget g → Seen.Bad ≡ fieldSeen (counted n g)
+unfolding fieldSeen counted forget
 seen-cut n (got is y) e = let z : _≡_ {A = ℕ} 0 1 = cc in absurd (omega arith)
 seen-cut n cut e = refl
 
 module _ (b : List ℕ) (at : ℕ) where
   -- ---- one field
-  pub sees-word : (v : ℕ) → Word.Value v ≡ o.wordAt b at → Seen.Word v (at + 4) ≡ seen (fieldAt (one word) b at)
-  unfolding seen fieldAt single partAt choose
+  pub sees-word : (v : ℕ) → Word.Value v ≡ o.wordAt b at → Seen.Word v (at + 4) ≡ fieldSeen (fieldAt (one word) b at)
+  unfolding fieldSeen fieldAt single partAt choose
   sees-word v e = let w = word-within b at v e in rw (le-leb (at + 4) (length b) (w .0), w .1)
 
-  pub misses-word : Word.Short ≡ o.wordAt b at → Seen.Bad ≡ seen (fieldAt (one word) b at)
-  unfolding seen fieldAt single partAt choose
+  pub misses-word : Word.Short ≡ o.wordAt b at → Seen.Bad ≡ fieldSeen (fieldAt (one word) b at)
+  unfolding fieldSeen fieldAt single partAt choose
   misses-word e = rw (lt-leb (at + 4) (length b) (word-missing b at e))
 
-  pub sees-hyper : (v : ℕ) → v ≡ xdr.hyper b at → at + 8 ≤ length b → Seen.Hyper v (at + 8) ≡ seen (fieldAt (one hyper) b at)
-  unfolding seen fieldAt single partAt choose
+  pub sees-hyper : (v : ℕ) → v ≡ xdr.hyper b at → at + 8 ≤ length b → Seen.Hyper v (at + 8) ≡ fieldSeen (fieldAt (one hyper) b at)
+  unfolding fieldSeen fieldAt single partAt choose
   sees-hyper v e h = rw (le-leb (at + 8) (length b) h, e)
 
-  pub misses-hyper : length b < at + 8 → Seen.Bad ≡ seen (fieldAt (one hyper) b at)
-  unfolding seen fieldAt single partAt choose
+  pub misses-hyper : length b < at + 8 → Seen.Bad ≡ fieldSeen (fieldAt (one hyper) b at)
+  unfolding fieldSeen fieldAt single partAt choose
   misses-hyper h = rw (lt-leb (at + 8) (length b) h)
 
-  pub sees-text : (s n x : ℕ) → Opaque.At s n x ≡ o.opaqueAt b at → Seen.Place s n x ≡ seen (fieldAt (one text) b at)
-  unfolding seen fieldAt single partAt textOf
+  pub sees-text : (s n x : ℕ) → Opaque.At s n x ≡ o.opaqueAt b at → Seen.Place s n x ≡ fieldSeen (fieldAt (one text) b at)
+  unfolding fieldSeen fieldAt single partAt pieceOf
   sees-text s n x e = rw (← e)
 
-  pub misses-text : Opaque.Bad ≡ o.opaqueAt b at → Seen.Bad ≡ seen (fieldAt (one text) b at)
-  unfolding seen fieldAt single partAt textOf
+  pub misses-text : Opaque.Bad ≡ o.opaqueAt b at → Seen.Bad ≡ fieldSeen (fieldAt (one text) b at)
+  unfolding fieldSeen fieldAt single partAt pieceOf
   misses-text e = rw (← e)
 
-  pub sees-tag : (k v : ℕ) → Word.Value v ≡ o.wordAt b at → v ≡ k → Seen.Word v (at + 4) ≡ seen (fieldAt (tag k) b at)
-  unfolding seen fieldAt choose
+  pub sees-tag : (k v : ℕ) → Word.Value v ≡ o.wordAt b at → v ≡ k → Seen.Word v (at + 4) ≡ fieldSeen (fieldAt (tag k) b at)
+  unfolding fieldSeen fieldAt choose
   sees-tag k v e h = let w = word-within b at v e in rw (le-leb (at + 4) (length b) (w .0), ← w .1, eq-eqb v k h)
 
-  pub stops : (k v : ℕ) → Word.Value v ≡ o.wordAt b at → (v ≡ k → ⊥) → Seen.Stop v ≡ seen (fieldAt (tag k) b at)
-  unfolding seen fieldAt choose
+  pub stops : (k v : ℕ) → Word.Value v ≡ o.wordAt b at → (v ≡ k → ⊥) → Seen.Stop v ≡ fieldSeen (fieldAt (tag k) b at)
+  unfolding fieldSeen fieldAt choose
   stops k v e h = let w = word-within b at v e in rw (le-leb (at + 4) (length b) (w .0), ← w .1, ne-eqb v k h)
 
-  pub misses-tag : (k : ℕ) → Word.Short ≡ o.wordAt b at → Seen.Bad ≡ seen (fieldAt (tag k) b at)
-  unfolding seen fieldAt choose
+  pub misses-tag : (k : ℕ) → Word.Short ≡ o.wordAt b at → Seen.Bad ≡ fieldSeen (fieldAt (tag k) b at)
+  unfolding fieldSeen fieldAt choose
   misses-tag k e = rw (lt-leb (at + 4) (length b) (word-missing b at e))
 
   -- ---- a counted list
   module _ (most : ℕ) (ps : List Part) where
-    pub misses-count : Word.Short ≡ o.wordAt b at → Seen.Bad ≡ seen (fieldAt (many most ps) b at)
-    unfolding seen fieldAt choose
+    pub misses-count : Word.Short ≡ o.wordAt b at → Seen.Bad ≡ fieldSeen (fieldAt (many most ps) b at)
+    unfolding fieldSeen fieldAt choose
     misses-count e = rw (lt-leb (at + 4) (length b) (word-missing b at e))
 
-    pub too-many : (n : ℕ) → Word.Value n ≡ o.wordAt b at → most < n → Seen.Bad ≡ seen (fieldAt (many most ps) b at)
-    unfolding seen fieldAt choose
+    pub too-many : (n : ℕ) → Word.Value n ≡ o.wordAt b at → most < n → Seen.Bad ≡ fieldSeen (fieldAt (many most ps) b at)
+    unfolding fieldSeen fieldAt choose
     too-many n e h = let w = word-within b at n e in rw (le-leb (at + 4) (length b) (w .0), ← w .1, lt-leb n most h)
 
     pub misses-list : (n : ℕ) → Word.Value n ≡ o.wordAt b at → n ≤ most
-        → After.Short ≡ forget (timesAt ps n b (at + 4)) → Seen.Bad ≡ seen (fieldAt (many most ps) b at)
+        → After.Short ≡ forget (timesAt ps n b (at + 4)) → Seen.Bad ≡ fieldSeen (fieldAt (many most ps) b at)
     unfolding fieldAt choose
     misses-list n e h k = let w = word-within b at n e in rw (le-leb (at + 4) (length b) (w .0), ← w .1, le-leb n most h) (seen-cut n (timesAt ps n b (at + 4)) k)
 
-    pub sees-list : (n x : ℕ) → Word.Value n ≡ o.wordAt b at → n ≤ most → After.Next x ≡ forget (timesAt ps n b (at + 4)) → Seen.Word n x ≡ seen (fieldAt (many most ps) b at)
+    pub sees-list : (n x : ℕ) → Word.Value n ≡ o.wordAt b at → n ≤ most → After.Next x ≡ forget (timesAt ps n b (at + 4)) → Seen.Word n x ≡ fieldSeen (fieldAt (many most ps) b at)
     unfolding fieldAt choose
     sees-list n x e h k = let w = word-within b at n e in rw (le-leb (at + 4) (length b) (w .0), ← w .1, le-leb n most h) (seen-counted n (timesAt ps n b (at + 4)) x k)
 
@@ -172,11 +172,11 @@ module _ (b : List ℕ) (at : ℕ) where
   short-hyper h = rw (lt-leb (at + 8) (length b) h)
 
   pub passes-text : (c s n x : ℕ) → (c ≡ 119 → ⊥) → (c ≡ 104 → ⊥) → Opaque.At s n x ≡ o.opaqueAt b at → After.Next x ≡ past (partAt (partOf c) b at)
-  unfolding past partAt textOf
+  unfolding past partAt pieceOf
   passes-text c s n x w h e = rw (ne-eqb c 119 w, ne-eqb c 104 h, ← e)
 
   pub short-text : (c : ℕ) → (c ≡ 119 → ⊥) → (c ≡ 104 → ⊥) → Opaque.Bad ≡ o.opaqueAt b at → After.Short ≡ past (partAt (partOf c) b at)
-  unfolding past partAt textOf
+  unfolding past partAt pieceOf
   short-text c w h e = rw (ne-eqb c 119 w, ne-eqb c 104 h, ← e)
 
 other-letter : (c : ℕ) → (c ≡ 119 → ⊥) → (c ≡ 104 → ⊥) → (c ≡ 116 → ⊥) → (c ≡ 112 → ⊥) → (c ≡ 110 → ⊥) → (c ≡ 97 → ⊥) → (c ≡ 117 → ⊥)
@@ -184,13 +184,13 @@ other-letter : (c : ℕ) → (c ≡ 119 → ⊥) → (c ≡ 104 → ⊥) → (c 
 other-letter c w h t p n a u = rw (ne-eqb c 119 w, ne-eqb c 104 h, ne-eqb c 116 t, ne-eqb c 112 p, ne-eqb c 110 n, ne-eqb c 97 a, ne-eqb c 117 u)
 
 pub unknown : (c : ℕ) (b : List ℕ) (at : ℕ) → (c ≡ 119 → ⊥) → (c ≡ 104 → ⊥) → (c ≡ 116 → ⊥) → (c ≡ 112 → ⊥) → (c ≡ 110 → ⊥) → (c ≡ 97 → ⊥)
-    → (c ≡ 117 → ⊥) → Seen.Bad ≡ seen (fieldAt (fieldOf c) b at)
-unfolding seen fieldAt
+    → (c ≡ 117 → ⊥) → Seen.Bad ≡ fieldSeen (fieldAt (fieldOf c) b at)
+unfolding fieldSeen fieldAt
 unknown c b at w h t p n a u = rw (← other-letter c w h t p n a u)
 
 -- ---- the scan
-summed-first : (i : ℕ) (k : Scan) (v : Value Text) (r : Read) → summed i k (first v r) ≡ summed (suc i) (put i (v .first) k) r
-unfolding summed first puts
+summed-first : (i : ℕ) (k : Scan) (v : Value Text) (r : Read) → summed i k (andValue v r) ≡ summed (suc i) (put i (v .first) k) r
+unfolding summed andValue puts
 summed-first i k v (whole vs) = refl
 summed-first i k v (before vs) = refl
 summed-first i k v broken = refl
@@ -201,13 +201,13 @@ carried i k F (Seen.Word v x) = summed (suc i) (put i (four v) k) (F x)
 carried i k F (Seen.Hyper v x) = summed (suc i) (put i (eight v) k) (F x)
 carried i k F (Seen.Place s n x) = summed (suc i) (put i (bytes (place s n)) k) (F x)
 carried i k F (Seen.Stop v) = put i (four v) k
-carried i k F Seen.Bad = kept false
+carried i k F Seen.Bad = emptyScan false
 
-carries : (i : ℕ) (k : Scan) (F : ℕ → Read) (g : Given) → summed i k (andRead g F) ≡ carried i k F (seen g)
-unfolding seen andRead carried summed puts
-carries i k F (given (four w) is y) = summed-first i k (value (four w) is) (F y)
-carries i k F (given (eight w) is y) = summed-first i k (value (eight w) is) (F y)
-carries i k F (given (bytes t) is y) = summed-first i k (value (bytes t) is) (F y)
+carries : (i : ℕ) (k : Scan) (F : ℕ → Read) (g : FieldGot) → summed i k (andRead g F) ≡ carried i k F (fieldSeen g)
+unfolding fieldSeen andRead carried summed puts
+carries i k F (fieldGot (four w) is y) = summed-first i k (value (four w) is) (F y)
+carries i k F (fieldGot (eight w) is y) = summed-first i k (value (eight w) is) (F y)
+carries i k F (fieldGot (bytes t) is y) = summed-first i k (value (bytes t) is) (F y)
 carries i k F (stop w) = refl
 carries i k F bad = refl
 
@@ -215,32 +215,32 @@ carries i k F bad = refl
 unfoldable pub left : List ℕ → ℕ → List ℕ → ℕ → Scan → Scan
 left l i b at k = summed i k (readAs (map fieldOf (drop i l)) b at)
 
-pub starts : (l b : List ℕ) (k : Scan) → k ≡ kept true → scanned (map fieldOf l) b ≡ left l 0 b 0 k
+pub starts : (l b : List ℕ) (k : Scan) → k ≡ emptyScan true → scanned (map fieldOf l) b ≡ left l 0 b 0 k
 unfolding scanned left
 starts l b k e = rw e
 
 module _ (l : List ℕ) (i : ℕ) (b : List ℕ) (at : ℕ) (k : Scan) (h : i < length l) where
-  left-more : (s : Seen) → s ≡ seen (fieldAt (fieldOf (getD l i 0)) b at) → left l i b at k ≡ carried i k (readAs (map fieldOf (drop (suc i) l)) b) s
+  left-more : (s : Seen) → s ≡ fieldSeen (fieldAt (fieldOf (getD l i 0)) b at) → left l i b at k ≡ carried i k (readAs (map fieldOf (drop (suc i) l)) b) s
   unfolding left readAs
   left-more s e = rw (drop-cons l i 0 h, e) (carries i k (readAs (map fieldOf (drop (suc i) l)) b) (fieldAt (fieldOf (getD l i 0)) b at))
 
-  pub next-word : (v x : ℕ) → Seen.Word v x ≡ seen (fieldAt (fieldOf (getD l i 0)) b at) → left l i b at k ≡ left l (i + 1) b x (put i (four v) k)
+  pub next-word : (v x : ℕ) → Seen.Word v x ≡ fieldSeen (fieldAt (fieldOf (getD l i 0)) b at) → left l i b at k ≡ left l (i + 1) b x (put i (four v) k)
   unfolding left carried
   next-word v x e = rw add-one (left-more (Seen.Word v x) e)
 
-  pub next-hyper : (v x : ℕ) → Seen.Hyper v x ≡ seen (fieldAt (fieldOf (getD l i 0)) b at) → left l i b at k ≡ left l (i + 1) b x (put i (eight v) k)
+  pub next-hyper : (v x : ℕ) → Seen.Hyper v x ≡ fieldSeen (fieldAt (fieldOf (getD l i 0)) b at) → left l i b at k ≡ left l (i + 1) b x (put i (eight v) k)
   unfolding left carried
   next-hyper v x e = rw add-one (left-more (Seen.Hyper v x) e)
 
-  pub next-place : (s n x : ℕ) → Seen.Place s n x ≡ seen (fieldAt (fieldOf (getD l i 0)) b at) → left l i b at k ≡ left l (i + 1) b x (put i (bytes (place s n)) k)
+  pub next-place : (s n x : ℕ) → Seen.Place s n x ≡ fieldSeen (fieldAt (fieldOf (getD l i 0)) b at) → left l i b at k ≡ left l (i + 1) b x (put i (bytes (place s n)) k)
   unfolding left carried
   next-place s n x e = rw add-one (left-more (Seen.Place s n x) e)
 
-  pub last-stop : (v : ℕ) → Seen.Stop v ≡ seen (fieldAt (fieldOf (getD l i 0)) b at) → put i (four v) k ≡ left l i b at k
+  pub last-stop : (v : ℕ) → Seen.Stop v ≡ fieldSeen (fieldAt (fieldOf (getD l i 0)) b at) → put i (four v) k ≡ left l i b at k
   unfolding carried
   last-stop v e = sym (left-more (Seen.Stop v) e)
 
-  pub last-bad : Seen.Bad ≡ seen (fieldAt (fieldOf (getD l i 0)) b at) → kept false ≡ left l i b at k
+  pub last-bad : Seen.Bad ≡ fieldSeen (fieldAt (fieldOf (getD l i 0)) b at) → emptyScan false ≡ left l i b at k
   unfolding carried
   last-bad e = sym (left-more Seen.Bad e)
 
@@ -249,6 +249,6 @@ module _ (l : List ℕ) (i : ℕ) (b : List ℕ) (at : ℕ) (k : Scan) (h : leng
   unfolding left readAs summed puts choose
   last-end e = rw (drop-of-length-le l h, eq-eqb at (length b) e)
 
-  pub last-over : (at ≡ length b → ⊥) → kept false ≡ left l i b at k
+  pub last-over : (at ≡ length b → ⊥) → emptyScan false ≡ left l i b at k
   unfolding left readAs summed choose
   last-over e = rw (drop-of-length-le l h, ne-eqb at (length b) e)

@@ -17,9 +17,9 @@ use Rattle.xdr_opaque.specs.declared.Opaque.{Opaque}
 use Rattle.xdr_opaque.specs.declared.Opaque.the-variants as Opaque
 use Rattle.xdr_opaque.proofs.Laws.{Found, opaque-read, zero-is, filled-fill}
 use Rattle.wire_layouts.specs.Layout.{Part, word, hyper, text, Field, one, many, tag, never, Item, four, eight, bytes, Value, value, itemBytes, valueBytes, writeAs}
-use Rattle.wire_layouts.specs.Layout.{Piece, piece, short, place, textOf, partAt, Got, got, cut, prepend, andPart, andGot, partsAt, timesAt, Given, given, stop, bad}
-use Rattle.wire_layouts.specs.Layout.{single, counted, fieldAt, Read, whole, before, broken, first, andRead, readAs}
-use Rattle.wire_layouts.specs.Laws.{Bytes, content, contents, Spelled, OneSpelling}
+use Rattle.wire_layouts.specs.Layout.{Piece, piece, short, place, pieceOf, partAt, Got, got, cut, prepend, andPart, andGot, partsAt, timesAt, FieldGot, fieldGot, stop, bad}
+use Rattle.wire_layouts.specs.Layout.{single, counted, fieldAt, Read, whole, before, broken, andValue, andRead, readAs}
+use Rattle.wire_layouts.specs.Laws.{Bytes, content, contents, Spelled, FieldsOneSpelling}
 use Rattle.wire_layouts.specs.declared.Text.{Text}
 
 -- ---- a word, a hyper and opaque data are what they are written as
@@ -99,8 +99,8 @@ module _ (b : List ℕ) where
   GotSpelled at (got is x) = drop at b ≡ written is ++ drop x b
   GotSpelled at cut = Unit
 
-  GivenSpelled : ℕ → Given → Type 0
-  GivenSpelled at (given i is x) = drop at b ≡ (itemBytes (content b i) ++ written is) ++ drop x b
+  GivenSpelled : ℕ → FieldGot → Type 0
+  GivenSpelled at (fieldGot i is x) = drop at b ≡ (itemBytes (content b i) ++ written is) ++ drop x b
   GivenSpelled at (stop v) = Unit
   GivenSpelled at bad = Unit
 
@@ -115,8 +115,8 @@ module _ (b : List ℕ) where
   written-append (i ∷ is) js = ap (λ (r : List ℕ). itemBytes (content b i) ++ r) (written-append is js) ∙ sym (append-assoc (itemBytes (content b i)) (written is) (written js))
 
   module _ (h : Bytes b) where
-    found-spelled : (at : ℕ) (o : Opaque) → o ≡ opaqueAt b at → PieceSpelled at (textOf o)
-    unfolding PieceSpelled textOf
+    found-spelled : (at : ℕ) (o : Opaque) → o ≡ opaqueAt b at → PieceSpelled at (pieceOf o)
+    unfolding PieceSpelled pieceOf
     found-spelled at (Opaque.At s n x) e = text-spelled b h at s n x (opaque-read b at s n x e)
     found-spelled at Opaque.Bad e = tt
 
@@ -152,15 +152,15 @@ module _ (b : List ℕ) where
   counted-spelled at n cut e k = tt
 
   first-spelled : (at mid : ℕ) (i : Item Text) (is : List (Item Text)) (r : Read) → drop at b ≡ (itemBytes (content b i) ++ written is) ++ drop mid b → ReadSpelled mid r
-      → ReadSpelled at (first (value i is) r)
-  unfolding ReadSpelled first writeAs written flatMap
+      → ReadSpelled at (andValue (value i is) r)
+  unfolding ReadSpelled andValue writeAs written flatMap
   first-spelled at mid i is (whole vs) e k = e ∙ rw k
   first-spelled at mid i is (before vs) e k = tt
   first-spelled at mid i is broken e k = tt
 
-  and-read-spelled : (at : ℕ) (g : Given) (f : ℕ → Read) → GivenSpelled at g → ((x : ℕ) → ReadSpelled x (f x)) → ReadSpelled at (andRead g f)
+  and-read-spelled : (at : ℕ) (g : FieldGot) (f : ℕ → Read) → GivenSpelled at g → ((x : ℕ) → ReadSpelled x (f x)) → ReadSpelled at (andRead g f)
   unfolding GivenSpelled ReadSpelled andRead
-  and-read-spelled at (given i is x) f e k = first-spelled at x i is (f x) e (k x)
+  and-read-spelled at (fieldGot i is x) f e k = first-spelled at x i is (f x) e (k x)
   and-read-spelled at (stop v) f e k = tt
   and-read-spelled at bad f e k = tt
 
@@ -200,5 +200,5 @@ pub spelled : Spelled
 unfolding ReadSpelled
 spelled fs b ws h e = rw e at (read-spelled b h fs 0)
 
-pub one-spelling : OneSpelling
+pub one-spelling : FieldsOneSpelling
 one-spelling fs b d ws us h k e f s = spelled fs b ws h e ∙ rw s (sym (spelled fs d us k f))

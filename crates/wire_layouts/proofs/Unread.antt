@@ -9,9 +9,9 @@ use borrow.Author.Tests.{eqb-false}
 use Rattle.xdr.specs.Xdr as xdr
 use Rattle.xdr.proofs.Tests.{by-test}
 use Rattle.xdr_opaque.specs.Opaque.{opaqueAt}
-use Rattle.wire_layouts.specs.Layout.{Part, word, hyper, text, Field, one, many, tag, never, Item, Value, value, Piece, piece, short, textOf, partAt, Got, got, cut}
-use Rattle.wire_layouts.specs.Layout.{timesAt, Given, given, stop, bad, single, counted}
-use Rattle.wire_layouts.specs.Layout.{fieldAt, Read, whole, before, broken, first, andRead, readAs}
+use Rattle.wire_layouts.specs.Layout.{Part, word, hyper, text, Field, one, many, tag, never, Item, Value, value, Piece, piece, short, pieceOf, partAt, Got, got, cut}
+use Rattle.wire_layouts.specs.Layout.{timesAt, FieldGot, fieldGot, stop, bad, single, counted}
+use Rattle.wire_layouts.specs.Layout.{fieldAt, Read, whole, before, broken, andValue, andRead, readAs}
 use Rattle.wire_layouts.specs.Laws.{HasTag, Stops, UnreadRests}
 use Rattle.wire_layouts.specs.declared.Text.{Text}
 
@@ -21,32 +21,32 @@ Unread S (whole vs) = Unit
 Unread S (before vs) = S
 Unread S broken = Unit
 
-first-unread : (S : Type 0) (v : Value Text) (r : Read) → Unread S r → Unread S (first v r)
-unfolding Unread first
+first-unread : (S : Type 0) (v : Value Text) (r : Read) → Unread S r → Unread S (andValue v r)
+unfolding Unread andValue
 first-unread S v (whole vs) h = tt
 first-unread S v (before vs) h = h
 first-unread S v broken h = tt
 
 -- a field behind which is read on, wherever it ends
-OnAt : ℕ → Given → Type 0
-OnAt x (given i is y) = y ≡ x
+OnAt : ℕ → FieldGot → Type 0
+OnAt x (fieldGot i is y) = y ≡ x
 OnAt x (stop v) = ⊥
 OnAt x bad = Unit
 
-On : Given → Type 0
-On (given i is y) = Unit
+On : FieldGot → Type 0
+On (fieldGot i is y) = Unit
 On (stop v) = ⊥
 On bad = Unit
 
-on-at : (S : Type 0) (x : ℕ) (g : Given) (f : ℕ → Read) → OnAt x g → Unread S (f x) → Unread S (andRead g f)
+on-at : (S : Type 0) (x : ℕ) (g : FieldGot) (f : ℕ → Read) → OnAt x g → Unread S (f x) → Unread S (andRead g f)
 unfolding OnAt andRead Unread
-on-at S x (given i is y) f e h = rw e (first-unread S (value i is) (f x) h)
+on-at S x (fieldGot i is y) f e h = rw e (first-unread S (value i is) (f x) h)
 on-at S x (stop v) f e h = absurd e
 on-at S x bad f e h = tt
 
-on-anywhere : (S : Type 0) (g : Given) (f : ℕ → Read) → On g → ((x : ℕ) → Unread S (f x)) → Unread S (andRead g f)
+on-anywhere : (S : Type 0) (g : FieldGot) (f : ℕ → Read) → On g → ((x : ℕ) → Unread S (f x)) → Unread S (andRead g f)
 unfolding On andRead Unread
-on-anywhere S (given i is y) f e h = first-unread S (value i is) (f y) (h y)
+on-anywhere S (fieldGot i is y) f e h = first-unread S (value i is) (f y) (h y)
 on-anywhere S (stop v) f e h = absurd e
 on-anywhere S bad f e h = tt
 
@@ -106,7 +106,7 @@ module _ (b : List ℕ) where
       → Unread ((xdr.word b at ≡ k → ⊥) ⊎ S) (andRead (fieldAt (tag k) b at) f)
   unfolding fieldAt andRead Unread
   tag-unread S k at f h =
-      let P : Given → Type 0 = λ g. Unread ((xdr.word b at ≡ k → ⊥) ⊎ S) (andRead g f) in
+      let P : FieldGot → Type 0 = λ g. Unread ((xdr.word b at ≡ k → ⊥) ⊎ S) (andRead g f) in
       by-test P (leb (at + 4) (length b)) _ _
       (λ _. by-test P (eqb (xdr.word b at) k) _ _ (λ _. first-unread _ _ (f (at + 4)) (right _ S (f (at + 4)) h)) (λ e. inl (eqb-false (xdr.word b at) k e)))
       (λ _. tt)

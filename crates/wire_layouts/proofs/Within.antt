@@ -13,9 +13,9 @@ use Rattle.xdr_opaque.specs.Opaque.{opaqueAt}
 use Rattle.xdr_opaque.specs.declared.Opaque.{Opaque}
 use Rattle.xdr_opaque.specs.declared.Opaque.the-variants as Opaque
 use Rattle.xdr_opaque.proofs.Laws.{opaque-within}
-use Rattle.wire_layouts.specs.Layout.{Part, word, hyper, text, Field, one, many, tag, never, Item, four, eight, bytes, Value, value, Piece, piece, short, textOf, partAt}
-use Rattle.wire_layouts.specs.Layout.{Got, got, cut, timesAt, Given, given, stop, bad, single, counted, fieldAt, Read, whole, before, broken, first, andRead, readAs}
-use Rattle.wire_layouts.specs.Scans.{kept, put, puts, summed, scanned}
+use Rattle.wire_layouts.specs.Layout.{Part, word, hyper, text, Field, one, many, tag, never, Item, four, eight, bytes, Value, value, Piece, piece, short, pieceOf, partAt}
+use Rattle.wire_layouts.specs.Layout.{Got, got, cut, timesAt, FieldGot, fieldGot, stop, bad, single, counted, fieldAt, Read, whole, before, broken, andValue, andRead, readAs}
+use Rattle.wire_layouts.specs.Scans.{emptyScan, put, puts, summed, scanned}
 use Rattle.wire_layouts.specs.declared.Text.{Text}
 use Rattle.wire_layouts.specs.declared.Scan.{Scan}
 
@@ -52,8 +52,8 @@ module _ (b : List ℕ) where
   PieceIn (piece i x) = ItemIn i
   PieceIn short = Unit
 
-  GivenIn : Given → Type 0
-  GivenIn (given i is x) = ItemIn i
+  GivenIn : FieldGot → Type 0
+  GivenIn (fieldGot i is x) = ItemIn i
   GivenIn (stop v) = Unit
   GivenIn bad = Unit
 
@@ -62,7 +62,7 @@ module _ (b : List ℕ) where
   ReadIn (before vs) = AllIn vs
   ReadIn broken = Unit
 
-  kept-in : (t : Bool) → TextsIn (kept t)
+  kept-in : (t : Bool) → TextsIn (emptyScan t)
   kept-in t = record { alike = refl; within = zeros-in (length b) 5 }
 
   put-in : (i : ℕ) (x : Item Text) (k : Scan) → ItemIn x → TextsIn k → TextsIn (put i x k)
@@ -77,8 +77,8 @@ module _ (b : List ℕ) where
   puts-in i [] k h t = t
   puts-in i (v ∷ vs) k h t = puts-in (suc i) vs (put i (v .first) k) (h .1) (put-in i (v .first) k (h .0) t)
 
-  found-in : (at : ℕ) (r : Opaque) → r ≡ opaqueAt b at → PieceIn (textOf r)
-  unfolding PieceIn ItemIn textOf
+  found-in : (at : ℕ) (r : Opaque) → r ≡ opaqueAt b at → PieceIn (pieceOf r)
+  unfolding PieceIn ItemIn pieceOf
   found-in at (Opaque.At s n x) e = let w = opaque-within b at s n x e in omega arith
   found-in at Opaque.Bad e = tt
 
@@ -107,15 +107,15 @@ module _ (b : List ℕ) where
   field-in (tag k) at = by-test GivenIn (leb (at + 4) (length b)) _ _ (λ e. by-test GivenIn (eqb (xdr.word b at) k) _ _ (λ i. tt) (λ i. tt)) (λ e. tt)
   field-in never at = tt
 
-  first-in : (v : Value Text) (r : Read) → ItemIn (v .first) → ReadIn r → ReadIn (first v r)
-  unfolding ReadIn AllIn first
+  first-in : (v : Value Text) (r : Read) → ItemIn (v .first) → ReadIn r → ReadIn (andValue v r)
+  unfolding ReadIn AllIn andValue
   first-in v (whole vs) h k = (h, k)
   first-in v (before vs) h k = (h, k)
   first-in v broken h k = tt
 
-  and-read-in : (g : Given) (f : ℕ → Read) → GivenIn g → ((x : ℕ) → ReadIn (f x)) → ReadIn (andRead g f)
+  and-read-in : (g : FieldGot) (f : ℕ → Read) → GivenIn g → ((x : ℕ) → ReadIn (f x)) → ReadIn (andRead g f)
   unfolding GivenIn ReadIn AllIn ItemIn andRead
-  and-read-in (given i is x) f h k = first-in (value i is) (f x) h (k x)
+  and-read-in (fieldGot i is x) f h k = first-in (value i is) (f x) h (k x)
   and-read-in (stop v) f h k = (tt, tt)
   and-read-in bad f h k = tt
 
@@ -124,10 +124,10 @@ module _ (b : List ℕ) where
   read-in [] at = by-test ReadIn (eqb at (length b)) _ _ (λ e. tt) (λ e. tt)
   read-in (f ∷ fs) at = and-read-in (fieldAt f b at) (readAs fs b) (field-in f at) (read-in fs)
 
-  summed-in : (r : Read) → ReadIn r → TextsIn (summed 0 (kept true) r)
+  summed-in : (r : Read) → ReadIn r → TextsIn (summed 0 (emptyScan true) r)
   unfolding ReadIn summed
-  summed-in (whole vs) h = puts-in 0 vs (kept true) h (kept-in true)
-  summed-in (before vs) h = puts-in 0 vs (kept true) h (kept-in true)
+  summed-in (whole vs) h = puts-in 0 vs (emptyScan true) h (kept-in true)
+  summed-in (before vs) h = puts-in 0 vs (emptyScan true) h (kept-in true)
   summed-in broken h = kept-in false
 
 pub texts-in : (fs : List Field) (b : List ℕ) (i : ℕ) → getD (scanned fs b .starts) i 0 + getD (scanned fs b .lens) i 0 ≤ length b
@@ -146,9 +146,9 @@ unfolding puts
 puts-ok i [] k = refl
 puts-ok i (v ∷ vs) k = puts-ok (suc i) vs (put i (v .first) k) ∙ put-ok i (v .first) k
 
-pub whole-kept : (fs : List Field) (b : List ℕ) (vs : List (Value Text)) → readAs fs b 0 ≡ whole vs → (scanned fs b ≡ puts 0 vs (kept true)) × (scanned fs b .ok ≡ true)
+pub whole-kept : (fs : List Field) (b : List ℕ) (vs : List (Value Text)) → readAs fs b 0 ≡ whole vs → (scanned fs b ≡ puts 0 vs (emptyScan true)) × (scanned fs b .ok ≡ true)
 unfolding scanned summed
-whole-kept fs b vs e = (rw e, rw e (puts-ok 0 vs (kept true)))
+whole-kept fs b vs e = (rw e, rw e (puts-ok 0 vs (emptyScan true)))
 
 pub broken-kept : (fs : List Field) (b : List ℕ) → readAs fs b 0 ≡ broken → scanned fs b .ok ≡ false
 unfolding scanned summed

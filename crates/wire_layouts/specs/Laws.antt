@@ -41,9 +41,9 @@ pub data FieldFits : Field → Value (List ℕ) → Type 0 where
   is-many : {most n : ℕ} {ps : List Part} {is : List (Item (List ℕ))} → most < 2 ^ 32 → n ≤ most → TimesFit ps n is → FieldFits (many most ps) (value (four n) is)
   is-tag : {k : ℕ} → k < 2 ^ 32 → FieldFits (tag k) (value (four k) [])
 
-pub data Fits : List Field → List (Value (List ℕ)) → Type 0 where
-  no-field : Fits [] []
-  field-on : {f : Field} {v : Value (List ℕ)} {fs : List Field} {vs : List (Value (List ℕ))} → FieldFits f v → Fits fs vs → Fits (f ∷ fs) (v ∷ vs)
+pub data FieldsFit : List Field → List (Value (List ℕ)) → Type 0 where
+  no-field : FieldsFit [] []
+  field-on : {f : Field} {v : Value (List ℕ)} {fs : List Field} {vs : List (Value (List ℕ))} → FieldFits f v → FieldsFit fs vs → FieldsFit (f ∷ fs) (v ∷ vs)
 
 -- ---- where a rest is not read: behind a tag whose word is another. What stands behind a text or a list lies where the body says, and of a
 -- tag there no place is told.
@@ -64,21 +64,21 @@ Stops (tag k ∷ fs) b at = (xdr.word b at ≡ k → ⊥) ⊎ Stops fs b (at + 4
 Stops (never ∷ fs) b at = ⊥
 
 -- ---- the laws
-pub record Back (fs : List Field) (vs : List (Value (List ℕ))) : Type 0 where
+pub record FieldsBack (fs : List Field) (vs : List (Value (List ℕ))) : Type 0 where
   pub places : List (Value Text)
   pub reads : readAs fs (writeAs vs) 0 ≡ whole places
   pub same : map (contents (writeAs vs)) places ≡ vs
 
-abbrev pub RoundTrip : Type 0
-RoundTrip = (fs : List Field) (vs : List (Value (List ℕ))) → Fits fs vs → Back fs vs
+abbrev pub FieldsRoundTrip : Type 0
+FieldsRoundTrip = (fs : List Field) (vs : List (Value (List ℕ))) → FieldsFit fs vs → FieldsBack fs vs
 
 -- decoding and writing again gives the body
 abbrev pub Spelled : Type 0
 Spelled = (fs : List Field) (b : List ℕ) (ws : List (Value Text)) → Bytes b → readAs fs b 0 ≡ whole ws → b ≡ writeAs (map (contents b) ws)
 
 -- two bodies of equal fields are equal
-abbrev pub OneSpelling : Type 0
-OneSpelling =
+abbrev pub FieldsOneSpelling : Type 0
+FieldsOneSpelling =
     (fs : List Field) (b d : List ℕ) (ws us : List (Value Text)) → Bytes b → Bytes d
     → readAs fs b 0 ≡ whole ws → readAs fs d 0 ≡ whole us → map (contents b) ws ≡ map (contents d) us → b ≡ d
 

@@ -59,14 +59,14 @@ pub data Piece : Type 0 where
 abbrev pub place : ℕ → ℕ → Text
 place s n = record { start = s; len = n }
 
-unfoldable pub textOf : Opaque → Piece
-textOf (Opaque.At s n x) = piece (bytes (place s n)) x
-textOf Opaque.Bad = short
+unfoldable pub pieceOf : Opaque → Piece
+pieceOf (Opaque.At s n x) = piece (bytes (place s n)) x
+pieceOf Opaque.Bad = short
 
 unfoldable pub partAt : Part → List ℕ → ℕ → Piece
 partAt word b at = choose (leb (at + 4) (length b)) (piece (four (xdr.word b at)) (at + 4)) short
 partAt hyper b at = choose (leb (at + 8) (length b)) (piece (eight (xdr.hyper b at)) (at + 8)) short
-partAt text b at = textOf (opaqueAt b at)
+partAt text b at = pieceOf (opaqueAt b at)
 
 pub data Got : Type 0 where
   got : List (Item Text) → ℕ → Got
@@ -92,20 +92,20 @@ unfoldable pub timesAt : List Part → ℕ → List ℕ → ℕ → Got
 timesAt ps zero b at = got [] at
 timesAt ps (suc n) b at = andGot (partsAt ps b at) (timesAt ps n b)
 
-pub data Given : Type 0 where
-  given : Item Text → List (Item Text) → ℕ → Given
-  stop : ℕ → Given
-  bad : Given
+pub data FieldGot : Type 0 where
+  fieldGot : Item Text → List (Item Text) → ℕ → FieldGot
+  stop : ℕ → FieldGot
+  bad : FieldGot
 
-unfoldable pub single : Piece → Given
-single (piece i x) = given i [] x
+unfoldable pub single : Piece → FieldGot
+single (piece i x) = fieldGot i [] x
 single short = bad
 
-unfoldable pub counted : ℕ → Got → Given
-counted n (got is x) = given (four n) is x
+unfoldable pub counted : ℕ → Got → FieldGot
+counted n (got is x) = fieldGot (four n) is x
 counted n cut = bad
 
-unfoldable pub fieldAt : Field → List ℕ → ℕ → Given
+unfoldable pub fieldAt : Field → List ℕ → ℕ → FieldGot
 fieldAt (one p) b at = single (partAt p b at)
 fieldAt (many most ps) b at =
     choose (leb (at + 4) (length b))
@@ -113,7 +113,7 @@ fieldAt (many most ps) b at =
     bad
 fieldAt (tag k) b at =
     choose (leb (at + 4) (length b))
-    (choose (eqb (xdr.word b at) k) (given (four (xdr.word b at)) [] (at + 4)) (stop (xdr.word b at)))
+    (choose (eqb (xdr.word b at) k) (fieldGot (four (xdr.word b at)) [] (at + 4)) (stop (xdr.word b at)))
     bad
 fieldAt never b at = bad
 
@@ -123,13 +123,13 @@ pub data Read : Type 0 where
   before : List (Value Text) → Read
   broken : Read
 
-unfoldable pub first : Value Text → Read → Read
-first v (whole vs) = whole (v ∷ vs)
-first v (before vs) = before (v ∷ vs)
-first v broken = broken
+unfoldable pub andValue : Value Text → Read → Read
+andValue v (whole vs) = whole (v ∷ vs)
+andValue v (before vs) = before (v ∷ vs)
+andValue v broken = broken
 
-unfoldable pub andRead : Given → (ℕ → Read) → Read
-andRead (given i is x) f = first (value i is) (f x)
+unfoldable pub andRead : FieldGot → (ℕ → Read) → Read
+andRead (fieldGot i is x) f = andValue (value i is) (f x)
 andRead (stop v) f = before (value (four v) [] ∷ [])
 andRead bad f = broken
 

@@ -8,18 +8,18 @@ use Rattle.codes.specs.Codes.{mostListed, localAddress, textAuth}
 use Rattle.wire_layouts.specs.declared.After.{After}
 use Rattle.wire_layouts.specs.declared.After.the-variants as After
 use Rattle.wire_layouts.specs.Layout.{Part, word, hyper, text, Field, one, many, tag, never, Item, four, eight, bytes, Value, place, Piece, piece, short, Got, got, cut}
-use Rattle.wire_layouts.specs.Layout.{Given, given, stop, bad, Read, whole, before, broken, readAs}
+use Rattle.wire_layouts.specs.Layout.{FieldGot, fieldGot, stop, bad, Read, whole, before, broken, readAs}
 use Rattle.wire_layouts.specs.declared.Text.{Text}
 use Rattle.wire_layouts.specs.declared.Scan.{Scan}
 use Rattle.wire_layouts.specs.declared.Seen.{Seen}
 use Rattle.wire_layouts.specs.declared.Seen.the-variants as Seen
 
 -- ---- what is kept: of each field its first item, at the field's number
-abbrev pub none : List ℕ
-none = replicate 5 0
+abbrev pub noItems : List ℕ
+noItems = replicate 5 0
 
-abbrev pub kept : Bool → Scan
-kept t = record { ok = t; words = none; hypers = none; starts = none; lens = none }
+abbrev pub emptyScan : Bool → Scan
+emptyScan t = record { ok = t; words = noItems; hypers = noItems; starts = noItems; lens = noItems }
 
 unfoldable pub put : ℕ → Item Text → Scan → Scan
 put i (four v) k = record { ok = k .ok; words = set (k .words) i v; hypers = k .hypers; starts = k .starts; lens = k .lens }
@@ -33,10 +33,10 @@ puts i (v ∷ vs) k = puts (suc i) vs (put i (v .first) k)
 unfoldable pub summed : ℕ → Scan → Read → Scan
 summed i k (whole vs) = puts i vs k
 summed i k (before vs) = puts i vs k
-summed i k broken = kept false
+summed i k broken = emptyScan false
 
 unfoldable pub scanned : List Field → List ℕ → Scan
-scanned fs b = summed 0 (kept true) (readAs fs b 0)
+scanned fs b = summed 0 (emptyScan true) (readAs fs b 0)
 
 -- ---- the letters of the fields, as the code writes them
 abbrev pub pairs : Field
@@ -81,9 +81,9 @@ forget (got is x) = After.Next x
 forget cut = After.Short
 
 -- what the code sees of a field
-unfoldable pub seen : Given → Seen
-seen (given (four v) is x) = Seen.Word v x
-seen (given (eight v) is x) = Seen.Hyper v x
-seen (given (bytes t) is x) = Seen.Place (t .start) (t .len) x
-seen (stop v) = Seen.Stop v
-seen bad = Seen.Bad
+unfoldable pub fieldSeen : FieldGot → Seen
+fieldSeen (fieldGot (four v) is x) = Seen.Word v x
+fieldSeen (fieldGot (eight v) is x) = Seen.Hyper v x
+fieldSeen (fieldGot (bytes t) is x) = Seen.Place (t .start) (t .len) x
+fieldSeen (stop v) = Seen.Stop v
+fieldSeen bad = Seen.Bad

@@ -6,8 +6,8 @@ ghost use lib.ListN.{length};
 ghost use mathlib.Core.Bool.{true, false};
 ghost use Rattle.codes.specs.Codes.{mostListed};
 ghost use Rattle.wire_layouts.specs.Layout.{word, hyper, text, one, many, tag, partAt, partsAt, timesAt, fieldAt};
-ghost use Rattle.wire_layouts.specs.Laws.{RoundTrip, OneSpelling, UnreadRests};
-ghost use Rattle.wire_layouts.specs.Scans.{kept, scanned, fieldOf, partOf, past, forget, seen};
+ghost use Rattle.wire_layouts.specs.Laws.{FieldsRoundTrip, FieldsOneSpelling, UnreadRests};
+ghost use Rattle.wire_layouts.specs.Scans.{emptyScan, scanned, fieldOf, partOf, past, forget, fieldSeen};
 use xdr_opaque::Opaque;
 use xdr_opaque::Word;
 use xdr_opaque::opaque_at;
@@ -49,7 +49,7 @@ pub enum Seen {
 
 // Nothing kept yet, or a body that does not decode.
 fn nothing(ok: bool) -> Scan
-    ensures { λ r. ⌜ r ≡ kept ok ⌝ }
+    ensures { λ r. ⌜ r ≡ emptyScan ok ⌝ }
 {
     Scan {
         ok,
@@ -61,7 +61,7 @@ fn nothing(ok: bool) -> Scan
 }
 
 fn one_word(body: &[u8], at: usize) -> Seen
-    ensures { λ r. ⌜ r ≡ seen (fieldAt (one word) (now (body .entry)) at) ⌝ }
+    ensures { λ r. ⌜ r ≡ fieldSeen (fieldAt (one word) (now (body .entry)) at) ⌝ }
 {
     let Word::Value(v) = word_at(body, at) else {
         return Seen::Bad;
@@ -70,7 +70,7 @@ fn one_word(body: &[u8], at: usize) -> Seen
 }
 
 fn one_hyper(body: &[u8], at: usize) -> Seen
-    ensures { λ r. ⌜ r ≡ seen (fieldAt (one hyper) (now (body .entry)) at) ⌝ }
+    ensures { λ r. ⌜ r ≡ fieldSeen (fieldAt (one hyper) (now (body .entry)) at) ⌝ }
 {
     if body.len() < 8 {
         return Seen::Bad;
@@ -82,7 +82,7 @@ fn one_hyper(body: &[u8], at: usize) -> Seen
 }
 
 fn one_text(body: &[u8], at: usize) -> Seen
-    ensures { λ r. ⌜ r ≡ seen (fieldAt (one text) (now (body .entry)) at) ⌝ }
+    ensures { λ r. ⌜ r ≡ fieldSeen (fieldAt (one text) (now (body .entry)) at) ⌝ }
 {
     let Opaque::At { start, len, next } = opaque_at(body, at) else {
         return Seen::Bad;
@@ -158,7 +158,7 @@ fn times_at(letters: &[u8], count: u32, body: &[u8], at: usize) -> After
 
 // A counted list of at most so many elements as a start request may have.
 fn many_at(letters: &[u8], body: &[u8], at: usize) -> Seen
-    ensures { λ r. ⌜ r ≡ seen (fieldAt (many mostListed (map partOf (now (letters .entry)))) (now (body .entry)) at) ⌝ }
+    ensures { λ r. ⌜ r ≡ fieldSeen (fieldAt (many mostListed (map partOf (now (letters .entry)))) (now (body .entry)) at) ⌝ }
 {
     let Word::Value(count) = word_at(body, at) else {
         return Seen::Bad;
@@ -173,7 +173,7 @@ fn many_at(letters: &[u8], body: &[u8], at: usize) -> Seen
 }
 
 fn tagged(body: &[u8], at: usize, k: u32) -> Seen
-    ensures { λ r. ⌜ r ≡ seen (fieldAt (tag k) (now (body .entry)) at) ⌝ }
+    ensures { λ r. ⌜ r ≡ fieldSeen (fieldAt (tag k) (now (body .entry)) at) ⌝ }
 {
     let Word::Value(v) = word_at(body, at) else {
         return Seen::Bad;
@@ -186,7 +186,7 @@ fn tagged(body: &[u8], at: usize, k: u32) -> Seen
 
 // The field of a letter.
 fn field_at(letter: u8, body: &[u8], at: usize) -> Seen
-    ensures { λ r. ⌜ r ≡ seen (fieldAt (fieldOf letter) (now (body .entry)) at) ⌝ }
+    ensures { λ r. ⌜ r ≡ fieldSeen (fieldAt (fieldOf letter) (now (body .entry)) at) ⌝ }
 {
     match letter {
         b'w' => one_word(body, at),
@@ -246,11 +246,11 @@ pub fn scan_body(layout: &[u8], body: &[u8]) -> Scan
 
 // No work: their contracts are the laws of every layout.
 pub fn round_trip()
-    ensures { λ r. ⌜ RoundTrip ⌝ }
+    ensures { λ r. ⌜ FieldsRoundTrip ⌝ }
 {}
 
 pub fn one_spelling()
-    ensures { λ r. ⌜ OneSpelling ⌝ }
+    ensures { λ r. ⌜ FieldsOneSpelling ⌝ }
 {}
 
 pub fn unread_rests()

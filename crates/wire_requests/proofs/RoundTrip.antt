@@ -15,8 +15,8 @@ use Rattle.wire_frame.specs.declared.JointKind.the-variants as JointKind
 use Rattle.wire_frame.specs.declared.Message.{Message}
 use Rattle.wire_frame.specs.declared.Message.the-variants as Message
 use Rattle.wire_layouts.specs.Layout.{Value, writeAs, Read, whole, before, broken, readAs}
-use Rattle.wire_layouts.specs.Laws.{Bytes, Fits, Stops}
-use Rattle.wire_layouts.specs.Scans.{kept, puts, scanned}
+use Rattle.wire_layouts.specs.Laws.{Bytes, FieldsFit, Stops}
+use Rattle.wire_layouts.specs.Scans.{emptyScan, puts, scanned}
 use Rattle.wire_layouts.specs.declared.Text.{Text}
 use Rattle.wire_layouts.proofs.Back.{round-trip}
 use Rattle.wire_layouts.proofs.Spelling.{spelled}
@@ -38,7 +38,7 @@ by-layout (Message.Mover k) b h = refl
 by-layout (Message.Joint k) b h = refl
 by-layout Message.Unknown b h = absurd h
 
-read-whole : (m : Message) (b : List ℕ) (ws : List (Value Text)) → readAs (layoutOf m) b 0 ≡ whole ws → readBy m b ≡ requestOf m (puts 0 ws (kept true))
+read-whole : (m : Message) (b : List ℕ) (ws : List (Value Text)) → readAs (layoutOf m) b 0 ≡ whole ws → readBy m b ≡ requestOf m (puts 0 ws (emptyScan true))
 read-whole m b ws e = let k = whole-kept (layoutOf m) b ws e in sym (pick-if Bad (k .1) refl) ∙ ap (requestOf m) (k .0)
 
 pub requests-back : RequestsBack

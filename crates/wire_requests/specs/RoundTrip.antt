@@ -13,15 +13,15 @@ use Rattle.wire_frame.specs.declared.JointKind.the-variants as JointKind
 use Rattle.wire_frame.specs.declared.Message.{Message}
 use Rattle.wire_frame.specs.declared.Message.the-variants as Message
 use Rattle.wire_layouts.specs.Layout.{Value, writeAs, whole, readAs}
-use Rattle.wire_layouts.specs.Laws.{Bytes, contents, Fits}
-use Rattle.wire_layouts.specs.Scans.{kept, puts}
+use Rattle.wire_layouts.specs.Laws.{Bytes, contents, FieldsFit}
+use Rattle.wire_layouts.specs.Scans.{emptyScan, puts}
 use Rattle.wire_layouts.specs.declared.Text.{Text}
 use Rattle.wire_requests.specs.Bodies.{layoutOf, requestOf, decoded}
 use Rattle.wire_requests.specs.declared.Request.the-variants.{Bad}
 
 pub record Back (m : Message) (vs : List (Value (List ℕ))) : Type 0 where
   pub places : List (Value Text)
-  pub request : decoded m (writeAs vs) ≡ requestOf m (puts 0 places (kept true))
+  pub request : decoded m (writeAs vs) ≡ requestOf m (puts 0 places (emptyScan true))
   pub same : map (contents (writeAs vs)) places ≡ vs
 
 abbrev pub Known : Message → Type 0
@@ -35,7 +35,7 @@ Known (Message.Joint k) = Unit
 Known Message.Unknown = ⊥
 
 abbrev pub RequestsBack : Type 0
-RequestsBack = (m : Message) → Known m → (vs : List (Value (List ℕ))) → Fits (layoutOf m) vs → Back m vs
+RequestsBack = (m : Message) → Known m → (vs : List (Value (List ℕ))) → FieldsFit (layoutOf m) vs → Back m vs
 
 -- "address and auth types whose rest is unread stay apart": the bodies of an auth other than text and of an address other than LOCAL, by
 -- the word of that type

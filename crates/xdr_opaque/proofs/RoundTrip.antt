@@ -10,7 +10,7 @@ use Rattle.xdr.specs.Xdr.{be32, word}
 use Rattle.xdr.proofs.Laws.{length-be32, word-be32, word-drop}
 use Rattle.xdr_opaque.specs.Opaque.{allZero, between, filled, opaqueAt}
 use Rattle.xdr_opaque.specs.Put.{fill, opaque}
-use Rattle.xdr_opaque.specs.RoundTrip.{RoundTrip}
+use Rattle.xdr_opaque.specs.RoundTrip.{OpaqueRoundTrip}
 use Rattle.xdr_opaque.specs.declared.Opaque.the-variants.{At}
 use Rattle.xdr_opaque.proofs.Laws.{opaque-whole, length-opaque-filled, filled-fill, zero-replicate}
 
@@ -60,5 +60,5 @@ module _ (p s q : List ℕ) where
   unfolding tail
   bytes = rw (drop-append-add p (opaque s ++ q) 4, parts, drop-at (be32 (length s)) tail 4 (length-be32 (length s))) (take-append-seam s (replicate (fill (length s)) 0 ++ q))
 
-pub opaque-back : RoundTrip
+pub opaque-back : OpaqueRoundTrip
 opaque-back p s q h = record { found = found p s q h; bytes = bytes p s q }

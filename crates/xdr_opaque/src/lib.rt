@@ -5,7 +5,7 @@ ghost use lib.ListN.{length, replicate};
 ghost use Rattle.xdr.specs.Xdr.{be32s};
 ghost use Rattle.xdr_opaque.specs.Opaque.{wordAt, allZero, opaqueAt};
 ghost use Rattle.xdr_opaque.specs.Put.{Put, opaque};
-ghost use Rattle.xdr_opaque.specs.RoundTrip.{RoundTrip};
+ghost use Rattle.xdr_opaque.specs.RoundTrip.{OpaqueRoundTrip};
 
 // A word, or that the slice ends before it does.
 pub enum Word {
@@ -112,5 +112,5 @@ pub fn put_opaque(out: &mut [u8], at: usize, s: &[u8]) -> usize
 
 // No work: its contract is that opaque data that was written is read back, so that the crate is proved only with it.
 pub fn opaque_round_trip()
-    ensures { λ r. ⌜ RoundTrip ⌝ }
+    ensures { λ r. ⌜ OpaqueRoundTrip ⌝ }
 {}

@@ -3,7 +3,7 @@ use mathlib.Core.Path.{refl}
 use Rattle.xdr.specs.Choose.{choose}
 use Rattle.xdr.specs.Xdr.{word, hyper}
 use Rattle.xdr_opaque.specs.Opaque.{allZero, opaqueAt}
-use Rattle.wire_layouts.specs.Layout.{textOf, partAt, prepend, andPart, andGot, partsAt, timesAt, single, counted, fieldAt, first, andRead, readAs}
+use Rattle.wire_layouts.specs.Layout.{pieceOf, partAt, prepend, andPart, andGot, partsAt, timesAt, single, counted, fieldAt, andValue, andRead, readAs}
 use Rattle.wire_layouts.specs.Scans.{put, puts, summed, scanned}
 use Rattle.wire_requests.specs.Bodies.{connectBody, configBody, scsiBody, tapeBody, dataBody, moverBody, jointBody, decoded}
 use Rattle.wire_requests.proofs.rows_hold.Statement.{statement}
@@ -11,7 +11,7 @@ use Rattle.wire_requests.proofs.rows_hold.Tie as tie
 
 returns : tie.Need-returns
 unfolding
-    choose word hyper allZero opaqueAt textOf partAt prepend andPart andGot partsAt timesAt single counted fieldAt first andRead readAs
+    choose word hyper allZero opaqueAt pieceOf partAt prepend andPart andGot partsAt timesAt single counted fieldAt andValue andRead readAs
     put puts summed scanned connectBody configBody scsiBody tapeBody dataBody moverBody jointBody decoded
 returns c = record { decodes = refl; refuses = refl }
 
