@@ -1,4 +1,5 @@
 pub mod Bodies
 pub mod Within
+pub mod Sent
 pub mod RoundTrip
 pub mod Rows

@@ -1,11 +1,9 @@
--- A body that decodes to its end has no second spelling, and requests that were written are read back: the fields of a message's layout, written as RFC 4506 has them, decode to the request of
--- their places, and at those places stand the fields.
+-- Requests that were written by 004 (`Sent`) are read as what they say, and a body that decodes to its end has no second spelling.
 use mathlib.Core.Path.{_≡_}
-use mathlib.Core.Bool.{true}
-use mathlib.Core.List.{List, map}
-use Prim.Native.Nat.{ℕ}
+use mathlib.Core.List.{List, _++_, map}
+use Prim.Native.Nat.{ℕ, _^_, _<_}
 use Rattle.codes.specs.Codes.{localAddress, textAuth}
-use Rattle.xdr.specs.Xdr.{word}
+use Rattle.xdr.specs.Xdr.{be32, word}
 use Rattle.wire_frame.specs.declared.ConnectKind.the-variants as ConnectKind
 use Rattle.wire_frame.specs.declared.DataKind.the-variants as DataKind
 use Rattle.wire_frame.specs.declared.MoverKind.the-variants as MoverKind
@@ -13,16 +11,15 @@ use Rattle.wire_frame.specs.declared.JointKind.the-variants as JointKind
 use Rattle.wire_frame.specs.declared.Message.{Message}
 use Rattle.wire_frame.specs.declared.Message.the-variants as Message
 use Rattle.wire_layouts.specs.Layout.{Value, writeAs, whole, readAs}
-use Rattle.wire_layouts.specs.Laws.{Bytes, contents, FieldsFit}
-use Rattle.wire_layouts.specs.Scans.{emptyScan, puts}
+use Rattle.wire_layouts.specs.Laws.{Bytes, contents}
 use Rattle.wire_layouts.specs.declared.Text.{Text}
-use Rattle.wire_requests.specs.Bodies.{layoutOf, requestOf, decoded}
-use Rattle.wire_requests.specs.declared.Request.the-variants.{Bad}
-
-pub record Back (m : Message) (vs : List (Value (List ℕ))) : Type 0 where
-  pub places : List (Value Text)
-  pub request : decoded m (writeAs vs) ≡ requestOf m (puts 0 places (emptyScan true))
-  pub same : map (contents (writeAs vs)) places ≡ vs
+use Rattle.wire_requests.specs.Bodies.{layoutOf, decoded}
+use Rattle.wire_requests.specs.Sent.{Sent, bodyOf, SentFits, Means}
+use Rattle.wire_requests.specs.declared.ConnectRequest.the-variants as ConnectRequest
+use Rattle.wire_requests.specs.declared.DataRequest.the-variants as DataRequest
+use Rattle.wire_requests.specs.declared.MoverRequest.the-variants as MoverRequest
+use Rattle.wire_requests.specs.declared.JointRequest.the-variants as JointRequest
+use Rattle.wire_requests.specs.declared.Request.the-variants.{Connect, Data, Mover, Joint, Bad}
 
 abbrev pub Known : Message → Type 0
 Known (Message.Connect k) = Unit
@@ -34,8 +31,25 @@ Known (Message.Mover k) = Unit
 Known (Message.Joint k) = Unit
 Known Message.Unknown = ⊥
 
-abbrev pub RequestsBack : Type 0
-RequestsBack = (m : Message) → Known m → (vs : List (Value (List ℕ))) → FieldsFit (layoutOf m) vs → Back m vs
+-- a word that is another type than k
+abbrev pub OtherThan : ℕ → ℕ → Type 0
+OtherThan k v = (v < 2 ^ 32) × (v ≡ k → ⊥)
+
+-- every message has its requests; each body decodes to the request that it says; and "after an address type other than 0 or an auth type
+-- other than 1 .. the rest is not read", whatever it is
+pub record RequestsBack : Type 0 where
+  pub every : (m : Message) → Known m → Sent m
+  pub sent : {m : Message} (s : Sent m) → SentFits s → Means s (bodyOf s) (decoded m (bodyOf s))
+  pub other-auth : (v : ℕ) (rest : List ℕ) → OtherThan textAuth v
+      → decoded (Message.Connect ConnectKind.Auth) (be32 v ++ rest) ≡ Connect ConnectRequest.OtherAuth
+  pub other-data-listen : (v : ℕ) (rest : List ℕ) → OtherThan localAddress v
+      → decoded (Message.Data DataKind.Listen) (be32 v ++ rest) ≡ Data (DataRequest.Listen v)
+  pub other-mover-listen : (mode v : ℕ) (rest : List ℕ) → mode < 2 ^ 32 → OtherThan localAddress v
+      → decoded (Message.Mover MoverKind.Listen) (be32 mode ++ (be32 v ++ rest)) ≡ Mover (MoverRequest.Listen mode v)
+  pub other-data-connect : (v : ℕ) (rest : List ℕ) → OtherThan localAddress v
+      → decoded (Message.Joint JointKind.DataConnect) (be32 v ++ rest) ≡ Joint (JointRequest.DataConnect v)
+  pub other-mover-connect : (mode v : ℕ) (rest : List ℕ) → mode < 2 ^ 32 → OtherThan localAddress v
+      → decoded (Message.Joint JointKind.MoverConnect) (be32 mode ++ (be32 v ++ rest)) ≡ Joint (JointRequest.MoverConnect mode v)
 
 -- "address and auth types whose rest is unread stay apart": the bodies of an auth other than text and of an address other than LOCAL, by
 -- the word of that type

@@ -1,5 +1,5 @@
--- The statement, proved in RoundTrip by the laws of every layout.
-use Rattle.wire_requests.proofs.RoundTrip.{requests-spelled}
+-- The statement, proved in Spelling by the laws of every layout.
+use Rattle.wire_requests.proofs.Spelling.{requests-spelled}
 use Rattle.wire_requests.proofs.requests_one_spelling.Statement.{statement}
 use Rattle.wire_requests.proofs.requests_one_spelling.Tie as tie
 
