@@ -30,11 +30,11 @@ use Rattle.wire_layouts.proofs.Back.{round-trip}
 use Rattle.wire_layouts.proofs.Within.{whole-kept}
 use Rattle.wire_requests.specs.Bodies.{layoutOf, requestOf, readBy, decoded}
 use Rattle.wire_requests.specs.Within.{bytesAt}
-use Rattle.wire_requests.specs.Sent.{Sent, argsOf, bodyOf, SentFits, AtPlace, Means}
-use Rattle.wire_requests.specs.Sent.{connectOpen, clientAuth, connectClose, connectionType, serverInfo, scsiOpen, scsiClose, scsiState, scsiReset, executeCdb}
-use Rattle.wire_requests.specs.Sent.{tapeOpen, tapeClose, tapeState, mtio, tapeWrite, tapeRead, dataState, startBackup, startRecover, dataStop, dataListen}
-use Rattle.wire_requests.specs.Sent.{moverState, moverListen, moverContinue, moverStop, setWindow, moverRead, setRecordSize}
-use Rattle.wire_requests.specs.Sent.{dataAbort, dataConnect, moverAbort, moverClose, moverConnect}
+use Rattle.wire_requests.specs.Sent.{Sent, argsOf, sentBytes, SentFits, AtPlace, Means}
+use Rattle.wire_requests.specs.Sent.{connect-open, client-auth, connect-close, connection-type, server-info, scsi-open, scsi-close, scsi-state, scsi-reset, execute-cdb}
+use Rattle.wire_requests.specs.Sent.{tape-open, tape-close, tape-state, tape-mtio, tape-write, tape-read, data-state, start-backup, start-recover, data-stop, data-listen}
+use Rattle.wire_requests.specs.Sent.{mover-state, mover-listen, mover-continue, mover-stop, set-window, mover-read, set-record-size}
+use Rattle.wire_requests.specs.Sent.{data-abort, data-connect, mover-abort, mover-close, mover-connect}
 use Rattle.wire_requests.specs.RoundTrip.{Known, OtherThan, RequestsBack}
 use Rattle.wire_requests.specs.declared.ConnectRequest.the-variants as ConnectRequest
 use Rattle.wire_requests.specs.declared.Request.{Request}
@@ -42,7 +42,8 @@ use Rattle.wire_requests.specs.declared.Request.the-variants.{Connect, B
 use Rattle.wire_requests.proofs.Laws.{by-layout}
 use Rattle.wire_requests.proofs.Sent.{fieldFor, valueFor, args-fit, args-written, AnyPlaces, of-places}
 
-read-whole : (m : Message) (b : List ℕ) (ws : List (Value Text)) → readAs (layoutOf m) b 0 ≡ whole ws → readBy m b ≡ requestOf m (puts 0 ws (emptyScan true))
+read-whole : (m : Message) (b : List ℕ) (ws : List (Value Text)) → readAs (layoutOf m) b 0 ≡ whole ws
+    → readBy m b ≡ requestOf m (puts 0 ws (emptyScan true))
 read-whole m b ws e = let k = whole-kept (layoutOf m) b ws e in sym (pick-if Bad (k .1) refl) ∙ ap (requestOf m) (k .0)
 
 -- ---- each body of `Sent`, written by its layout, is read back
@@ -55,9 +56,9 @@ read-any m h vs f P a =
     rw e (of-places b (r .places) 0 (emptyScan true) (λ k. P (requestOf m k)) (rw (r .same) a))
 
 by-args : {m : Message} (s : Sent m) → Known m → map fieldFor (argsOf s) ≡ layoutOf m → SentFits s
-    → AnyPlaces (bodyOf s) (map valueFor (argsOf s)) 0 (emptyScan true) (λ k. Means s (bodyOf s) (requestOf m k))
-    → Means s (bodyOf s) (decoded m (bodyOf s))
-unfolding bodyOf
+    → AnyPlaces (sentBytes s) (map valueFor (argsOf s)) 0 (emptyScan true) (λ k. Means s (sentBytes s) (requestOf m k))
+    → Means s (sentBytes s) (decoded m (sentBytes s))
+unfolding sentBytes
 by-args {m} s h l f a =
     let e = args-written (argsOf s) in
     let g : FieldsFit (layoutOf m) (map valueFor (argsOf s)) = rw l at (args-fit (argsOf s) f) in
@@ -66,86 +67,90 @@ by-args {m} s h l f a =
 at-place : {b s : List ℕ} {P : Text → Type 0} (t : Text) → bytesAt b t ≡ s → P t → AtPlace b s P
 at-place t e p = record { stands = t; holds = e; so = p }
 
-sent-back : {m : Message} (s : Sent m) → SentFits s → Means s (bodyOf s) (decoded m (bodyOf s))
+sent-back : {m : Message} (s : Sent m) → SentFits s → Means s (sentBytes s) (decoded m (sentBytes s))
 unfolding put choose
-sent-back (connectOpen version) f = by-args (connectOpen version) tt refl f refl
-sent-back (clientAuth id password) f = by-args (clientAuth id password) tt refl f (λ i e p f. record { stands = i; holds = e; so = record { stands = p; holds = f; so = refl } })
-sent-back connectClose f = by-args connectClose tt refl f refl
-sent-back connectionType f = by-args connectionType tt refl f refl
-sent-back serverInfo f = by-args serverInfo tt refl f refl
-sent-back (scsiOpen device) f = by-args (scsiOpen device) tt refl f (λ t e. at-place t e refl)
-sent-back scsiClose f = by-args scsiClose tt refl f refl
-sent-back scsiState f = by-args scsiState tt refl f refl
-sent-back scsiReset f = by-args scsiReset tt refl f refl
-sent-back (executeCdb flags timeout datainLen cdb dataout) f = by-args (executeCdb flags timeout datainLen cdb dataout) tt refl f (λ t e u f. at-place t e refl)
-sent-back (tapeOpen device mode) f = by-args (tapeOpen device mode) tt refl f (λ t e. at-place t e refl)
-sent-back tapeClose f = by-args tapeClose tt refl f refl
-sent-back tapeState f = by-args tapeState tt refl f refl
-sent-back (mtio op count) f = by-args (mtio op count) tt refl f refl
-sent-back (tapeWrite dataOut) f = by-args (tapeWrite dataOut) tt refl f (λ t e. at-place t e refl)
-sent-back (tapeRead count) f = by-args (tapeRead count) tt refl f refl
-sent-back dataState f = by-args dataState tt refl f refl
-sent-back (startBackup butype env) f = by-args (startBackup butype env) tt refl f (λ t e. at-place t e refl)
-sent-back (startRecover env list butype) f = by-args (startRecover env list butype) tt refl f (λ t e. at-place t e refl)
-sent-back dataStop f = by-args dataStop tt refl f refl
-sent-back dataListen f = by-args dataListen tt refl f refl
-sent-back moverState f = by-args moverState tt refl f refl
-sent-back (moverListen mode) f = by-args (moverListen mode) tt refl f refl
-sent-back moverContinue f = by-args moverContinue tt refl f refl
-sent-back moverStop f = by-args moverStop tt refl f refl
-sent-back (setWindow offset len) f = by-args (setWindow offset len) tt refl f refl
-sent-back (moverRead offset len) f = by-args (moverRead offset len) tt refl f refl
-sent-back (setRecordSize len) f = by-args (setRecordSize len) tt refl f refl
-sent-back dataAbort f = by-args dataAbort tt refl f refl
-sent-back dataConnect f = by-args dataConnect tt refl f refl
-sent-back moverAbort f = by-args moverAbort tt refl f refl
-sent-back moverClose f = by-args moverClose tt refl f refl
-sent-back (moverConnect mode) f = by-args (moverConnect mode) tt refl f refl
+sent-back (connect-open version) f = by-args (connect-open version) tt refl f refl
+sent-back (client-auth id password) f = by-args (client-auth id password) tt refl f (λ i e p g. at-place i e (at-place p g refl))
+sent-back connect-close f = by-args connect-close tt refl f refl
+sent-back connection-type f = by-args connection-type tt refl f refl
+sent-back server-info f = by-args server-info tt refl f refl
+sent-back (scsi-open device) f = by-args (scsi-open device) tt refl f (λ t e. at-place t e refl)
+sent-back scsi-close f = by-args scsi-close tt refl f refl
+sent-back scsi-state f = by-args scsi-state tt refl f refl
+sent-back scsi-reset f = by-args scsi-reset tt refl f refl
+sent-back (execute-cdb flags timeout datainLen cdb dataout) f = by-args (execute-cdb flags timeout datainLen cdb dataout) tt refl f (λ t e u g. at-place t e refl)
+sent-back (tape-open device mode) f = by-args (tape-open device mode) tt refl f (λ t e. at-place t e refl)
+sent-back tape-close f = by-args tape-close tt refl f refl
+sent-back tape-state f = by-args tape-state tt refl f refl
+sent-back (tape-mtio op count) f = by-args (tape-mtio op count) tt refl f refl
+sent-back (tape-write dataOut) f = by-args (tape-write dataOut) tt refl f (λ t e. at-place t e refl)
+sent-back (tape-read count) f = by-args (tape-read count) tt refl f refl
+sent-back data-state f = by-args data-state tt refl f refl
+sent-back (start-backup butype env) f = by-args (start-backup butype env) tt refl f (λ t e. at-place t e refl)
+sent-back (start-recover env list butype) f = by-args (start-recover env list butype) tt refl f (λ t e. at-place t e refl)
+sent-back data-stop f = by-args data-stop tt refl f refl
+sent-back data-listen f = by-args data-listen tt refl f refl
+sent-back mover-state f = by-args mover-state tt refl f refl
+sent-back (mover-listen mode) f = by-args (mover-listen mode) tt refl f refl
+sent-back mover-continue f = by-args mover-continue tt refl f refl
+sent-back mover-stop f = by-args mover-stop tt refl f refl
+sent-back (set-window offset len) f = by-args (set-window offset len) tt refl f refl
+sent-back (mover-read offset len) f = by-args (mover-read offset len) tt refl f refl
+sent-back (set-record-size len) f = by-args (set-record-size len) tt refl f refl
+sent-back data-abort f = by-args data-abort tt refl f refl
+sent-back data-connect f = by-args data-connect tt refl f refl
+sent-back mover-abort f = by-args mover-abort tt refl f refl
+sent-back mover-close f = by-args mover-close tt refl f refl
+sent-back (mover-connect mode) f = by-args (mover-connect mode) tt refl f refl
 
+-- no message is left out
 every : (m : Message) → Known m → Sent m
-every (Message.Connect ConnectKind.Open) h = connectOpen 0
-every (Message.Connect ConnectKind.Auth) h = clientAuth [] []
-every (Message.Connect ConnectKind.Close) h = connectClose
-every (Message.Config ConfigKind.ConnectionType) h = connectionType
-every (Message.Config ConfigKind.ServerInfo) h = serverInfo
-every (Message.Scsi ScsiKind.Open) h = scsiOpen []
-every (Message.Scsi ScsiKind.Close) h = scsiClose
-every (Message.Scsi ScsiKind.State) h = scsiState
-every (Message.Scsi ScsiKind.Reset) h = scsiReset
-every (Message.Scsi ScsiKind.Cdb) h = executeCdb 0 0 0 [] []
-every (Message.Tape TapeKind.Open) h = tapeOpen [] 0
-every (Message.Tape TapeKind.Close) h = tapeClose
-every (Message.Tape TapeKind.State) h = tapeState
-every (Message.Tape TapeKind.Mtio) h = mtio 0 0
-every (Message.Tape TapeKind.Write) h = tapeWrite []
-every (Message.Tape TapeKind.Read) h = tapeRead 0
-every (Message.Data DataKind.State) h = dataState
-every (Message.Data DataKind.Backup) h = startBackup [] []
-every (Message.Data DataKind.Recover) h = startRecover [] [] []
-every (Message.Data DataKind.Stop) h = dataStop
-every (Message.Data DataKind.Listen) h = dataListen
-every (Message.Mover MoverKind.State) h = moverState
-every (Message.Mover MoverKind.Listen) h = moverListen 0
-every (Message.Mover MoverKind.Continue) h = moverContinue
-every (Message.Mover MoverKind.Stop) h = moverStop
-every (Message.Mover MoverKind.Window) h = setWindow 0 0
-every (Message.Mover MoverKind.Read) h = moverRead 0 0
-every (Message.Mover MoverKind.Size) h = setRecordSize 0
-every (Message.Joint JointKind.DataAbort) h = dataAbort
-every (Message.Joint JointKind.DataConnect) h = dataConnect
-every (Message.Joint JointKind.MoverAbort) h = moverAbort
-every (Message.Joint JointKind.MoverClose) h = moverClose
-every (Message.Joint JointKind.MoverConnect) h = moverConnect 0
+every (Message.Connect ConnectKind.Open) h = connect-open 0
+every (Message.Connect ConnectKind.Auth) h = client-auth [] []
+every (Message.Connect ConnectKind.Close) h = connect-close
+every (Message.Config ConfigKind.ConnectionType) h = connection-type
+every (Message.Config ConfigKind.ServerInfo) h = server-info
+every (Message.Scsi ScsiKind.Open) h = scsi-open []
+every (Message.Scsi ScsiKind.Close) h = scsi-close
+every (Message.Scsi ScsiKind.State) h = scsi-state
+every (Message.Scsi ScsiKind.Reset) h = scsi-reset
+every (Message.Scsi ScsiKind.Cdb) h = execute-cdb 0 0 0 [] []
+every (Message.Tape TapeKind.Open) h = tape-open [] 0
+every (Message.Tape TapeKind.Close) h = tape-close
+every (Message.Tape TapeKind.State) h = tape-state
+every (Message.Tape TapeKind.Mtio) h = tape-mtio 0 0
+every (Message.Tape TapeKind.Write) h = tape-write []
+every (Message.Tape TapeKind.Read) h = tape-read 0
+every (Message.Data DataKind.State) h = data-state
+every (Message.Data DataKind.Backup) h = start-backup [] []
+every (Message.Data DataKind.Recover) h = start-recover [] [] []
+every (Message.Data DataKind.Stop) h = data-stop
+every (Message.Data DataKind.Listen) h = data-listen
+every (Message.Mover MoverKind.State) h = mover-state
+every (Message.Mover MoverKind.Listen) h = mover-listen 0
+every (Message.Mover MoverKind.Continue) h = mover-continue
+every (Message.Mover MoverKind.Stop) h = mover-stop
+every (Message.Mover MoverKind.Window) h = set-window 0 0
+every (Message.Mover MoverKind.Read) h = mover-read 0 0
+every (Message.Mover MoverKind.Size) h = set-record-size 0
+every (Message.Joint JointKind.DataAbort) h = data-abort
+every (Message.Joint JointKind.DataConnect) h = data-connect
+every (Message.Joint JointKind.MoverAbort) h = mover-abort
+every (Message.Joint JointKind.MoverClose) h = mover-close
+every (Message.Joint JointKind.MoverConnect) h = mover-connect 0
 every Message.Unknown h = absurd h
 
 -- ---- a word that is another type than the tag's: the rest is not read
-stops : (k v : ℕ) (fs : List Field) (b q : List ℕ) (at : ℕ) → From b at (be32 v ++ q) → OtherThan k v → readAs (tag k ∷ fs) b at ≡ before (value (four v) [] ∷ [])
+stops : (k v : ℕ) (fs : List Field) (b q : List ℕ) (at : ℕ) → From b at (be32 v ++ q) → OtherThan k v
+    → readAs (tag k ∷ fs) b at ≡ before (value (four v) [] ∷ [])
 unfolding readAs fieldAt andRead choose
 stops k v fs b q at f (h, n) =
     let l : at + 4 ≤ length b = rw (from-length f, length-append, length-be32) (omega arith) in
     rw (le-leb (at + 4) (length b) l, ← word-is q v f h, ne-eqb v k n)
 
-passes : (v : ℕ) (fs : List Field) (b q : List ℕ) → From b 0 (be32 v ++ q) → v < 2 ^ 32 → readAs (one word ∷ fs) b 0 ≡ andValue (value (four v) []) (readAs fs b 4)
+-- the word before it
+passes : (v : ℕ) (fs : List Field) (b q : List ℕ) → From b 0 (be32 v ++ q) → v < 2 ^ 32
+    → readAs (one word ∷ fs) b 0 ≡ andValue (value (four v) []) (readAs fs b 4)
 unfolding readAs fieldAt andRead choose single partAt
 passes v fs b q f h =
     let l : 4 ≤ length b = rw (from-length f, length-append, length-be32) (omega arith) in
@@ -166,20 +171,23 @@ other-first m h k fs l v rest o =
     let b = be32 v ++ rest in
     read-before m h b (value (four v) [] ∷ []) refl (rw l (stops k v fs b rest 0 (all-of b) o))
 
-other-second : (m : Message) → Known m → (k : ℕ) (fs : List Field) → layoutOf m ≡ one word ∷ tag k ∷ fs → (w v : ℕ) (rest : List ℕ) → w < 2 ^ 32 → OtherThan k v
+other-second : (m : Message) → Known m → (k : ℕ) (fs : List Field) → layoutOf m ≡ one word ∷ tag k ∷ fs
+    → (w v : ℕ) (rest : List ℕ) → w < 2 ^ 32 → OtherThan k v
     → decoded m (be32 w ++ (be32 v ++ rest)) ≡ requestOf m (put 1 (four v) (put 0 (four w) (emptyScan true)))
 unfolding puts put andValue
 other-second m h k fs l w v rest u o =
     let q = be32 v ++ rest in
     let b = be32 w ++ q in
     let f : From b 4 q = rw length-be32 at (past (be32 w) (all-of b)) in
-    let e : readAs (one word ∷ tag k ∷ fs) b 0 ≡ before (value (four w) [] ∷ value (four v) [] ∷ []) =
-    passes w (tag k ∷ fs) b q (all-of b) u ∙ ap (andValue (value (four w) [])) (stops k v fs b rest 4 f o) in
+    let e = passes w (tag k ∷ fs) b q (all-of b) u ∙ ap (andValue (value (four w) [])) (stops k v fs b rest 4 f o) in
     read-before m h b (value (four w) [] ∷ value (four v) [] ∷ []) refl (rw l e)
 
-other-auth : (v : ℕ) (rest : List ℕ) → OtherThan textAuth v → decoded (Message.Connect ConnectKind.Auth) (be32 v ++ rest) ≡ Connect ConnectRequest.OtherAuth
+other-auth : (v : ℕ) (rest : List ℕ) → OtherThan textAuth v
+    → decoded (Message.Connect ConnectKind.Auth) (be32 v ++ rest) ≡ Connect ConnectRequest.OtherAuth
 unfolding put
-other-auth v rest o = other-first (Message.Connect ConnectKind.Auth) tt textAuth (one text ∷ one text ∷ []) refl v rest o ∙ ap Connect (sym (pick-else _ (ne-eqb v textAuth (o .1)) refl))
+other-auth v rest o =
+    other-first (Message.Connect ConnectKind.Auth) tt textAuth (one text ∷ one text ∷ []) refl v rest o
+    ∙ ap Connect (sym (pick-else _ (ne-eqb v textAuth (o .1)) refl))
 
 pub requests-back : RequestsBack
 unfolding put

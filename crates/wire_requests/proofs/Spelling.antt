@@ -20,7 +20,7 @@ use Rattle.wire_layouts.proofs.Spelling.{spelled}
 use Rattle.wire_layouts.proofs.Unread.{unread-rests}
 use Rattle.wire_layouts.proofs.Within.{broken-kept}
 use Rattle.wire_requests.specs.Bodies.{layoutOf, requestOf, decoded}
-use Rattle.wire_requests.specs.RoundTrip.{Known, Apart, Spelling, to-its-end, rest-unread, OneSpelling}
+use Rattle.wire_requests.specs.RoundTrip.{Known, Apart, Spelling, to-its-end, rest-unread, RequestsOneSpelling}
 use Rattle.wire_requests.specs.declared.Request.the-variants.{Bad}
 use Rattle.wire_requests.proofs.Laws.{by-layout}
 
@@ -66,5 +66,5 @@ spelling m b h k n (whole ws) e = to-its-end ws e (spelled (layoutOf m) b ws k e
 spelling m b h k n (before ws) e = rest-unread (apart m b (unread-rests (layoutOf m) b ws e))
 spelling m b h k n broken e = absurd (n (by-layout m b h ∙ sym (pick-else (requestOf m (scanned (layoutOf m) b)) (broken-kept (layoutOf m) b e) refl)))
 
-pub requests-spelled : OneSpelling
+pub requests-spelled : RequestsOneSpelling
 requests-spelled m h b k n = spelling m b h k n (readAs (layoutOf m) b 0) refl

@@ -27,24 +27,24 @@ use Rattle.wire_requests.specs.declared.Request.the-variants.{Connect, B
 of-kept : (b : List ℕ) (m : Message) (k : Scan) → ((i : ℕ) → getD (k .starts) i 0 + getD (k .lens) i 0 ≤ length b) → textsWithin b (requestOf m k)
 unfolding textsWithin
 of-kept b (Message.Connect ConnectKind.Open) k h = tt
-of-kept b (Message.Connect ConnectKind.Auth) k h = by-test (λ q. textsWithin b (Connect q)) (eqb (getD (k .words) 0 0) 1) _ _ (λ e. (h 1, h 2)) (λ e. tt)
+of-kept b (Message.Connect ConnectKind.Auth) k h = by-test (λ q. textsWithin b (Connect q)) (eqb (getD (k .words) 0 0) 1) _ _ (λ e. (h _, h _)) (λ e. tt)
 of-kept b (Message.Connect ConnectKind.Close) k h = tt
 of-kept b (Message.Config ConfigKind.ConnectionType) k h = tt
 of-kept b (Message.Config ConfigKind.ServerInfo) k h = tt
-of-kept b (Message.Scsi ScsiKind.Open) k h = h 0
+of-kept b (Message.Scsi ScsiKind.Open) k h = h _
 of-kept b (Message.Scsi ScsiKind.Close) k h = tt
 of-kept b (Message.Scsi ScsiKind.State) k h = tt
 of-kept b (Message.Scsi ScsiKind.Reset) k h = tt
-of-kept b (Message.Scsi ScsiKind.Cdb) k h = h 3
-of-kept b (Message.Tape TapeKind.Open) k h = h 0
+of-kept b (Message.Scsi ScsiKind.Cdb) k h = h _
+of-kept b (Message.Tape TapeKind.Open) k h = h _
 of-kept b (Message.Tape TapeKind.Close) k h = tt
 of-kept b (Message.Tape TapeKind.State) k h = tt
 of-kept b (Message.Tape TapeKind.Mtio) k h = tt
-of-kept b (Message.Tape TapeKind.Write) k h = h 0
+of-kept b (Message.Tape TapeKind.Write) k h = h _
 of-kept b (Message.Tape TapeKind.Read) k h = tt
 of-kept b (Message.Data DataKind.State) k h = tt
-of-kept b (Message.Data DataKind.Backup) k h = h 0
-of-kept b (Message.Data DataKind.Recover) k h = h 2
+of-kept b (Message.Data DataKind.Backup) k h = h _
+of-kept b (Message.Data DataKind.Recover) k h = h _
 of-kept b (Message.Data DataKind.Stop) k h = tt
 of-kept b (Message.Data DataKind.Listen) k h = tt
 of-kept b (Message.Mover MoverKind.State) k h = tt

@@ -14,7 +14,7 @@ use Rattle.wire_layouts.specs.Layout.{Value, writeAs, whole, readAs}
 use Rattle.wire_layouts.specs.Laws.{Bytes, contents}
 use Rattle.wire_layouts.specs.declared.Text.{Text}
 use Rattle.wire_requests.specs.Bodies.{layoutOf, decoded}
-use Rattle.wire_requests.specs.Sent.{Sent, bodyOf, SentFits, Means}
+use Rattle.wire_requests.specs.Sent.{Sent, sentBytes, SentFits, Means}
 use Rattle.wire_requests.specs.declared.ConnectRequest.the-variants as ConnectRequest
 use Rattle.wire_requests.specs.declared.DataRequest.the-variants as DataRequest
 use Rattle.wire_requests.specs.declared.MoverRequest.the-variants as MoverRequest
@@ -39,7 +39,7 @@ OtherThan k v = (v < 2 ^ 32) × (v ≡ k → ⊥)
 -- other than 1 .. the rest is not read", whatever it is
 pub record RequestsBack : Type 0 where
   pub every : (m : Message) → Known m → Sent m
-  pub sent : {m : Message} (s : Sent m) → SentFits s → Means s (bodyOf s) (decoded m (bodyOf s))
+  pub sent : {m : Message} (s : Sent m) → SentFits s → Means s (sentBytes s) (decoded m (sentBytes s))
   pub other-auth : (v : ℕ) (rest : List ℕ) → OtherThan textAuth v
       → decoded (Message.Connect ConnectKind.Auth) (be32 v ++ rest) ≡ Connect ConnectRequest.OtherAuth
   pub other-data-listen : (v : ℕ) (rest : List ℕ) → OtherThan localAddress v
@@ -84,5 +84,5 @@ pub data Spelling (m : Message) (b : List ℕ) : Type 0 where
   to-its-end : (ws : List (Value Text)) → readAs (layoutOf m) b 0 ≡ whole ws → b ≡ writeAs (map (contents b) ws) → Spelling m b
   rest-unread : Apart m b → Spelling m b
 
-abbrev pub OneSpelling : Type 0
-OneSpelling = (m : Message) → Known m → (b : List ℕ) → Bytes b → (decoded m b ≡ Bad → ⊥) → Spelling m b
+abbrev pub RequestsOneSpelling : Type 0
+RequestsOneSpelling = (m : Message) → Known m → (b : List ℕ) → Bytes b → (decoded m b ≡ Bad → ⊥) → Spelling m b

@@ -1,5 +1,5 @@
 -- Requests a second time, by the names that 004 gives their fields: the bytes of each body after 004's Appendix C, written by RFC 4506, and
--- the request that the body must decode to. Nothing here is taken from the tables of `Bodies`; the two are proved to agree.
+-- the request that the body must decode to. Nothing here is taken from the tables of `Bodies`: `RequestsBack` says that the two agree.
 use Prim.Native.Nat.{ℕ, _^_, _≤_, _<_}
 use mathlib.Core.Path.{_≡_}
 use mathlib.Core.List.{List, [], _∷_, _++_, flatMap}
@@ -88,119 +88,119 @@ ArgFits (union k) = k < 2 ^ 32
 
 -- ---- the requests of each message. An auth is a text here and an address LOCAL: of other types the rest is not read, see `RequestsBack`.
 pub data Sent : Message → Type 0 where
-  connectOpen : (version : ℕ) → Sent (Message.Connect ConnectKind.Open)
-  clientAuth : (id password : List ℕ) → Sent (Message.Connect ConnectKind.Auth)
-  connectClose : Sent (Message.Connect ConnectKind.Close)
-  connectionType : Sent (Message.Config ConfigKind.ConnectionType)
-  serverInfo : Sent (Message.Config ConfigKind.ServerInfo)
-  scsiOpen : (device : List ℕ) → Sent (Message.Scsi ScsiKind.Open)
-  scsiClose : Sent (Message.Scsi ScsiKind.Close)
-  scsiState : Sent (Message.Scsi ScsiKind.State)
-  scsiReset : Sent (Message.Scsi ScsiKind.Reset)
-  executeCdb : (flags timeout datainLen : ℕ) (cdb dataout : List ℕ) → Sent (Message.Scsi ScsiKind.Cdb)
-  tapeOpen : (device : List ℕ) (mode : ℕ) → Sent (Message.Tape TapeKind.Open)
-  tapeClose : Sent (Message.Tape TapeKind.Close)
-  tapeState : Sent (Message.Tape TapeKind.State)
-  mtio : (op count : ℕ) → Sent (Message.Tape TapeKind.Mtio)
-  tapeWrite : (dataOut : List ℕ) → Sent (Message.Tape TapeKind.Write)
-  tapeRead : (count : ℕ) → Sent (Message.Tape TapeKind.Read)
-  dataState : Sent (Message.Data DataKind.State)
-  startBackup : (butype : List ℕ) (env : List Pval) → Sent (Message.Data DataKind.Backup)
-  startRecover : (env : List Pval) (list : List Name) (butype : List ℕ) → Sent (Message.Data DataKind.Recover)
-  dataStop : Sent (Message.Data DataKind.Stop)
-  dataListen : Sent (Message.Data DataKind.Listen)
-  moverState : Sent (Message.Mover MoverKind.State)
-  moverListen : (mode : ℕ) → Sent (Message.Mover MoverKind.Listen)
-  moverContinue : Sent (Message.Mover MoverKind.Continue)
-  moverStop : Sent (Message.Mover MoverKind.Stop)
-  setWindow : (offset len : ℕ) → Sent (Message.Mover MoverKind.Window)
-  moverRead : (offset len : ℕ) → Sent (Message.Mover MoverKind.Read)
-  setRecordSize : (len : ℕ) → Sent (Message.Mover MoverKind.Size)
-  dataAbort : Sent (Message.Joint JointKind.DataAbort)
-  dataConnect : Sent (Message.Joint JointKind.DataConnect)
-  moverAbort : Sent (Message.Joint JointKind.MoverAbort)
-  moverClose : Sent (Message.Joint JointKind.MoverClose)
-  moverConnect : (mode : ℕ) → Sent (Message.Joint JointKind.MoverConnect)
+  connect-open : (version : ℕ) → Sent (Message.Connect ConnectKind.Open)
+  client-auth : (id password : List ℕ) → Sent (Message.Connect ConnectKind.Auth)
+  connect-close : Sent (Message.Connect ConnectKind.Close)
+  connection-type : Sent (Message.Config ConfigKind.ConnectionType)
+  server-info : Sent (Message.Config ConfigKind.ServerInfo)
+  scsi-open : (device : List ℕ) → Sent (Message.Scsi ScsiKind.Open)
+  scsi-close : Sent (Message.Scsi ScsiKind.Close)
+  scsi-state : Sent (Message.Scsi ScsiKind.State)
+  scsi-reset : Sent (Message.Scsi ScsiKind.Reset)
+  execute-cdb : (flags timeout datainLen : ℕ) (cdb dataout : List ℕ) → Sent (Message.Scsi ScsiKind.Cdb)
+  tape-open : (device : List ℕ) (mode : ℕ) → Sent (Message.Tape TapeKind.Open)
+  tape-close : Sent (Message.Tape TapeKind.Close)
+  tape-state : Sent (Message.Tape TapeKind.State)
+  tape-mtio : (op count : ℕ) → Sent (Message.Tape TapeKind.Mtio)
+  tape-write : (dataOut : List ℕ) → Sent (Message.Tape TapeKind.Write)
+  tape-read : (count : ℕ) → Sent (Message.Tape TapeKind.Read)
+  data-state : Sent (Message.Data DataKind.State)
+  start-backup : (butype : List ℕ) (env : List Pval) → Sent (Message.Data DataKind.Backup)
+  start-recover : (env : List Pval) (list : List Name) (butype : List ℕ) → Sent (Message.Data DataKind.Recover)
+  data-stop : Sent (Message.Data DataKind.Stop)
+  data-listen : Sent (Message.Data DataKind.Listen)
+  mover-state : Sent (Message.Mover MoverKind.State)
+  mover-listen : (mode : ℕ) → Sent (Message.Mover MoverKind.Listen)
+  mover-continue : Sent (Message.Mover MoverKind.Continue)
+  mover-stop : Sent (Message.Mover MoverKind.Stop)
+  set-window : (offset len : ℕ) → Sent (Message.Mover MoverKind.Window)
+  mover-read : (offset len : ℕ) → Sent (Message.Mover MoverKind.Read)
+  set-record-size : (len : ℕ) → Sent (Message.Mover MoverKind.Size)
+  data-abort : Sent (Message.Joint JointKind.DataAbort)
+  data-connect : Sent (Message.Joint JointKind.DataConnect)
+  mover-abort : Sent (Message.Joint JointKind.MoverAbort)
+  mover-close : Sent (Message.Joint JointKind.MoverClose)
+  mover-connect : (mode : ℕ) → Sent (Message.Joint JointKind.MoverConnect)
 
 -- the fields of the body, in the order of the struct
 abbrev pub argsOf : {m : Message} → Sent m → List Arg
-argsOf (connectOpen version) = ulong version ∷ []
-argsOf (clientAuth id password) = union textAuth ∷ octets id ∷ octets password ∷ []
-argsOf connectClose = []
-argsOf connectionType = []
-argsOf serverInfo = []
-argsOf (scsiOpen device) = octets device ∷ []
-argsOf scsiClose = []
-argsOf scsiState = []
-argsOf scsiReset = []
-argsOf (executeCdb flags timeout datainLen cdb dataout) = ulong flags ∷ ulong timeout ∷ ulong datainLen ∷ octets cdb ∷ octets dataout ∷ []
-argsOf (tapeOpen device mode) = octets device ∷ ulong mode ∷ []
-argsOf tapeClose = []
-argsOf tapeState = []
-argsOf (mtio op count) = ulong op ∷ ulong count ∷ []
-argsOf (tapeWrite dataOut) = octets dataOut ∷ []
-argsOf (tapeRead count) = ulong count ∷ []
-argsOf dataState = []
-argsOf (startBackup butype env) = octets butype ∷ pvals env ∷ []
-argsOf (startRecover env list butype) = pvals env ∷ nameList list ∷ octets butype ∷ []
-argsOf dataStop = []
-argsOf dataListen = union localAddress ∷ []
-argsOf moverState = []
-argsOf (moverListen mode) = ulong mode ∷ union localAddress ∷ []
-argsOf moverContinue = []
-argsOf moverStop = []
-argsOf (setWindow offset len) = uquad offset ∷ uquad len ∷ []
-argsOf (moverRead offset len) = uquad offset ∷ uquad len ∷ []
-argsOf (setRecordSize len) = ulong len ∷ []
-argsOf dataAbort = []
-argsOf dataConnect = union localAddress ∷ []
-argsOf moverAbort = []
-argsOf moverClose = []
-argsOf (moverConnect mode) = ulong mode ∷ union localAddress ∷ []
+argsOf (connect-open version) = ulong version ∷ []
+argsOf (client-auth id password) = union textAuth ∷ octets id ∷ octets password ∷ []
+argsOf connect-close = []
+argsOf connection-type = []
+argsOf server-info = []
+argsOf (scsi-open device) = octets device ∷ []
+argsOf scsi-close = []
+argsOf scsi-state = []
+argsOf scsi-reset = []
+argsOf (execute-cdb flags timeout datainLen cdb dataout) = ulong flags ∷ ulong timeout ∷ ulong datainLen ∷ octets cdb ∷ octets dataout ∷ []
+argsOf (tape-open device mode) = octets device ∷ ulong mode ∷ []
+argsOf tape-close = []
+argsOf tape-state = []
+argsOf (tape-mtio op count) = ulong op ∷ ulong count ∷ []
+argsOf (tape-write dataOut) = octets dataOut ∷ []
+argsOf (tape-read count) = ulong count ∷ []
+argsOf data-state = []
+argsOf (start-backup butype env) = octets butype ∷ pvals env ∷ []
+argsOf (start-recover env list butype) = pvals env ∷ nameList list ∷ octets butype ∷ []
+argsOf data-stop = []
+argsOf data-listen = union localAddress ∷ []
+argsOf mover-state = []
+argsOf (mover-listen mode) = ulong mode ∷ union localAddress ∷ []
+argsOf mover-continue = []
+argsOf mover-stop = []
+argsOf (set-window offset len) = uquad offset ∷ uquad len ∷ []
+argsOf (mover-read offset len) = uquad offset ∷ uquad len ∷ []
+argsOf (set-record-size len) = ulong len ∷ []
+argsOf data-abort = []
+argsOf data-connect = union localAddress ∷ []
+argsOf mover-abort = []
+argsOf mover-close = []
+argsOf (mover-connect mode) = ulong mode ∷ union localAddress ∷ []
 
-unfoldable pub bodyOf : {m : Message} → Sent m → List ℕ
-bodyOf s = flatMap argBytes (argsOf s)
+unfoldable pub sentBytes : {m : Message} → Sent m → List ℕ
+sentBytes s = flatMap argBytes (argsOf s)
 
 abbrev pub SentFits : {m : Message} → Sent m → Type 0
 SentFits s = Each ArgFits (argsOf s)
 
--- ---- what a request r says of the body b. The text s stands at a place in b, and of that place P holds.
+-- ---- what a request r says of the body b. The text s stands at a place in b (within it, by `Within`), and of that place P holds.
 pub record AtPlace (b s : List ℕ) (P : Text → Type 0) : Type 0 where
   pub stands : Text
   pub holds : bytesAt b stands ≡ s
   pub so : P stands
 
 abbrev pub Means : {m : Message} → Sent m → List ℕ → Request → Type 0
-Means (connectOpen version) b r = r ≡ Connect (ConnectRequest.Open version)
-Means (clientAuth id password) b r = AtPlace b id (λ i. AtPlace b password (λ p. r ≡ Connect (ConnectRequest.Auth i p)))
-Means connectClose b r = r ≡ Connect ConnectRequest.Close
-Means connectionType b r = r ≡ Config ConfigRequest.ConnectionType
-Means serverInfo b r = r ≡ Config ConfigRequest.ServerInfo
-Means (scsiOpen device) b r = AtPlace b device (λ d. r ≡ Scsi (ScsiRequest.Open d))
-Means scsiClose b r = r ≡ Scsi ScsiRequest.Close
-Means scsiState b r = r ≡ Scsi ScsiRequest.State
-Means scsiReset b r = r ≡ Scsi ScsiRequest.Reset
-Means (executeCdb flags timeout datainLen cdb dataout) b r = AtPlace b cdb (λ c. r ≡ Scsi (ScsiRequest.Cdb c datainLen))
-Means (tapeOpen device mode) b r = AtPlace b device (λ d. r ≡ Tape (TapeRequest.Open d mode))
-Means tapeClose b r = r ≡ Tape TapeRequest.Close
-Means tapeState b r = r ≡ Tape TapeRequest.State
-Means (mtio op count) b r = r ≡ Tape (TapeRequest.Mtio op count)
-Means (tapeWrite dataOut) b r = AtPlace b dataOut (λ d. r ≡ Tape (TapeRequest.Write d))
-Means (tapeRead count) b r = r ≡ Tape (TapeRequest.Read count)
-Means dataState b r = r ≡ Data DataRequest.State
-Means (startBackup butype env) b r = AtPlace b butype (λ t. r ≡ Data (DataRequest.Backup t))
-Means (startRecover env list butype) b r = AtPlace b butype (λ t. r ≡ Data (DataRequest.Recover t))
-Means dataStop b r = r ≡ Data DataRequest.Stop
-Means dataListen b r = r ≡ Data (DataRequest.Listen localAddress)
-Means moverState b r = r ≡ Mover MoverRequest.State
-Means (moverListen mode) b r = r ≡ Mover (MoverRequest.Listen mode localAddress)
-Means moverContinue b r = r ≡ Mover MoverRequest.Continue
-Means moverStop b r = r ≡ Mover MoverRequest.Stop
-Means (setWindow offset len) b r = r ≡ Mover (MoverRequest.Window offset len)
-Means (moverRead offset len) b r = r ≡ Mover (MoverRequest.Read offset len)
-Means (setRecordSize len) b r = r ≡ Mover (MoverRequest.Size len)
-Means dataAbort b r = r ≡ Joint JointRequest.DataAbort
-Means dataConnect b r = r ≡ Joint (JointRequest.DataConnect localAddress)
-Means moverAbort b r = r ≡ Joint JointRequest.MoverAbort
-Means moverClose b r = r ≡ Joint JointRequest.MoverClose
-Means (moverConnect mode) b r = r ≡ Joint (JointRequest.MoverConnect mode localAddress)
+Means (connect-open version) b r = r ≡ Connect (ConnectRequest.Open version)
+Means (client-auth id password) b r = AtPlace b id (λ i. AtPlace b password (λ p. r ≡ Connect (ConnectRequest.Auth i p)))
+Means connect-close b r = r ≡ Connect ConnectRequest.Close
+Means connection-type b r = r ≡ Config ConfigRequest.ConnectionType
+Means server-info b r = r ≡ Config ConfigRequest.ServerInfo
+Means (scsi-open device) b r = AtPlace b device (λ d. r ≡ Scsi (ScsiRequest.Open d))
+Means scsi-close b r = r ≡ Scsi ScsiRequest.Close
+Means scsi-state b r = r ≡ Scsi ScsiRequest.State
+Means scsi-reset b r = r ≡ Scsi ScsiRequest.Reset
+Means (execute-cdb flags timeout datainLen cdb dataout) b r = AtPlace b cdb (λ c. r ≡ Scsi (ScsiRequest.Cdb c datainLen))
+Means (tape-open device mode) b r = AtPlace b device (λ d. r ≡ Tape (TapeRequest.Open d mode))
+Means tape-close b r = r ≡ Tape TapeRequest.Close
+Means tape-state b r = r ≡ Tape TapeRequest.State
+Means (tape-mtio op count) b r = r ≡ Tape (TapeRequest.Mtio op count)
+Means (tape-write dataOut) b r = AtPlace b dataOut (λ d. r ≡ Tape (TapeRequest.Write d))
+Means (tape-read count) b r = r ≡ Tape (TapeRequest.Read count)
+Means data-state b r = r ≡ Data DataRequest.State
+Means (start-backup butype env) b r = AtPlace b butype (λ t. r ≡ Data (DataRequest.Backup t))
+Means (start-recover env list butype) b r = AtPlace b butype (λ t. r ≡ Data (DataRequest.Recover t))
+Means data-stop b r = r ≡ Data DataRequest.Stop
+Means data-listen b r = r ≡ Data (DataRequest.Listen localAddress)
+Means mover-state b r = r ≡ Mover MoverRequest.State
+Means (mover-listen mode) b r = r ≡ Mover (MoverRequest.Listen mode localAddress)
+Means mover-continue b r = r ≡ Mover MoverRequest.Continue
+Means mover-stop b r = r ≡ Mover MoverRequest.Stop
+Means (set-window offset len) b r = r ≡ Mover (MoverRequest.Window offset len)
+Means (mover-read offset len) b r = r ≡ Mover (MoverRequest.Read offset len)
+Means (set-record-size len) b r = r ≡ Mover (MoverRequest.Size len)
+Means data-abort b r = r ≡ Joint JointRequest.DataAbort
+Means data-connect b r = r ≡ Joint (JointRequest.DataConnect localAddress)
+Means mover-abort b r = r ≡ Joint JointRequest.MoverAbort
+Means mover-close b r = r ≡ Joint JointRequest.MoverClose
+Means (mover-connect mode) b r = r ≡ Joint (JointRequest.MoverConnect mode localAddress)

@@ -2,7 +2,7 @@
 ghost use mathlib.Core.Path.{_≡_};
 ghost use Rattle.wire_requests.specs.Bodies.{connectBody, configBody, scsiBody, tapeBody, dataBody, moverBody, jointBody};
 ghost use Rattle.wire_requests.specs.Within.{Decoded};
-ghost use Rattle.wire_requests.specs.RoundTrip.{RequestsBack, OneSpelling};
+ghost use Rattle.wire_requests.specs.RoundTrip.{RequestsBack, RequestsOneSpelling};
 ghost use Rattle.wire_requests.specs.Rows.{RowsHold};
 
 mod fields; // fields.rt: what the bodies of several messages share
@@ -189,14 +189,14 @@ pub fn decode(m: Message, body: &[u8]) -> Request
     }
 }
 
-// No work: its contract is that a request that was written is read back, so that the crate is proved only with it.
+// No work: its contract is that a body written by 004 is read as the request that it says, so that the crate is proved only with it.
 pub fn requests_round_trip()
     ensures { λ r. ⌜ RequestsBack ⌝ }
 {}
 
 // No work: its contract is that a body that decodes, fields to their end, has no second spelling.
 pub fn requests_one_spelling()
-    ensures { λ r. ⌜ OneSpelling ⌝ }
+    ensures { λ r. ⌜ RequestsOneSpelling ⌝ }
 {}
 
 // No work: its contract is one body for each message, and bodies that are none, computed.
