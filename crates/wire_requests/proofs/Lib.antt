@@ -1,5 +1,5 @@
--- `Within` says that the texts of a decoded request lie within its body, `RoundTrip` that a request that was written is read back, by `Sent`,
--- which ties its fields to the layout. They serve the crates above too.
+-- `Within` says that the texts of a decoded request lie within its body; `RoundTrip` that a body of 004 is read as it says, by `Sent`, which
+-- ties its fields to the layout; `Spelling` that a body has no second spelling.
 pub mod Laws
 pub mod Within
 pub mod Sent
