@@ -26,11 +26,11 @@ use Rattle.wire_requests.specs.declared.Request.{Request}
 use Rattle.wire_requests.specs.declared.Request.the-variants as Request
 
 -- a body of a message
-pub record Body : Type 0 where
+pub record SampleBody : Type 0 where
   pub message : Message
   pub bytes : List ℕ
 
-abbrev pub body : Message → List ℕ → Body
+abbrev pub body : Message → List ℕ → SampleBody
 body m b = record { message = m; bytes = b }
 
 -- ---- the bytes of fields: a word below 256, a hyper of two such words, and a text with its fill
@@ -73,7 +73,7 @@ abbrev pub inquiry : List ℕ
 inquiry = 18 ∷ 0 ∷ 0 ∷ 0 ∷ 36 ∷ 0 ∷ []
 
 -- ---- bodies, and the request of each
-abbrev pub bodies : List Body
+abbrev pub bodies : List SampleBody
 bodies =
     body (Message.Connect ConnectKind.Open) (small 4)
     ∷ body (Message.Connect ConnectKind.Auth) (small 1 ++ string vault none ++ string noon [])
@@ -161,7 +161,7 @@ requests =
 
 -- ---- a byte of fill that is not zero, in each place where a text may stand and at each length of fill; bytes that are missing or left
 -- over; and one pair more than 64
-abbrev pub badBodies : List Body
+abbrev pub badBodies : List SampleBody
 badBodies =
     body (Message.Connect ConnectKind.Auth) (small 1 ++ string vault (0 ∷ 0 ∷ 1 ∷ []) ++ string noon [])
     ∷ body (Message.Connect ConnectKind.Auth) (small 1 ++ string vault none ++ string (1 ∷ 2 ∷ 3 ∷ []) (1 ∷ []))
@@ -183,5 +183,5 @@ badBodies =
     ∷ []
 
 pub record RowsHold : Type 0 where
-  pub decodes : map (λ (r : Body). decoded (r .message) (r .bytes)) bodies ≡ requests
-  pub refuses : map (λ (r : Body). decoded (r .message) (r .bytes)) badBodies ≡ map (λ (r : Body). Request.Bad) badBodies
+  pub decodes : map (λ (r : SampleBody). decoded (r .message) (r .bytes)) bodies ≡ requests
+  pub refuses : map (λ (r : SampleBody). decoded (r .message) (r .bytes)) badBodies ≡ map (λ (r : SampleBody). Request.Bad) badBodies
