@@ -1,2 +1,3 @@
 -- The laws of spacing, for the loop and for the crates above.
 pub mod Laws
+pub mod Alike

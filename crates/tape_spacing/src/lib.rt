@@ -6,6 +6,7 @@ ghost use Rattle.tape_image.specs.Image.{mostEntries};
 ghost use Rattle.tape_image.specs.Sound.{Placed};
 ghost use Rattle.tape_spacing.specs.Spacing.{spacing, aheadOf, passes, positionAfter};
 ghost use Rattle.tape_spacing.specs.Examples.{SpacingExamplesHold};
+ghost use Rattle.tape_spacing.specs.Alike.{SpacingAlike};
 
 // Where a walk over the table ended: the error, the position and the residue.
 #[repr(C)]
@@ -101,4 +102,9 @@ pub fn space(image: &[u8], op: u32, position: usize, times: u32) -> Spaced
 // No work: its contract is the list of worked examples, so that the crate is proved only with them.
 pub fn examples_hold()
     ensures { λ r. ⌜ SpacingExamplesHold ⌝ }
+{}
+
+// No work: its contract is that two sound images of one n answer alike if the entries passed agree in kind.
+pub fn spacing_alike()
+    ensures { λ r. ⌜ SpacingAlike ⌝ }
 {}
