@@ -1,6 +1,7 @@
 /* A backup of 3,000 bytes in records of 1,024, from C: the examples g, h and i of the rules. Each step is checked, and the first that is not as the rules
  * say ends the program with 1. */
 #include "../../include/mossgoblin.h"
+#include "wire.h"
 
 #include <stdio.h>
 #include <stdlib.h>
@@ -9,19 +10,6 @@
 static uint8_t image[16 + 4 * 8 + 4096];
 static uint8_t out[MOSSGOBLIN_OUTPUT];
 static struct mossgoblin_session session;
-
-static void put_word(uint8_t *at, uint32_t word)
-{
-    at[0] = word >> 24;
-    at[1] = word >> 16;
-    at[2] = word >> 8;
-    at[3] = word;
-}
-
-static uint32_t word(const uint8_t *at)
-{
-    return (uint32_t)at[0] << 24 | (uint32_t)at[1] << 16 | (uint32_t)at[2] << 8 | at[3];
-}
 
 static void check(bool holds, const char *what)
 {
@@ -35,14 +23,10 @@ static void check(bool holds, const char *what)
 /* A request whose body is words; its reply's error is 0. */
 static void ask(const char *what, uint32_t message, const uint32_t *body, size_t words)
 {
-    uint8_t record[28 + 4 * 8];
-    uint32_t header[7] = {0x80000000u + 24 + 4 * (uint32_t)words, 7, 0, 0, message, 0, 0};
-    for (size_t i = 0; i < 7; i++)
-        put_word(record + 4 * i, header[i]);
-    for (size_t i = 0; i < words; i++)
-        put_word(record + 28 + 4 * i, body[i]);
+    uint8_t record[RECORD];
+    size_t n = put_request(record, message, body, words);
     struct mossgoblin_answer a = mossgoblin_request(session, (const uint8_t *)"v", 1, (const uint8_t *)"pw", 2, image, sizeof image, record,
-                                                    28 + 4 * words, 0, out, sizeof out);
+                                                    n, 0, out, sizeof out);
     check(a.code == 0 && a.len >= 32 && word(out + 24) == 0 && word(out + 28) == 0, what);
     session = a.session;
 }

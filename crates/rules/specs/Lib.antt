@@ -13,3 +13,4 @@ pub mod Answer
 pub mod Order
 pub mod Calls
 pub mod Leaving
+pub mod Alike

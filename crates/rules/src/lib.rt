@@ -8,6 +8,7 @@ ghost use Rattle.rules.specs.Promises.{Promises};
 ghost use Rattle.rules.specs.Order.{AnyOrder, ServicesAre};
 ghost use Rattle.rules.specs.Calls.{CallsKeep};
 ghost use Rattle.rules.specs.Leaving.{CallsLeave};
+ghost use Rattle.rules.specs.Alike.{SpacesAlike};
 
 pub mod types;
 
@@ -523,4 +524,9 @@ pub fn calls_keep()
 // No work: its contract is what every number of a reply leaves, who becomes authorized, and what writes to the cartridge.
 pub fn calls_leave()
     ensures { λ r. ⌜ CallsLeave ⌝ }
+{}
+
+// No work: its contract is that a spacing call is answered alike on two sound cartridges of one n whose entries passed agree in kind.
+pub fn spaces_alike()
+    ensures { λ r. ⌜ SpacesAlike ⌝ }
 {}

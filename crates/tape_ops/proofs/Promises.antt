@@ -10,13 +10,15 @@ use lib.Dec.{ltb, eqb}
 use borrow.Author.Tests.{ltb-false, eqb-true, eqb-false, eq-eqb, ne-eqb, lt-ltb, le-ltb}
 use Rattle.codes.specs.Codes.{longestRecord}
 use Rattle.xdr.specs.Choose.{choose, least}
-use Rattle.xdr.proofs.Tests.{by-test, least-take}
+use Rattle.xdr.proofs.Tests.{by-test, by-both, least-take}
 use Rattle.tape_image.specs.Image.{capacity, count, entryLen, entryStart, entryBytes, bodyAt, faulty}
 use Rattle.tape_image.specs.Sound.{Sound, Placed}
-use Rattle.tape_image.proofs.Laws.{placed, no-fault}
+use Rattle.tape_image.proofs.Laws.{sound-holds, placed, no-fault}
 use Rattle.tape_spacing.specs.declared.Spaced.{Spaced}
 use Rattle.tape_spacing.specs.Spacing.{ended, spacing, goesForward, PassedMark, endOf}
+use Rattle.tape_spacing.specs.Alike.{AgreeInKind}
 use Rattle.tape_spacing.proofs.Laws.{spaced-within, spaced-error, spaced-stands}
+use Rattle.tape_spacing.proofs.Alike.{spacing-alike}
 use Rattle.tape_writing.specs.Writing.{Room, roomFor, kept, written, withMarks}
 use Rattle.tape_writing.proofs.Laws.{room-facts}
 use Rattle.tape_writing.proofs.Theorems.{written-placed, written-length, written-count, written-used, written-len, written-start, written-capacity}
@@ -25,7 +27,7 @@ use Rattle.tape_ops.specs.declared.Wrote.{Wrote}
 use Rattle.tape_ops.specs.declared.Part.{Part}
 use Rattle.tape_ops.specs.Step.{Step, keeping}
 use Rattle.tape_ops.specs.Operations.{wrote, part, writeStep, readPart, entryPart, markStep, mtioStep}
-use Rattle.tape_ops.specs.Promises.{spanOf, StaySound, Refused, Stand, Leave, PastEnd, ReadBack, FirstBytes, TapePromises}
+use Rattle.tape_ops.specs.Promises.{spanOf, StaySound, Refused, Stand, Leave, PastEnd, ReadBack, FirstBytes, MtioAlike, TapePromises}
 
 -- ---- a sound image stays sound
 Kept : Step Wrote → Type 0
@@ -363,8 +365,28 @@ module _ (l : List ℕ) (p : ℕ) (b : List ℕ) (at : Placed l p) (some : 0 < l
       (λ r _. written-back (ltb-false longestRecord (length b) s) (room-facts l p (length b) r))
       (λ _ h. absurd (omega arith)))))
 
+-- ---- sound images of one n are answered alike: no test of MTIO tells them apart, and then it is spacing
+same-fault : (l m : List ℕ) (p : ℕ) → Sound l → Sound m → count l ≡ count m → faulty m p ≡ faulty l p
+unfolding faulty choose
+same-fault l m p a b one = rw (sound-holds l a, sound-holds m b, one)
+
+module _ (l m : List ℕ) (a : Sound l) (b : Sound m) (one : count l ≡ count m) (op p times : ℕ) where
+  Alike : Step Spaced → Step Spaced → Type 0
+  Alike s t = AgreeInKind (goesForward op) p (s .gives .position) l m → s .gives ≡ t .gives
+
+  mtio-alike : op < 5 → Alike (mtioStep l op p times) (mtioStep m op p times)
+  unfolding mtioStep Alike
+  mtio-alike few =
+      rw (same-fault l m p a b one)
+      (by-both Alike (ltb 6 op) _ _ _ _ (λ _ _. refl)
+      (λ _. by-both Alike (eqb op 6) _ _ _ _ (λ _ _. refl)
+      (λ _. by-both Alike (faulty l p) _ _ _ _ (λ _ _. refl)
+      (λ f. by-both Alike (eqb op 5) _ _ _ _ (λ e _. absurd (let z = eqb-true op 5 e in omega arith))
+      (λ _. by-both Alike (eqb op 4) _ _ _ _ (λ _ _. refl)
+      (λ _. spacing-alike l m op p times (placed l p f) (placed m p (same-fault l m p a b one ∙ f)) one))))))
+
 pub promises : TapePromises
-unfolding Kept Spaces InTape Writes Moves Same WriteStands MtioStands ReadStands ReadMark ReadEnd WriteMark WriteEnd MtioMark MtioEnd WritePast MtioPast First Returned
+unfolding Kept Spaces InTape Writes Moves Same WriteStands MtioStands ReadStands ReadMark ReadEnd WriteMark WriteEnd MtioMark MtioEnd WritePast MtioPast First Returned Alike
 promises =
     record {
       sound = λ l p at. record { write = write-kept l p at; mtio = mtio-kept l p at; read = read-kept l p at };
@@ -383,4 +405,5 @@ promises =
       past = λ l p. record { write = write-past l p; mtio = λ op times. mtio-past l op p times };
       first = λ l p times some. read-first l p times some;
       back = λ l p b at some e. let r = write-back l p b at some e in record { error = r .error; bytes = r .bytes; before = r .before };
+      alike = λ l m a b one op p times few. mtio-alike l m a b one op p times few;
     }

@@ -7,8 +7,9 @@ use lib.Dec.{eqb}
 use Rattle.codes.specs.Codes.{atMark, atEnd, writeMarks}
 use Rattle.xdr.specs.Choose.{choose}
 use Rattle.tape_image.specs.Image.{count, used, entryAt, entryBytes, entryLen, bodyAt}
-use Rattle.tape_image.specs.Sound.{Placed}
+use Rattle.tape_image.specs.Sound.{Sound, Placed}
 use Rattle.tape_spacing.specs.Spacing.{goesForward, PassedMark, endOf}
+use Rattle.tape_spacing.specs.Alike.{AgreeInKind}
 use Rattle.tape_ops.specs.Step.{Step}
 use Rattle.tape_ops.specs.Operations.{writeStep, readPart, mtioStep, part}
 
@@ -69,6 +70,13 @@ pub record Past (l : List ℕ) (p : ℕ) : Type 0 where
   pub write : (b : List ℕ) → PastEnd l (writeStep l p b .image)
   pub mtio : (op times : ℕ) → PastEnd l (mtioStep l op p times .image)
 
+-- "two sound images of one n answer the same call alike if the entries passed agree in kind" (paper 02, No. 4), at any position: REW passes none, and where a
+-- call is refused none is passed
+abbrev pub MtioAlike : List ℕ → List ℕ → Type 0
+MtioAlike l m =
+    (op p times : ℕ) → op < writeMarks → AgreeInKind (goesForward op) p (mtioStep l op p times .gives .position) l m
+    → mtioStep l op p times .gives ≡ mtioStep m op p times .gives
+
 pub record TapePromises : Type 0 where
   pub sound : (l : List ℕ) (p : ℕ) → Placed l p → StaySound l p
   pub leave : (l : List ℕ) (p : ℕ) → Leave l p
@@ -77,3 +85,4 @@ pub record TapePromises : Type 0 where
   pub past : (l : List ℕ) (p : ℕ) → Past l p
   pub first : (l : List ℕ) (p : ℕ) → FirstBytes l p
   pub back : (l : List ℕ) (p : ℕ) (b : List ℕ) → Placed l p → 0 < length b → writeStep l p b .gives .error ≡ 0 → ReadBack l p b
+  pub alike : (l m : List ℕ) → Sound l → Sound m → count l ≡ count m → MtioAlike l m

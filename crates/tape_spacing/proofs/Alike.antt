@@ -1,6 +1,6 @@
 -- Two images of one n are spaced over alike if the entries passed agree in kind: by induction over the entries ahead. Each turn looks at the entry that it
 -- passes, which lies before the walk's end. Assumes nothing.
-use Prim.Native.Nat.{ℕ, zero, suc, _+_, _-_, _≤_, _<_}
+use Prim.Native.Nat.{ℕ, zero, suc, _-_, _≤_}
 use mathlib.Core.List.{List}
 use mathlib.Core.Bool.{Bool, true, false}
 use mathlib.Core.Path.{_≡_, refl, sym, ap, _∙_}

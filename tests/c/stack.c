@@ -1,0 +1,281 @@
+/* How many bytes of stack the calls use in a run: each is made on a stack of its own that was painted before, and what
+ * is no longer paint was written. Prints a line `NAME BYTES` for the greatest use of each call, its return address with
+ * it, which tools/stack compares with what the machine code says; to stderr the sizes of what goes in and out by value.
+ * Ends with 1 where a call does not do what it should, or where spacing over 4,096 entries takes another amount of
+ * stack than over four. */
+#include "../../include/mossgoblin.h"
+#include "wire.h"
+
+#include <stdio.h>
+#include <stdlib.h>
+#include <ucontext.h>
+
+#define ENTRIES 4096
+
+static uint8_t small[16 + 4 * 8 + 4096], large[16 + ENTRIES * 8 + ENTRIES];
+static uint8_t out[MOSSGOBLIN_OUTPUT], dest[1024], stream[1024];
+static uint8_t *image = small;
+static size_t image_len = sizeof small;
+static struct mossgoblin_session session;
+
+/* ---- a call, or one of the same form that does nothing: what both use is the caller's */
+#pragma GCC diagnostic ignored "-Wunused-parameter"
+static struct mossgoblin_answer no_request(struct mossgoblin_session s, const uint8_t *id, size_t id_len,
+                                           const uint8_t *password, size_t password_len, uint8_t *i, size_t i_len,
+                                           const uint8_t *input, size_t input_len, uint32_t time, uint8_t *o,
+                                           size_t o_len)
+{
+    return (struct mossgoblin_answer){0};
+}
+
+static struct mossgoblin_moved no_to_tape(struct mossgoblin_session s, uint8_t *i, size_t i_len, const uint8_t *from,
+                                          size_t from_len, bool end, uint32_t time, uint8_t *o, size_t o_len)
+{
+    return (struct mossgoblin_moved){0};
+}
+
+static struct mossgoblin_moved no_from_tape(struct mossgoblin_session s, const uint8_t *i, size_t i_len, uint8_t *to,
+                                            size_t to_len, uint32_t time, uint8_t *o, size_t o_len)
+{
+    return (struct mossgoblin_moved){0};
+}
+
+static __typeof__(mossgoblin_request) *volatile request;
+static __typeof__(mossgoblin_move_to_tape) *volatile to_tape;
+static __typeof__(mossgoblin_move_from_tape) *volatile from_tape;
+
+static uint8_t record[RECORD];
+static size_t record_len, stream_len;
+static bool last;
+static struct mossgoblin_answer answer;
+static struct mossgoblin_moved moved;
+
+static void do_request(void)
+{
+    answer = request(session, (const uint8_t *)"v", 1, (const uint8_t *)"pw", 2, image, image_len, record, record_len, 0,
+                     out, sizeof out);
+}
+
+static void do_to_tape(void)
+{
+    moved = to_tape(session, image, image_len, stream, stream_len, last, 0, out, sizeof out);
+}
+
+static void do_from_tape(void)
+{
+    moved = from_tape(session, image, image_len, dest, sizeof dest, 0, out, sizeof out);
+}
+
+/* ---- painting, by words: a byte of an address may be any */
+#define PAINT 0xA5A5A5A5A5A5A5A5u
+#define WORDS 8192
+
+static uint64_t stack[WORDS] __attribute__((aligned(16)));
+static ucontext_t host, guest;
+static void (*job)(void);
+
+static void enter(void)
+{
+    job();
+}
+
+static size_t written(void (*f)(void))
+{
+    for (size_t i = 0; i < WORDS; i++)
+        stack[i] = PAINT;
+    job = f;
+    getcontext(&guest);
+    guest.uc_stack.ss_sp = stack;
+    guest.uc_stack.ss_size = sizeof stack;
+    guest.uc_link = &host;
+    makecontext(&guest, enter, 0);
+    swapcontext(&host, &guest);
+    size_t i = 0;
+    while (i < WORDS && stack[i] == PAINT)
+        i++;
+    return (WORDS - i) * sizeof *stack;
+}
+
+/* ---- the calls, each with the greatest use so far */
+static size_t most_request, most_to_tape, most_from_tape;
+
+static size_t beyond(size_t with, size_t without, size_t *most)
+{
+    size_t use = with - without + sizeof(void *);
+    if (use > *most)
+        *most = use;
+    return use;
+}
+
+static void check(bool holds, const char *what)
+{
+    if (!holds) {
+        fprintf(stderr, "stack: %s\n", what);
+        exit(1);
+    }
+}
+
+/* A request whose body is words; its reply has the error at a place. */
+static size_t ask(uint32_t error, uint32_t at, uint32_t message, const uint32_t *body, size_t words)
+{
+    record_len = put_request(record, message, body, words);
+    request = no_request;
+    size_t without = written(do_request);
+    request = mossgoblin_request;
+    size_t use = beyond(written(do_request), without, &most_request);
+    if (answer.code != 0 || answer.len < 32 || word(out + 24) != 0 || word(out + at) != error) {
+        fprintf(stderr, "stack: 0x%X is not answered as it should be\n", message);
+        exit(1);
+    }
+    session = answer.session;
+    return use;
+}
+
+#define ASK_AT(at, message, ...)                                                   \
+    do {                                                                           \
+        const uint32_t body[] = {__VA_ARGS__};                                     \
+        ask(0, at, message, body, sizeof body / sizeof *body);                     \
+    } while (0)
+#define ASK(message, ...) ASK_AT(28, message, __VA_ARGS__)
+
+static size_t space(uint32_t op, uint32_t count, uint32_t error)
+{
+    const uint32_t body[] = {op, count};
+    return ask(error, 28, 0x303, body, 2);
+}
+
+static void rewind_tape(void)
+{
+    space(4, 0, 0);
+}
+
+static void feed(size_t n, bool end)
+{
+    stream_len = n;
+    last = end;
+    to_tape = no_to_tape;
+    size_t without = written(do_to_tape);
+    to_tape = mossgoblin_move_to_tape;
+    beyond(written(do_to_tape), without, &most_to_tape);
+    session = moved.session;
+}
+
+static void fetch(void)
+{
+    from_tape = no_from_tape;
+    size_t without = written(do_from_tape);
+    from_tape = mossgoblin_move_from_tape;
+    beyond(written(do_from_tape), without, &most_from_tape);
+    session = moved.session;
+}
+
+/* ---- the run */
+/* Entries of one byte, and a mark at every second place. */
+static void make_table(uint32_t n)
+{
+    uint32_t used = 0;
+    put_word(image, 1);
+    put_word(image + 4, n);
+    put_word(image + 8, n);
+    for (uint32_t e = 0; e < n; e++) {
+        put_word(image + 16 + 8 * e, e % 2 == 0);
+        put_word(image + 20 + 8 * e, used);
+        used += e % 2 == 0;
+    }
+    put_word(image + 12, used);
+}
+
+/* From the start FSF to the end and past it, BSF back and past the start, then records and a mark each way. */
+static size_t space_all(uint32_t n)
+{
+    /* op, count, and the error that is to come of it */
+    const uint32_t walks[][3] = {{4, 0, 0},  {0, n / 2, 0}, {0, 1, 13}, {1, n / 2, 0}, {1, 1, 13},
+                                 {2, 1, 0},  {2, 1, 12},    {3, 1, 12}, {3, 1, 0},     {3, 1, 13}};
+    size_t most = 0;
+    make_table(n);
+    for (size_t i = 0; i < sizeof walks / sizeof *walks; i++) {
+        size_t use = space(walks[i][0], walks[i][1], walks[i][2]);
+        most = use > most ? use : most;
+    }
+    return most;
+}
+
+static size_t space_over_both(void)
+{
+    size_t over_four = space_all(4);
+    image = large;
+    image_len = sizeof large;
+    size_t over_all = space_all(ENTRIES);
+    image = small;
+    image_len = sizeof small;
+    check(over_all == over_four, "spacing over 4,096 entries takes another amount of stack than over four");
+    return over_all;
+}
+
+static void log_in(void)
+{
+    session = mossgoblin_open(0, out, sizeof out).session;
+    ASK(0x900, 4);
+    ASK(0x108);
+    ASK(0x901, 1, 1, 0x76000000, 2, 0x70770000);
+    ASK(0x102);
+    ASK(0x108);
+    make_table(4);
+    ASK(0x300, 5, 0x74617065, 0x30000000, 1);
+}
+
+/* A record by the client itself, then two of a stream to the window's end, and the end of the stream. */
+static void back_up(void)
+{
+    rewind_tape();
+    ASK(0x304, 4, 0x61626364);
+    ASK_AT(32, 0x302);
+    rewind_tape();
+    ASK(0xA08, 1024);
+    ASK(0xA05, 0, 0, 0, 2048);
+    ASK(0xA01, 0, 0);
+    ASK(0x40A, 0);
+    ASK(0x401, 4, 0x64756D70, 0);
+    for (int i = 0; i < 3; i++)
+        feed(sizeof stream, false);
+    check(session.mover.state == 3, "the backup does not pause");
+    ASK(0xA05, 0, 2048, 0, 1024);
+    ASK(0xA02);
+    feed(0, true);
+    check(session.mover.state == 4 && session.source.state == 2, "the backup does not halt");
+    ASK(0x407);
+    ASK(0xA04);
+}
+
+/* A record to the client itself, then one of the stream, and a damaged image. */
+static void recover(void)
+{
+    rewind_tape();
+    ASK(0x305, 32768);
+    rewind_tape();
+    ASK(0xA05, 0, 0, 0, 2048);
+    ASK(0xA01, 1, 0);
+    ASK(0x40A, 0);
+    ASK(0x402, 0, 0, 4, 0x64756D70);
+    ASK(0xA06, 0, 0, 0, 2048);
+    fetch();
+    check(moved.count == 1024, "the recover hands nothing over");
+    image[3] ^= 4;
+    fetch();
+    check(session.mover.state == 4 && session.source.state == 2, "the recover does not halt");
+}
+
+int main(void)
+{
+    log_in();
+    size_t spacing = space_over_both();
+    back_up();
+    recover();
+    printf("mossgoblin_request %zu\n", most_request);
+    printf("mossgoblin_move_to_tape %zu\n", most_to_tape);
+    printf("mossgoblin_move_from_tape %zu\n", most_from_tape);
+    fprintf(stderr, "a session has %zu bytes, an answer %zu, what a move returns %zu\n", sizeof session, sizeof answer,
+            sizeof moved);
+    fprintf(stderr, "a spacing call takes %zu bytes of stack, over four entries and over 4,096\n", spacing);
+    return 0;
+}
