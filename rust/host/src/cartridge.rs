@@ -1,7 +1,7 @@
 //! The cartridge: its image in memory, which the core reads and writes, and the file, which follows in a safe order.
 use crate::folder::{Folder, Id};
 use crate::sys;
-use std::fs::{self, File, OpenOptions};
+use std::fs::{self, File, OpenOptions, TryLockError};
 use std::io::{self, Read};
 use std::os::unix::fs::{FileExt, MetadataExt, OpenOptionsExt};
 use std::path::{Path, PathBuf};
@@ -175,7 +175,13 @@ fn unsound(image: &[u8]) -> String {
     format!("not a sound cartridge image: {} bytes{}", image.len(), told.unwrap_or_default())
 }
 
-const BUSY: &str = "in use by another program; end that vault first";
+/// Why a file could not be locked.
+fn locked(e: TryLockError) -> String {
+    match e {
+        TryLockError::WouldBlock => "in use by another program; end that vault first".into(),
+        TryLockError::Error(e) => format!("cannot be locked: {e}"),
+    }
+}
 
 /// Reads a cartridge file and keeps it locked against a second host. It has all its blocks and is on the disk before
 /// anything of it is told: a host that was killed may have left it with bytes that are not.
@@ -185,7 +191,7 @@ pub fn load(path: &Path) -> Result<Cartridge, String> {
         io::ErrorKind::NotFound => told(&"no such file; --new-cartridge SIZE makes one"),
         _ => told(&e),
     })?;
-    file.try_lock().map_err(|_| told(&BUSY))?;
+    file.try_lock().map_err(|e| told(&locked(e)))?;
     let image = bytes(&mut file).map_err(|e| told(&e))?;
     if !proved::sound(&image) {
         return Err(told(&unsound(&image)));
@@ -209,7 +215,7 @@ pub fn look(path: &Path) -> Result<Vec<u8>, String> {
         io::ErrorKind::NotFound => told(&"no such file; `mossgoblin new` makes a cartridge"),
         _ => told(&e),
     })?;
-    file.try_lock_shared().map_err(|_| told(&BUSY))?;
+    file.try_lock_shared().map_err(|e| told(&locked(e)))?;
     let image = bytes(&mut file).map_err(|e| told(&e))?;
     if !proved::sound(&image) {
         return Err(told(&unsound(&image)));

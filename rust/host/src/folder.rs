@@ -18,6 +18,14 @@ impl Id {
     }
 }
 
+/// Whether a path that the operator gave is a folder. What is not there is none; what cannot be looked at is an error.
+pub fn is_folder(path: &Path) -> io::Result<bool> {
+    match path.metadata() {
+        Err(e) if e.kind() == io::ErrorKind::NotFound => Ok(false),
+        other => other.map(|m| m.is_dir()),
+    }
+}
+
 pub struct Folder(File);
 
 impl Folder {

@@ -1,5 +1,5 @@
 //! Where a recover writes: a folder into which an archive is unpacked, or a file. The stream's first bytes tell what it is.
-use crate::folder::Id;
+use crate::folder::{Id, is_folder};
 use crate::format::{ENDS, Holds, START, Start, started};
 use crate::place::{Meta, Place, Writing};
 use crate::untar::{Counts, Options, Untar};
@@ -41,7 +41,7 @@ fn bad(why: impl ToString) -> io::Error {
 
 /// The folder and the name of a file that may be there; a link that the operator named is followed.
 pub fn parted(path: &Path) -> io::Result<(PathBuf, OsString)> {
-    let path = if path.exists() { path.canonicalize()? } else { path.to_path_buf() };
+    let path = if path.try_exists()? { path.canonicalize()? } else { path.to_path_buf() };
     let name = path.file_name().ok_or_else(|| bad(format!("{}: not the name of a file", path.display())))?;
     Ok((path.parent().unwrap_or(Path::new("")).to_path_buf(), name.to_os_string()))
 }
@@ -52,6 +52,7 @@ pub fn may_write(path: &Path, except: &[Id]) -> Result<(), String> {
         Ok(m) if except.contains(&Id::of(&m)) => Err("is the cartridge itself; choose another name".into()),
         Ok(m) if m.is_dir() || m.is_file() => Ok(()),
         Ok(_) => Err("neither a folder nor a file".into()),
+        Err(e) if e.kind() != io::ErrorKind::NotFound => Err(e.to_string()),
         Err(_) if path.is_symlink() => Err("a link that leads nowhere".into()),
         Err(_) => Ok(()),
     }
@@ -61,7 +62,7 @@ impl Target {
     pub fn open(path: &Path, options: Options) -> io::Result<Target> {
         may_write(path, &options.except).map_err(bad)?;
         // Opened and left again: so that a folder that is not there is told at once.
-        let folder = if path.is_dir() { path.to_path_buf() } else { parted(path)?.0 };
+        let folder = if is_folder(path)? { path.to_path_buf() } else { parted(path)?.0 };
         Place::new(&folder, &options.except)?;
         Ok(Target { path: path.to_path_buf(), options: Some(options), way: Way::Start(Vec::new()), bytes: 0 })
     }
@@ -73,7 +74,7 @@ impl Target {
         if start == Start::Damaged {
             return Err(bad("the stream was changed: it begins nearly as the vault's streams do"));
         }
-        self.way = if self.path.is_dir() {
+        self.way = if is_folder(&self.path)? {
             Way::Unpack(Box::new(Untar::new(&self.path, options)?))
         } else {
             let (folder, name) = parted(&self.path)?;
@@ -118,7 +119,7 @@ impl Target {
     /// Whether the stream cannot tell its end: it is a file's bytes and nothing else, as older vaults wrote them.
     pub fn is_endless(&self) -> bool {
         match &self.way {
-            Way::Start(head) => !head.is_empty() && started(head) == Start::Other && !self.path.is_dir(),
+            Way::Start(head) => !head.is_empty() && started(head) == Start::Other && is_folder(&self.path).is_ok_and(|f| !f),
             Way::Unpack(_) => false,
             Way::Plain(plain) => plain.judge.is_none(),
         }

@@ -206,13 +206,14 @@ fn accept(listener: &TcpListener, shared: Arc<Shared>) -> Result<(), String> {
             note.line(format_args!("connected from {peer}"));
             shared.came(number, &socket);
             let end = catch_unwind(AssertUnwindSafe(|| serve(socket, &shared, number, stranger)));
-            shared.went(number);
             match end {
                 Ok(Ok(())) => note.line("closed"),
                 Ok(Err(Over::Gone(why))) => note.line(why),
                 Ok(Err(Over::Failed(why))) => note.error(why),
                 Err(_) => note.error("ended by a fault of the program"),
             }
+            // After its line: when all are gone the program may end.
+            shared.went(number);
         };
         if let Err(e) = named("session").spawn(work) {
             shared.log.error(format_args!("{peer}: turned away, no thread could be made: {e}"));

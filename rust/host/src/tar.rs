@@ -1,6 +1,6 @@
 //! A folder or a file as a tar archive, made as it is read. Names are looked up in open folders, one after the other: no
 //! link is followed, whatever is swapped meanwhile, and nothing but a file is waited for.
-use crate::folder::{Folder, Id};
+use crate::folder::{Folder, Id, is_folder};
 use crate::format::{self, BLOCK, Entry, Holds, MOST, NOT_WHOLE, headers};
 use crate::sha256::Sha256;
 use crate::sys;
@@ -88,7 +88,7 @@ fn attributes(file: &File) -> bool {
 
 impl Tar {
     pub fn new(path: &Path, options: Options) -> io::Result<Tar> {
-        if path.is_dir() { Tar::folder(path, options) } else { Tar::file(path, options) }
+        if is_folder(path)? { Tar::folder(path, options) } else { Tar::file(path, options) }
     }
 
     fn empty(root: Folder, shown: PathBuf, holds: Holds, options: Options) -> Tar {

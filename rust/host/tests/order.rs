@@ -47,14 +47,6 @@ impl Disk for Recorder {
     }
 }
 
-/// The records of an image, marks as empty ones; none if it is not sound.
-fn list(image: &[u8]) -> Option<Vec<Vec<u8>>> {
-    let (n, _) = sound(image).ok()?;
-    let body = 16 + 8 * word(image, 4) as usize;
-    let entry = |i: usize| (word(image, 16 + 8 * i) as usize, body + word(image, 20 + 8 * i) as usize);
-    Some((0..n as usize).map(entry).map(|(len, at)| image[at..at + len].to_vec()).collect())
-}
-
 type List = Vec<Vec<u8>>;
 
 /// Whether a file in this state is as it was, cut, or as it shall be; no record is mixed of old and new. After a

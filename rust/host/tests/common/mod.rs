@@ -267,6 +267,14 @@ pub fn sound(image: &[u8]) -> Result<(u64, u64), String> {
     if sum != used { Err(format!("used {used}, sum {sum}")) } else { Ok((n, used)) }
 }
 
+/// The records of an image, marks as empty ones; none if it is not sound.
+pub fn list(image: &[u8]) -> Option<Vec<Vec<u8>>> {
+    let (n, _) = sound(image).ok()?;
+    let body = 16 + 8 * word(image, 4) as usize;
+    let entry = |i: usize| (word(image, 16 + 8 * i) as usize, body + word(image, 20 + 8 * i) as usize);
+    Some((0..n as usize).map(entry).map(|(len, at)| image[at..at + len].to_vec()).collect())
+}
+
 /// Calls of the system that are noted, and fail or take long when that is said.
 pub struct Shim {
     pub folder: PathBuf,
@@ -294,6 +302,14 @@ impl Shim {
 
     pub fn unsay(&self, what: &str) {
         fs::remove_file(self.folder.join(what)).unwrap();
+    }
+
+    /// The bytes of the writes since the last look, or since the first.
+    pub fn kept(&self) -> Vec<u8> {
+        let path = self.folder.join("keep");
+        let bytes = fs::read(&path).unwrap_or_default();
+        fs::write(path, b"").unwrap();
+        bytes
     }
 
     /// The calls noted since the last look.

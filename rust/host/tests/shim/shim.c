@@ -1,15 +1,19 @@
 /* Stands between the program under test and the C library: notes calls in the file `trace` of the folder that SHIM names, and lets them fail, or takes time
- * over them, as long as that folder has a file that says so: fail-NAME with an errno, slow-NAME with microseconds. */
+ * over them, as long as that folder has a file that says so: fail-NAME with an errno, slow-NAME with microseconds, fail-at with the number of the one call on
+ * files that fails, counted from the program's start. With a file `keep` there, the bytes of all writes at a place are added to it, in their order. */
 #define _GNU_SOURCE
 #include <dlfcn.h>
 #include <errno.h>
 #include <fcntl.h>
 #include <pthread.h>
 #include <stdarg.h>
+#include <stdatomic.h>
 #include <stdio.h>
 #include <stdlib.h>
 #include <string.h>
+#include <sys/file.h>
 #include <sys/socket.h>
+#include <sys/stat.h>
 #include <sys/syscall.h>
 #include <unistd.h>
 
@@ -27,18 +31,23 @@ static long number(const char *kind, const char *name) {
     return n > 0 ? atol(text) : 0;
 }
 
-static void note(const char *form, ...) {
-    char path[4200], line[8400];
+static void add(const char *file, int flags, const void *bytes, size_t n) {
+    char path[4200];
     if (!folder()) return;
+    snprintf(path, sizeof path, "%s/%s", folder(), file);
+    int fd = syscall(SYS_openat, AT_FDCWD, path, O_WRONLY | O_APPEND | flags, 0600);
+    if (fd < 0) return;
+    syscall(SYS_write, fd, bytes, n);
+    syscall(SYS_close, fd);
+}
+
+static void note(const char *form, ...) {
+    char line[8400];
     va_list args;
     va_start(args, form);
     int n = vsnprintf(line, sizeof line, form, args);
     va_end(args);
-    snprintf(path, sizeof path, "%s/trace", folder());
-    int fd = syscall(SYS_openat, AT_FDCWD, path, O_WRONLY | O_CREAT | O_APPEND, 0600);
-    if (fd < 0) return;
-    syscall(SYS_write, fd, line, n);
-    syscall(SYS_close, fd);
+    add("trace", O_CREAT, line, n);
 }
 
 static const char *name_of(int fd, char *buffer, size_t n) {
@@ -56,33 +65,47 @@ static int fails(const char *name) {
     return code != 0;
 }
 
+/* The same of a call on files, which are counted. */
+static int breaks(const char *name) {
+    static atomic_long calls;
+    if (!folder()) return 0;
+    long at = number("fail", "at"), now = ++calls;
+    if (fails(name)) return 1;
+    if (!at || at != now) return 0;
+    note("broken %s\n", name);
+    errno = EIO;
+    return 1;
+}
+
 #define REAL(name) ((__typeof__(&name))dlsym(RTLD_NEXT, #name))
 
 ssize_t pwrite64(int fd, const void *bytes, size_t n, off64_t at) {
     char name[4096];
-    int bad = fails("pwrite");
+    int bad = breaks("pwrite");
     note("pwrite %s %ld %zu%s\n", name_of(fd, name, sizeof name), (long)at, n, bad ? " failed" : "");
+    if (!bad) add("keep", 0, bytes, n);
     return bad ? -1 : REAL(pwrite64)(fd, bytes, n, at);
 }
 
 int fdatasync(int fd) {
     char name[4096];
-    int bad = fails("fdatasync");
+    int bad = breaks("fdatasync");
     note("fdatasync %s%s\n", name_of(fd, name, sizeof name), bad ? " failed" : "");
     return bad ? -1 : REAL(fdatasync)(fd);
 }
 
 int fsync(int fd) {
     char name[4096];
-    int bad = fails("fsync");
+    int bad = breaks("fsync");
     note("fsync %s%s\n", name_of(fd, name, sizeof name), bad ? " failed" : "");
     return bad ? -1 : REAL(fsync)(fd);
 }
 
 int renameat(int from, const char *old, int to, const char *new) {
     char name[4096];
-    note("rename %s %s %s\n", name_of(from, name, sizeof name), old, new);
-    return REAL(renameat)(from, old, to, new);
+    int bad = breaks("rename");
+    note("rename %s %s %s%s\n", name_of(from, name, sizeof name), old, new, bad ? " failed" : "");
+    return bad ? -1 : REAL(renameat)(from, old, to, new);
 }
 
 ssize_t send(int fd, const void *bytes, size_t n, int flags) {
@@ -96,7 +119,7 @@ int setsockopt(int fd, int level, int name, const void *value, socklen_t n) {
 }
 
 int posix_fallocate(int fd, off_t from, off_t n) {
-    return fails("allocate") ? errno : REAL(posix_fallocate)(fd, from, n);
+    return breaks("allocate") ? errno : REAL(posix_fallocate)(fd, from, n);
 }
 
 int pthread_create(pthread_t *thread, const pthread_attr_t *how, void *(*run)(void *), void *with) {
@@ -108,12 +131,71 @@ int openat(int from, const char *name, int flags, ...) {
     va_start(args, flags);
     int mode = va_arg(args, int);
     va_end(args);
-    return fails("openat") ? -1 : syscall(SYS_openat, from, name, flags, mode);
+    return breaks("openat") ? -1 : syscall(SYS_openat, from, name, flags, mode);
+}
+
+static int is_file(int fd) {
+    struct stat what;
+    return folder() && syscall(SYS_fstat, fd, &what) == 0 && S_ISREG(what.st_mode);
 }
 
 ssize_t read(int fd, void *bytes, size_t n) {
     char name[4096];
-    /* Only of files that say so by their name: others are read to start at all. */
-    if (folder() && strstr(name_of(fd, name, sizeof name), "unreadable") && fails("read")) return -1;
+    if (is_file(fd)) {
+        /* fail-read is only for files that say so by their name: others are read to start at all. */
+        int bad = strstr(name_of(fd, name, sizeof name), "unreadable") ? breaks("read") : breaks("load");
+        if (bad) return -1;
+    }
     return syscall(SYS_read, fd, bytes, n);
+}
+
+/* What is told on standard output. */
+ssize_t write(int fd, const void *bytes, size_t n) {
+    if (fd == 1) note("told %zu\n", n);
+    return syscall(SYS_write, fd, bytes, n);
+}
+
+int open64(const char *name, int flags, ...) {
+    va_list args;
+    va_start(args, flags);
+    int mode = va_arg(args, int);
+    va_end(args);
+    return breaks("open") ? -1 : syscall(SYS_openat, AT_FDCWD, name, flags, mode);
+}
+
+int linkat(int from, const char *old, int to, const char *new, int flags) {
+    int bad = breaks("link");
+    note("link %s %s%s\n", old, new, bad ? " failed" : "");
+    return bad ? -1 : REAL(linkat)(from, old, to, new, flags);
+}
+
+/* A name that is taken away: for std, and for the walk of folders. */
+int unlink(const char *name) { return breaks("unlink") ? -1 : REAL(unlink)(name); }
+int unlinkat(int from, const char *name, int flags) { return breaks("unlink") ? -1 : REAL(unlinkat)(from, name, flags); }
+
+int flock(int fd, int how) { return breaks("flock") ? -1 : REAL(flock)(fd, how); }
+int ftruncate64(int fd, off64_t n) { return breaks("truncate") ? -1 : REAL(ftruncate64)(fd, n); }
+int fchmod(int fd, mode_t mode) { return breaks("chmod") ? -1 : REAL(fchmod)(fd, mode); }
+int fchown(int fd, uid_t user, gid_t group) { return breaks("chown") ? -1 : REAL(fchown)(fd, user, group); }
+int futimens(int fd, const struct timespec times[2]) { return breaks("utimens") ? -1 : REAL(futimens)(fd, times); }
+int mkdirat(int at, const char *name, mode_t mode) { return breaks("mkdir") ? -1 : REAL(mkdirat)(at, name, mode); }
+
+int symlinkat(const char *target, int at, const char *name) {
+    return breaks("symlink") ? -1 : REAL(symlinkat)(target, at, name);
+}
+
+ssize_t readlinkat(int at, const char *name, char *buffer, size_t n) {
+    return breaks("readlink") ? -1 : REAL(readlinkat)(at, name, buffer, n);
+}
+
+int fchownat(int at, const char *name, uid_t user, gid_t group, int flags) {
+    return breaks("chownat") ? -1 : REAL(fchownat)(at, name, user, group, flags);
+}
+
+int utimensat(int at, const char *name, const struct timespec times[2], int flags) {
+    return breaks("utimensat") ? -1 : REAL(utimensat)(at, name, times, flags);
+}
+
+int statx(int at, const char *restrict name, int flags, unsigned mask, struct statx *restrict what) {
+    return breaks("statx") ? -1 : syscall(SYS_statx, at, name, flags, mask, what);
 }
