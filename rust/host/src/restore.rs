@@ -119,7 +119,9 @@ impl Target {
     /// Whether the stream cannot tell its end: it is a file's bytes and nothing else, as older vaults wrote them.
     pub fn is_endless(&self) -> bool {
         match &self.way {
-            Way::Start(head) => !head.is_empty() && started(head) == Start::Other && is_folder(&self.path).is_ok_and(|f| !f),
+            Way::Start(head) => {
+                !head.is_empty() && started(head) == Start::Other && is_folder(&self.path).is_ok_and(|f| !f)
+            }
             Way::Unpack(_) => false,
             Way::Plain(plain) => plain.judge.is_none(),
         }

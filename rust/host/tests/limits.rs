@@ -114,6 +114,25 @@ fn empty_accounts_are_refused() {
 }
 
 #[test]
+fn address_that_others_reach_is_warned_of() {
+    let s = Scratch::new();
+    let (tape, log) = (s.path("tape"), s.path("log"));
+    let start = |at: &str, more: &[&str]| {
+        let mut command = serve(&tape);
+        command.args(["--quiet", "--listen", at, "--status", at]).args(more);
+        Host::spawn(command.stderr(fs::File::create(&log).unwrap()))
+    };
+    let host = start("127.0.0.1:0", &["--new-cartridge", "100K"]);
+    host.login();
+    drop(host);
+    assert_eq!(fs::read_to_string(&log).unwrap(), "");
+    let host = start("0.0.0.0:0", &[]);
+    let port = host.address.strip_prefix("0.0.0.0:").unwrap();
+    told(&log, &[&format!("mossgoblin: --listen 0.0.0.0:{port} is not this machine's alone: logins and data go over")]);
+    told(&log, &["mossgoblin: --status 0.0.0.0:", " is not this machine's alone: names of files and clients are read"]);
+}
+
+#[test]
 fn tape_is_not_held_by_one_who_says_nothing() {
     let s = Scratch::new();
     let log = s.path("log");

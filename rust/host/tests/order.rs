@@ -8,6 +8,8 @@ use std::cell::{Cell, RefCell};
 use std::fs;
 use std::io::{self, Write};
 use std::rc::Rc;
+use std::sync::Arc;
+use std::sync::atomic::{AtomicU64, Ordering};
 use std::time::{Duration, Instant};
 
 #[derive(Clone)]
@@ -209,12 +211,14 @@ fn other_orders_are_found_out() {
 
 const WINDOW: u64 = 32_768 * 64;
 
-/// At each pause the next window, without waiting for the replies, until the connection ends.
-fn next_windows(mut c: Client) {
+/// At each pause the next window, without waiting for the replies, until the connection ends. Counts the bytes that were
+/// told as moved.
+fn next_windows(mut c: Client, told: &AtomicU64) {
     let mut offset = 0;
     while let Ok(m) = c.receive() {
         if m.header.message == NOTIFY_MOVER_PAUSED {
             offset += WINDOW;
+            told.store(offset, Ordering::SeqCst);
             let window = quads(&[offset, WINDOW]);
             if c.socket
                 .write_all(&[request(1, MOVER_SET_WINDOW, &window), request(2, MOVER_CONTINUE, b"")].concat())
@@ -236,7 +240,7 @@ fn killed_during_a_backup() {
     let streams: Vec<Vec<u8>> = names.iter().map(|n| archive(n)).collect();
     let chance = noise(77, 1_000);
     let started = Instant::now();
-    let (mut rounds, mut partial) = (0, 0);
+    let (mut rounds, mut partial, mut told_some) = (0, 0, 0);
     while started.elapsed() < Duration::from_secs(4) && rounds < 200 {
         let which = rounds % 2;
         let mut options = vec!["--stream", names[which].to_str().unwrap()];
@@ -249,11 +253,18 @@ fn killed_during_a_backup() {
         c.tape_open(TO_WRITE).unwrap();
         c.join(0, 32_768, WINDOW).unwrap();
         c.start_backup().unwrap();
-        let client = std::thread::spawn(move || next_windows(c));
-        std::thread::sleep(Duration::from_micros(chance[rounds] as u64 * 200));
+        let told = Arc::new(AtomicU64::new(0));
+        let counted = told.clone();
+        let client = std::thread::spawn(move || next_windows(c, &counted));
+        // Some are killed by the clock, some when so many windows are told.
+        match rounds % 3 {
+            2 => _ = soon(|| (told.load(Ordering::SeqCst) >= WINDOW * (1 + chance[rounds] % 5) as u64).then_some(())),
+            _ => std::thread::sleep(Duration::from_micros(chance[rounds] as u64 * 200)),
+        }
         host.child.kill().unwrap();
         host.child.wait().unwrap();
         client.join().unwrap();
+        let told = told.load(Ordering::SeqCst);
         let image = fs::read(&tape).unwrap();
         let (n, used) = sound(&image).unwrap();
         let body = &image[16 + 8 * 4_096..][..used as usize];
@@ -261,46 +272,129 @@ fn killed_during_a_backup() {
         let begins =
             |s: &[u8]| body.len() <= s.len().next_multiple_of(32_768) && body.iter().zip(s).all(|(a, b)| a == b);
         assert!(streams.iter().any(|s| begins(s)), "round {rounds}: {n} records");
+        // What was told as moved is there, and is this round's.
+        assert!(
+            told == 0 || (used >= told && begins(&streams[which])),
+            "round {rounds}: {told} bytes told, {used} there"
+        );
+        told_some += (told > 0) as u32;
         partial += (used > 0 && used < 24 << 20) as u32;
         rounds += 1;
     }
-    println!("{rounds} kills, {partial} with a part of the stream on tape");
-    assert!(rounds >= 5);
+    println!("{rounds} kills, {partial} with a part of the stream on tape, {told_some} after a window was told");
+    assert!(rounds >= 5 && told_some > 0);
 }
 
-/// Tape writes and marks by requests, several at a time, until the connection ends. Gives what was acknowledged.
-fn write_on(mut c: Client, round: u64, acknowledged: &mut Vec<Vec<u8>>) {
-    let chance = noise(round, 64);
-    for i in 0.. {
-        let many = 1 + chance[i as usize % 64] as u32 % 4;
-        let first = c.sequence + 1;
-        let mut sent = Vec::new();
-        let mut bytes = Vec::new();
-        for k in 0..many {
-            let n = chance[(i + k) as usize % 64] as usize * 8;
-            // A mark has no bytes; a record has some.
-            let record = if n < 64 { Vec::new() } else { noise(round * 10_000 + i as u64 * 10 + k as u64, n) };
-            bytes.extend(if record.is_empty() {
-                request(first + k, TAPE_MTIO, &words(&[codes::WRITE_MARKS, 1]))
-            } else {
-                request(first + k, TAPE_WRITE, &text(&record))
-            });
-            sent.push(record);
+#[derive(Clone)]
+enum Act {
+    Write(Vec<u8>),
+    Mark,
+    Rewind,
+    /// Over the first record.
+    Forward,
+}
+
+impl Act {
+    fn request(&self) -> (u32, Vec<u8>) {
+        const OVER_RECORDS: u32 = 2;
+        match self {
+            Act::Write(bytes) => (TAPE_WRITE, text(bytes)),
+            Act::Mark => (TAPE_MTIO, words(&[codes::WRITE_MARKS, 1])),
+            Act::Rewind => (TAPE_MTIO, words(&[codes::REWIND_TAPE, 1])),
+            Act::Forward => (TAPE_MTIO, words(&[OVER_RECORDS, 1])),
         }
-        if c.socket.write_all(&bytes).is_err() {
-            return;
-        }
-        for (k, record) in sent.into_iter().enumerate() {
-            c.sequence = first + k as u32;
-            match c.reply(if record.is_empty() { TAPE_MTIO } else { TAPE_WRITE }) {
-                Ok(m) if m.first() == 0 => acknowledged.push(record),
-                _ => return,
-            }
+    }
+
+    /// What comes next, by chance: after a rewind a record at the start, or one over the second entry.
+    fn some(chance: u8, seed: u64, after: Option<&Act>) -> Vec<Act> {
+        let record = Act::Write(noise(seed, 64 + chance as usize * 8));
+        match (after, chance) {
+            (None, _) => vec![record],
+            (_, 0..16) => vec![Act::Rewind, record],
+            (_, 16..32) => vec![Act::Rewind, Act::Forward, record],
+            (_, 32..80) => vec![Act::Mark],
+            _ => vec![record],
         }
     }
 }
 
-/// Whatever was acknowledged is there after a kill, entry for entry; behind it may be what was not.
+/// The tape as requests leave it.
+#[derive(Clone)]
+struct Model {
+    entries: List,
+    at: usize,
+}
+
+impl Model {
+    /// The place where it wrote, if it did.
+    fn take(&mut self, act: &Act) -> Option<usize> {
+        let entry = match act {
+            Act::Rewind => {
+                self.at = 0;
+                return None;
+            }
+            Act::Forward => {
+                self.at += 1;
+                return None;
+            }
+            Act::Write(bytes) => bytes.clone(),
+            Act::Mark => Vec::new(),
+        };
+        self.entries.truncate(self.at);
+        self.entries.push(entry);
+        self.at += 1;
+        Some(self.at - 1)
+    }
+
+    /// What a kill may leave of the tape, when these requests were sent and not answered: some of them done, or the list
+    /// cut where one of them writes.
+    fn after(&self, pending: &[Act]) -> Vec<List> {
+        let mut all = vec![self.entries.clone()];
+        let mut next = self.clone();
+        for act in pending {
+            if let Some(at) = next.take(act) {
+                all.push(self.entries[..at.min(self.entries.len())].to_vec());
+                all.push(next.entries.clone());
+            }
+        }
+        all
+    }
+}
+
+/// Tape requests, several at a time, until the connection ends. Gives the tape as it was acknowledged, how many requests
+/// were, and those that were not.
+fn write_on(mut c: Client, round: u64, mut tape: Model) -> (Model, usize, Vec<Act>) {
+    let chance = noise(round, 64);
+    let (mut count, mut last) = (0, None);
+    for i in 0.. {
+        let mut acts = Vec::new();
+        for k in 0..1 + chance[i % 64] as usize % 4 {
+            let seed = round * 100_000 + i as u64 * 10 + k as u64;
+            acts.extend(Act::some(chance[(i + k + 7) % 64], seed, last.as_ref()));
+            last = acts.last().cloned();
+        }
+        let first = c.sequence + 1;
+        let requests: Vec<_> = acts.iter().map(Act::request).collect();
+        let bytes: Vec<u8> =
+            (first..).zip(&requests).flat_map(|(n, (message, body))| request(n, *message, body)).collect();
+        if c.socket.write_all(&bytes).is_err() {
+            return (tape, count, acts);
+        }
+        for (k, act) in acts.iter().enumerate() {
+            c.sequence = first + k as u32;
+            match c.reply(requests[k].0) {
+                Ok(m) if m.first() == 0 => _ = tape.take(act),
+                Ok(m) => panic!("refused with {}", m.first()),
+                Err(_) => return (tape, count, acts[k..].to_vec()),
+            }
+            count += 1;
+        }
+    }
+    unreachable!()
+}
+
+/// Whatever was acknowledged is there after a kill, entry for entry: records, marks, and what was written over others;
+/// behind it may be what was not.
 #[test]
 fn all_that_was_acknowledged_outlives_a_kill() {
     let s = Scratch::new();
@@ -313,22 +407,51 @@ fn all_that_was_acknowledged_outlives_a_kill() {
         let mut host = Host::start(&tape, if rounds == 0 { &new } else { &[] });
         let mut c = host.login();
         c.tape_open(TO_WRITE).unwrap();
-        let client = std::thread::spawn(move || {
-            let mut acknowledged = Vec::new();
-            write_on(c, rounds, &mut acknowledged);
-            acknowledged
-        });
+        let before = Model { entries: list(&fs::read(&tape).unwrap()).expect("sound"), at: 0 };
+        let client = std::thread::spawn(move || write_on(c, rounds, before));
         std::thread::sleep(Duration::from_micros(chance[rounds as usize] as u64 * 300));
         host.child.kill().unwrap();
         host.child.wait().unwrap();
-        let acknowledged = client.join().unwrap();
+        let (told, count, pending) = client.join().unwrap();
         let there = list(&fs::read(&tape).unwrap()).expect("sound");
-        // A round in which nothing was acknowledged may have left the tape as it was.
-        assert!(acknowledged.is_empty() || there.starts_with(&acknowledged), "round {rounds}: {}", acknowledged.len());
-        assert!(there.len() <= acknowledged.len() + 4 || acknowledged.is_empty(), "round {rounds}");
-        total += acknowledged.len();
+        let fair = told.after(&pending).contains(&there);
+        assert!(fair, "round {rounds}: {} told, {} there, {} pending", told.entries.len(), there.len(), pending.len());
+        total += count;
         rounds += 1;
     }
-    println!("{rounds} kills, {total} writes and marks acknowledged");
+    println!("{rounds} kills, {total} requests acknowledged");
     assert!(rounds >= 5 && total > 50, "{rounds} {total}");
+}
+
+/// A cartridge that a kill leaves half made has not its name; one that was told is there. Either way the next start goes.
+#[test]
+fn killed_while_a_cartridge_is_made() {
+    use std::os::unix::fs::MetadataExt;
+    let s = Scratch::new();
+    let size = 16 + 8 * 4_096 + (1 << 20);
+    let started = Instant::now();
+    let (mut rounds, mut made, mut told) = (0, 0, 0);
+    while started.elapsed() < Duration::from_secs(3) && rounds < 60 {
+        let tape = s.path(&format!("tape{rounds}"));
+        let mut command = serve(&tape);
+        command.args(["--listen", "127.0.0.1:0", "--quiet", "--new-cartridge", "1M"]);
+        let mut child = command.stdout(std::process::Stdio::piped()).spawn().unwrap();
+        std::thread::sleep(Duration::from_micros(rounds * 200));
+        child.kill().unwrap();
+        let out = child.wait_with_output().unwrap().stdout;
+        let there = fs::read(&tape).ok();
+        if let Some(image) = &there {
+            assert_eq!((sound(image), image.len()), (Ok((0, 0)), size), "round {rounds}");
+            assert!(tape.metadata().unwrap().blocks() * 512 >= size as u64, "round {rounds}");
+        }
+        assert!(out.is_empty() || there.is_some(), "round {rounds}: told and not there");
+        made += there.is_some() as u32;
+        told += !out.is_empty() as u32;
+        let new = ["--new-cartridge", "1M"];
+        let host = Host::start(&tape, if there.is_some() { &[] } else { &new });
+        host.login().tape_open(TO_WRITE).unwrap();
+        rounds += 1;
+    }
+    println!("{rounds} kills, {made} cartridges made, {told} told");
+    assert!(rounds >= 5);
 }

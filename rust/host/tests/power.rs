@@ -257,22 +257,28 @@ fn power_cut_after_any_call_of_a_backup() {
 #[test]
 fn power_cut_after_any_call_that_makes_a_cartridge() {
     let s = Scratch::new();
-    let (shim, tape) = (Shim::new(&s), s.path("tape"));
+    let (shim, tape, other) = (Shim::new(&s), s.path("tape"), s.path("other"));
     let mut command = serve(&tape);
     command.args(["--listen", "127.0.0.1:0", "--quiet", "--new-cartridge", "100K"]);
-    let _host = Host::spawn(shim.before(&mut command));
-    let calls = shim.trace();
+    drop(Host::spawn(shim.before(&mut command)));
+    judge_names(&shim.trace(), &tape);
+    let done = finished(shim.before(program().args(["new", text_of(&other), "100K"])));
+    assert!(done.status.success());
+    judge_names(&shim.trace(), &other);
+}
+
+fn judge_names(calls: &[String], tape: &Path) {
     let (mut dirty, mut named, mut lasting, mut told) = (false, false, false, false);
-    let folder = s.0.display().to_string();
-    for call in &calls {
+    let folder = tape.parent().unwrap();
+    for call in calls {
         match call.split(' ').collect::<Vec<_>>()[..] {
             ["pwrite", name, ..] => {
-                assert!(name.starts_with(text_of(&tape)) && !named, "{calls:?}");
+                assert!(name.starts_with(text_of(tape)) && !named, "{calls:?}");
                 dirty = true;
             }
-            ["fsync", name] if name == folder => lasting = named,
-            ["fsync", name] if name.starts_with(text_of(&tape)) => dirty = false,
-            ["link", _, name] if name == text_of(&tape) => {
+            ["fsync", name] if Path::new(name) == folder => lasting = named,
+            ["fsync", name] if name.starts_with(text_of(tape)) => dirty = false,
+            ["link", _, name] if Path::new(name) == tape => {
                 assert!(!dirty, "{calls:?}");
                 named = true;
             }
@@ -478,7 +484,8 @@ fn error_at_each_call_of_a_recover() {
             why = c.recover(1_024, 1 << 20).ok().map(|e| e.why);
         });
         let there = tree(&to);
-        let told = || format!("call {n}, {:?}: {}\n{:?}", done.call, done.log, there.iter().map(|x| &x.0).collect::<Vec<_>>());
+        let told =
+            || format!("call {n}, {:?}: {}\n{:?}", done.call, done.log, there.iter().map(|x| &x.0).collect::<Vec<_>>());
         let removing = done.call.as_deref() == Some("unlink");
         let is_left = |name: &Path| name.file_name().unwrap().to_str().unwrap().starts_with(".mossgoblin-");
         let (left, named): (Vec<_>, Vec<_>) = there.iter().cloned().partition(|(name, _)| is_left(name));

@@ -351,19 +351,27 @@ fn killed_recover_leaves_what_stood_there() {
     }
     let mut host = Host::start(&tape, &["--new-cartridge", "16M", "--stream", text_of(&from)]);
     assert_eq!(host.login().backup(32_768, 1 << 30).unwrap().why, DONE);
-    let (mut rounds, mut partial) = (0, 0);
-    for wait in [1, 5, 20, 40, 80, 120, 200] {
+    let (mut rounds, mut partial, mut told) = (0, 0, 0);
+    // The last one is killed when it is told that all is done.
+    for wait in [1, 5, 20, 40, 80, 120, 200].map(Some).into_iter().chain([None]) {
         drop(host);
         host = Host::start(&tape, &["--restore-to", text_of(&to)]);
         let mut c = host.login();
         c.begin(Mover::FROM_TAPE, 32_768, 1 << 30).unwrap();
-        std::thread::sleep(Duration::from_millis(wait));
+        let client = std::thread::spawn(move || c.run(1 << 30, |_| ()).is_ok_and(|e| e.why == DONE));
+        match wait {
+            Some(wait) => std::thread::sleep(Duration::from_millis(wait)),
+            None => _ = soon(|| client.is_finished().then_some(())),
+        }
         host.child.kill().unwrap();
         host.child.wait().unwrap();
+        let whole = client.join().unwrap();
+        told += whole as u32;
         partial += (temporary(&to) > 0) as u32;
         for i in 0..300 {
             let bytes = fs::read(to.join(format!("{i}"))).unwrap();
-            assert!(bytes == b"stood there" || bytes == noise(i, 20_000), "file {i} is neither");
+            assert!((!whole && bytes == b"stood there") || bytes == noise(i, 20_000), "file {i} is neither");
+            fs::write(to.join(format!("{i}")), b"stood there").unwrap();
         }
         for (name, _) in tree(&to).iter().filter(|(n, _)| n.to_str().unwrap().starts_with(".mossgoblin-")) {
             fs::remove_file(to.join(name)).unwrap();
@@ -371,6 +379,6 @@ fn killed_recover_leaves_what_stood_there() {
         assert_eq!(fs::read_dir(&to).unwrap().count(), 300, "and nothing else is left");
         rounds += 1;
     }
-    println!("{rounds} kills, {partial} in the midst");
-    assert!(partial > 0);
+    println!("{rounds} kills, {partial} in the midst, {told} after the end was told");
+    assert!(partial > 0 && told > 0);
 }

@@ -55,11 +55,12 @@ fn has(bytes: &[u8], part: &[u8]) -> bool {
 fn backup_follows_no_link_that_is_swapped_in() {
     let s = Scratch::new();
     let (from, secret) = (s.folder("from"), s.folder("secret"));
+    fs::create_dir(secret.join("deep")).unwrap();
     fs::write(secret.join("file"), b"the secret of another").unwrap();
-    // A folder that becomes a link, and a file that becomes one.
+    // A folder that becomes a link, which is come back to from a folder in it; and a file that becomes one.
     for (x, y) in [("", "../secret"), ("file", "../secret/file")] {
         if x.is_empty() {
-            fs::create_dir(from.join("x")).unwrap();
+            fs::create_dir_all(from.join("x/deep/er")).unwrap();
             fs::write(from.join("x/file"), b"one's own").unwrap();
         } else {
             fs::write(from.join("x"), b"one's own").unwrap();
