@@ -36,12 +36,13 @@ impl Words<'_> {
         Some(bytes)
     }
 
-    fn filesystem(&mut self) -> Option<Option<Vec<u8>>> {
-        let mut found = None;
+    /// The values of these variables.
+    fn values<const N: usize>(&mut self, keys: [&[u8]; N]) -> Option<[Option<Vec<u8>>; N]> {
+        let mut found = [const { None }; N];
         for _ in 0..self.word()? {
             let (key, value) = (self.text()?, self.text()?);
-            if key == b"FILESYSTEM" {
-                found = Some(value);
+            if let Some(i) = keys.iter().position(|k| *k == key) {
+                found[i] = Some(value);
             }
         }
         Some(found)
@@ -59,13 +60,16 @@ impl Words<'_> {
 pub fn of_backup(record: &[u8]) -> Option<Wishes> {
     let mut w = Words(record, HEADER);
     w.text()?;
-    Some(Wishes { filesystem: w.filesystem()?, names: Vec::new() })
+    let [filesystem] = w.values([b"FILESYSTEM"])?;
+    Some(Wishes { filesystem, names: Vec::new() })
 }
 
 /// Of a record of data start recover.
 pub fn of_recover(record: &[u8]) -> Option<Wishes> {
     let mut w = Words(record, HEADER);
-    let filesystem = w.filesystem()?;
+    // Clients are known that name it by PREFIX in a recover.
+    let [filesystem, prefix] = w.values([b"FILESYSTEM", b"PREFIX"])?;
+    let filesystem = filesystem.or(prefix);
     let names = (0..w.word()?).map(|_| w.name()).collect::<Option<_>>()?;
     Some(Wishes { filesystem, names })
 }
@@ -105,8 +109,9 @@ mod tests {
     use super::*;
     use wire::{request, text, words};
 
-    fn named(names: &[[&str; 4]], filesystem: &str) -> Vec<u8> {
-        let mut body = [words(&[1]), text("FILESYSTEM"), text(filesystem), words(&[names.len() as u32])].concat();
+    fn named(names: &[[&str; 4]], key: &str, filesystem: &str) -> Vec<u8> {
+        let mut body = [words(&[2]), text("HIST"), text("n"), text(key), text(filesystem)].concat();
+        body.extend(words(&[names.len() as u32]));
         for name in names {
             name.iter().for_each(|part| body.extend(text(part)));
             body.extend([0; 16]);
@@ -116,7 +121,7 @@ mod tests {
 
     #[test]
     fn names_are_those_of_the_archive() {
-        let wishes = |names: &[[&str; 4]], fs: &str| of_recover(&named(names, fs)).unwrap();
+        let wishes = |names: &[[&str; 4]], fs: &str| of_recover(&named(names, "FILESYSTEM", fs)).unwrap();
         let wanted = |names: &[&str], fs: &str| {
             let all: Vec<[&str; 4]> = names.iter().map(|n| [*n, "", "", ""]).collect();
             wishes(&all, fs).wanted(Some(Path::new("/srv/data")))
@@ -128,6 +133,8 @@ mod tests {
             assert_eq!(wanted(&["a", all], "/vol"), paths(&[]), "{all}");
         }
         assert!(wanted(&["../a"], "/vol").is_err());
+        let by_prefix = of_recover(&named(&[["/vol/a", "", "", ""]], "PREFIX", "/vol")).unwrap();
+        assert_eq!(by_prefix.wanted(None), paths(&["a"]));
         let moved = |to, new| wishes(&[["/vol/a", to, new, ""]], "/vol").names[0].moved;
         assert_eq!([moved("", ""), moved("/vol/a", ""), moved("/b", ""), moved("", "c")], [false, false, true, true]);
     }

@@ -100,6 +100,37 @@ fn wrong_logins_are_told_late_and_few() {
     c.good(CONFIG_GET_CONNECTION_TYPE, b"").unwrap();
 }
 
+/// A login that differs in its first byte takes as long as one that differs in its last, and it does not matter in which
+/// of the two texts: an early end of the comparison would be hundreds of times as quick.
+#[test]
+fn wrong_logins_take_as_long_wherever_they_differ() {
+    const LONG: usize = 12_000;
+    let account = [noise(1, LONG), noise(2, LONG)];
+    let mut out = vec![0; proved::OUTPUT];
+    let session = proved::open(0, &mut out).session;
+    let mut fastest = |account: &[Vec<u8>; 2], told: [Vec<u8>; 2]| {
+        let record = request(1, CONNECT_CLIENT_AUTH, &[words(&[1]), text(&told[0]), text(&told[1])].concat());
+        let mut once = || {
+            let begun = Instant::now();
+            let done = proved::request(session, &account[0], &account[1], &mut [], &record, 0, &mut out);
+            let took = begun.elapsed();
+            assert!(done.code == 0 && !done.session.login.authorized);
+            took
+        };
+        (0..300).map(|_| once()).min().unwrap()
+    };
+    let all = [(0, 0), (0, LONG - 1), (1, 0), (1, LONG - 1)].map(|(which, at)| {
+        let mut told = account.clone();
+        told[which][at] ^= 1;
+        fastest(&account, told)
+    });
+    let (least, most) = (*all.iter().min().unwrap(), *all.iter().max().unwrap());
+    // All but the comparison: texts of another length than the account's are not compared.
+    let rest = fastest(&[noise(1, 1), noise(2, 1)], account.clone());
+    println!("{all:?}, without the comparison {rest:?}");
+    assert!(most - least < (most - rest) / 4, "{all:?}, without the comparison {rest:?}");
+}
+
 #[test]
 fn empty_accounts_are_refused() {
     let s = Scratch::new();
