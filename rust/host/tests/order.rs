@@ -7,6 +7,7 @@ use proved::OUTPUT;
 use std::cell::{Cell, RefCell};
 use std::fs;
 use std::io::{self, Write};
+use std::path::Path;
 use std::rc::Rc;
 use std::sync::Arc;
 use std::sync::atomic::{AtomicU64, Ordering};
@@ -230,13 +231,33 @@ fn next_windows(mut c: Client, told: &AtomicU64) {
     }
 }
 
+/// A backup whose vault is killed: when so many windows are told, or at a time. Gives the bytes that were told as moved.
+fn killed_backup(tape: &Path, options: &[&str], windows: Option<u64>, time: Duration) -> u64 {
+    // A start is a test of the file too: the core judges it.
+    let mut host = Host::start(tape, options);
+    let mut c = host.login();
+    c.tape_open(TO_WRITE).unwrap();
+    c.join(0, 32_768, WINDOW).unwrap();
+    c.start_backup().unwrap();
+    let told = Arc::new(AtomicU64::new(0));
+    let counted = told.clone();
+    let client = std::thread::spawn(move || next_windows(c, &counted));
+    match windows {
+        Some(n) => _ = soon(|| (told.load(Ordering::SeqCst) >= WINDOW * n).then_some(())),
+        None => std::thread::sleep(time),
+    }
+    host.child.kill().unwrap();
+    host.child.wait().unwrap();
+    client.join().unwrap();
+    told.load(Ordering::SeqCst)
+}
+
 #[test]
 fn killed_during_a_backup() {
     let s = Scratch::new();
     let tape = s.path("tape");
-    let bytes: Vec<Vec<u8>> = (0..2).map(|i| noise(20 + i, 24 << 20)).collect();
     let names: Vec<_> = (0..2).map(|i| s.path(&format!("from{i}"))).collect();
-    names.iter().zip(&bytes).for_each(|(n, b)| fs::write(n, b).unwrap());
+    (20..).zip(&names).for_each(|(i, n)| fs::write(n, noise(i, 24 << 20)).unwrap());
     let streams: Vec<Vec<u8>> = names.iter().map(|n| archive(n)).collect();
     let chance = noise(77, 1_000);
     let started = Instant::now();
@@ -247,24 +268,8 @@ fn killed_during_a_backup() {
         if rounds == 0 {
             options.extend(["--new-cartridge", "32M"]);
         }
-        // A start is a test of the file too: the core judges it.
-        let mut host = Host::start(&tape, &options);
-        let mut c = host.login();
-        c.tape_open(TO_WRITE).unwrap();
-        c.join(0, 32_768, WINDOW).unwrap();
-        c.start_backup().unwrap();
-        let told = Arc::new(AtomicU64::new(0));
-        let counted = told.clone();
-        let client = std::thread::spawn(move || next_windows(c, &counted));
-        // Some are killed by the clock, some when so many windows are told.
-        match rounds % 3 {
-            2 => _ = soon(|| (told.load(Ordering::SeqCst) >= WINDOW * (1 + chance[rounds] % 5) as u64).then_some(())),
-            _ => std::thread::sleep(Duration::from_micros(chance[rounds] as u64 * 200)),
-        }
-        host.child.kill().unwrap();
-        host.child.wait().unwrap();
-        client.join().unwrap();
-        let told = told.load(Ordering::SeqCst);
+        let windows = (rounds % 3 == 2).then_some(1 + chance[rounds] as u64 % 5);
+        let told = killed_backup(&tape, &options, windows, Duration::from_micros(chance[rounds] as u64 * 200));
         let image = fs::read(&tape).unwrap();
         let (n, used) = sound(&image).unwrap();
         let body = &image[16 + 8 * 4_096..][..used as usize];
@@ -273,10 +278,8 @@ fn killed_during_a_backup() {
             |s: &[u8]| body.len() <= s.len().next_multiple_of(32_768) && body.iter().zip(s).all(|(a, b)| a == b);
         assert!(streams.iter().any(|s| begins(s)), "round {rounds}: {n} records");
         // What was told as moved is there, and is this round's.
-        assert!(
-            told == 0 || (used >= told && begins(&streams[which])),
-            "round {rounds}: {told} bytes told, {used} there"
-        );
+        let there = used >= told && begins(&streams[which]);
+        assert!(told == 0 || there, "round {rounds}: {told} bytes told, {used} there");
         told_some += (told > 0) as u32;
         partial += (used > 0 && used < 24 << 20) as u32;
         rounds += 1;

@@ -133,10 +133,9 @@ impl Fair<'_> {
     }
 }
 
-/// One thing that a client does, and waits for the answer of; and the tape's position before it.
-fn act(c: &mut Client, seed: u64, position: &mut usize, entries: usize) -> usize {
+/// One thing that a client does, and waits for the answers of; it writes from the tape's position on.
+fn act(c: &mut Client, seed: u64, position: &mut usize) {
     let chance = noise(seed, 4);
-    let mut from = *position;
     match chance[0] % 8 {
         0..=3 => {
             let bytes = noise(seed + 1, 1 + chance[1] as usize * 9);
@@ -166,8 +165,6 @@ fn act(c: &mut Client, seed: u64, position: &mut usize, entries: usize) -> usize
             *position += many as usize;
         }
     }
-    from = from.min(entries);
-    from
 }
 
 /// A vault with a tape whose calls are recorded, and the tape as its file has it.
@@ -193,7 +190,8 @@ fn power_cut_after_any_call_of_tape_writes() {
     let (mut position, mut cuts, mut unsynced, mut uncut, mut untold) = (0, 0, 0, 0, 0);
     for seed in 0..60 {
         let old = list(&medium.cache).unwrap();
-        let from = act(&mut c, 1_000 + 10 * seed, &mut position, old.len());
+        let from = position;
+        act(&mut c, 1_000 + 10 * seed, &mut position);
         let calls = steps(&shim, &tape);
         let file = fs::read(&tape).unwrap();
         let new = list(&file).unwrap();
@@ -349,54 +347,65 @@ fn each_call(mut run: impl FnMut(u32) -> Broken) -> BTreeMap<String, u32> {
     panic!("a run of more than a thousand calls");
 }
 
+/// The tape as a client was told; and what a request that was refused, or had no answer, may have left in the file, until
+/// the next one is stored.
+#[derive(Default)]
+struct Told {
+    tape: List,
+    perhaps: Vec<List>,
+}
+
+impl Told {
+    /// Two records, a mark, and two records over them from the start.
+    fn by_requests(&mut self, c: &mut Client) -> Result<(), host::client::Error> {
+        c.tape_open(TO_WRITE)?;
+        self.write(c, 0, noise(1, 700))?;
+        self.write(c, 1, noise(2, 700))?;
+        self.write(c, 2, Vec::new())?;
+        c.good(TAPE_MTIO, &words(&[codes::REWIND_TAPE, 1]))?;
+        self.write(c, 0, noise(3, 700))?;
+        self.write(c, 1, noise(4, 700))?;
+        c.tape_close()
+    }
+
+    /// A record, or a mark, at the tape's position, which is this one unless an earlier request was refused.
+    fn write(&mut self, c: &mut Client, at: usize, entry: Vec<u8>) -> Result<(), host::client::Error> {
+        let at = at.min(self.tape.len());
+        let mut then = self.tape[..at].to_vec();
+        let (message, body) = match entry.len() {
+            0 => (TAPE_MTIO, words(&[codes::WRITE_MARKS, 1])),
+            _ => (TAPE_WRITE, text(&entry)),
+        };
+        then.push(entry);
+        let answer = c.ask(message, &body);
+        match answer {
+            Ok((0, _)) => *self = Told { tape: then, perhaps: Vec::new() },
+            Ok((codes::IO_ERROR, _)) => {
+                // The tape ends where the write began.
+                self.perhaps.extend([self.tape.clone(), then]);
+                self.tape.truncate(at);
+            }
+            Ok((other, _)) => panic!("answered with {other}"),
+            Err(_) => self.perhaps.extend([self.tape[..at].to_vec(), then]),
+        }
+        answer.map(drop)
+    }
+}
+
 /// Tape requests: what was answered well is there, what was refused is not, whichever call failed.
 #[test]
 fn error_at_each_call_of_tape_requests() {
     let s = Scratch::new();
     let (shim, tape) = (Shim::new(&s), s.path("tape"));
-    let requests = |i: usize| match i {
-        2 => (TAPE_MTIO, words(&[codes::WRITE_MARKS, 1]), Some(vec![Vec::new()])),
-        3 => (TAPE_MTIO, words(&[codes::REWIND_TAPE, 1]), None),
-        i => (TAPE_WRITE, text(noise(i as u64, 700)), Some(vec![noise(i as u64, 700)])),
-    };
     let seen = each_call(|n| {
         let _ = fs::remove_file(&tape);
-        // The tape as the client was told; and what a request that was refused, or had no answer, may have left in the
-        // file, until the next one is stored.
-        let (mut told, mut perhaps): (List, Vec<List>) = (Vec::new(), Vec::new());
-        let done = broken(&s, &shim, n, &["--new-cartridge", "100K"], |c| {
-            if c.tape_open(TO_WRITE).is_err() {
-                return;
-            }
-            let mut at = 0;
-            for i in 0..6 {
-                let (message, body, entries) = requests(i);
-                let mut then = told[..at].to_vec();
-                then.extend(entries.clone().unwrap_or(told[at..].to_vec()));
-                match c.ask(message, &body) {
-                    Ok((0, _)) => {
-                        if entries.is_some() {
-                            perhaps.clear();
-                        }
-                        at = if entries.is_some() { then.len() } else { 0 };
-                        told = then;
-                    }
-                    // The tape ends where the write began.
-                    Ok((codes::IO_ERROR, _)) => {
-                        perhaps.extend([told.clone(), then]);
-                        told.truncate(at);
-                    }
-                    Ok((other, _)) => panic!("answered with {other}"),
-                    Err(_) => return perhaps.extend([told[..at].to_vec(), then]),
-                }
-            }
-            let _ = c.tape_close();
-        });
-        let fair = done.tape == told || perhaps.contains(&done.tape);
-        assert!(fair, "call {n}, {:?}: {} entries, {} told\n{}", done.call, done.tape.len(), told.len(), done.log);
+        let (mut told, mut well) = (Told::default(), false);
+        let done = broken(&s, &shim, n, &["--new-cartridge", "100K"], |c| well = told.by_requests(c).is_ok());
+        let about = format!("call {n}, {:?}: {} there, {}", done.call, done.tape.len(), done.log);
+        assert!(done.tape == told.tape || told.perhaps.contains(&done.tape), "{about}");
         // Nobody is left to guess: a request or a start that failed has its line.
-        let whole = told == [noise(4, 700), noise(5, 700)] && perhaps.is_empty();
-        assert!(whole || says_why(&done.log), "call {n}, {:?}: {}", done.call, done.log);
+        let whole = well && told.tape == [noise(3, 700), noise(4, 700)];
+        assert!(whole || says_why(&done.log), "{about}");
         done
     });
     println!("{seen:?}");
@@ -464,7 +473,26 @@ fn error_at_each_call_of_a_backup() {
     }
 }
 
-/// Recovers: one that is told as done is; of any other each file is as it stood or as it shall be, and nothing else is left.
+/// A recover that is told as done has all; of any other each file is as it stood or as it shall be, and nothing else is
+/// left. Gives whether it was told as done.
+fn judge_recover(to: &Path, all: &[(PathBuf, Vec<u8>)], why: Option<Why>, done: &Broken) -> bool {
+    let there = tree(to);
+    let names: Vec<_> = there.iter().map(|x| &x.0).collect();
+    let about = format!("{:?}: {}\n{names:?}", done.call, done.log);
+    let is_left = |name: &Path| name.file_name().unwrap().to_str().unwrap().starts_with(".mossgoblin-");
+    let (left, named): (Vec<_>, Vec<_>) = there.iter().cloned().partition(|(name, _)| is_left(name));
+    assert!(left.is_empty() || done.call.as_deref() == Some("unlink"), "{about}");
+    if why == Some(DONE) {
+        assert!(named == all, "{about}");
+        return true;
+    }
+    let old = ("a".into(), b"stood there".to_vec());
+    assert!(named.iter().all(|x| *x == old || all.contains(x)), "{about}");
+    assert!(named.iter().any(|x| x.0 == Path::new("a")), "what stood there is gone: {about}");
+    assert!(says_why(&done.log), "{about}");
+    false
+}
+
 #[test]
 fn error_at_each_call_of_a_recover() {
     let s = Scratch::new();
@@ -474,7 +502,7 @@ fn error_at_each_call_of_a_recover() {
     let host = Host::start(&tape, &["--new-cartridge", "100K", "--stream", text_of(&from)]);
     assert_eq!(host.login().backup(1_024, 1 << 20).unwrap().why, DONE);
     drop(host);
-    let (mut done_well, mut failed) = (0, 0);
+    let (mut well, mut failed) = (0, 0);
     let seen = each_call(|n| {
         let _ = fs::remove_dir_all(&to);
         fs::create_dir(&to).unwrap();
@@ -483,27 +511,11 @@ fn error_at_each_call_of_a_recover() {
         let done = broken(&s, &shim, n, &["--restore-to", text_of(&to)], |c| {
             why = c.recover(1_024, 1 << 20).ok().map(|e| e.why);
         });
-        let there = tree(&to);
-        let told =
-            || format!("call {n}, {:?}: {}\n{:?}", done.call, done.log, there.iter().map(|x| &x.0).collect::<Vec<_>>());
-        let removing = done.call.as_deref() == Some("unlink");
-        let is_left = |name: &Path| name.file_name().unwrap().to_str().unwrap().starts_with(".mossgoblin-");
-        let (left, named): (Vec<_>, Vec<_>) = there.iter().cloned().partition(|(name, _)| is_left(name));
-        if why == Some(DONE) {
-            assert!(named == all, "{}", told());
-            done_well += 1;
-        } else {
-            let old = ("a".into(), b"stood there".to_vec());
-            assert!(named.iter().all(|x| *x == old || all.contains(x)), "{}", told());
-            assert!(named.iter().any(|x| x.0 == Path::new("a")), "what stood there is gone: {}", told());
-            assert!(says_why(&done.log), "{}", told());
-            failed += 1;
-        }
-        assert!(left.is_empty() || removing, "{}", told());
+        *(if judge_recover(&to, &all, why, &done) { &mut well } else { &mut failed }) += 1;
         done
     });
-    println!("{seen:?}; {done_well} done, {failed} not done");
-    assert!(done_well > 0 && failed > 20, "{done_well} {failed}");
+    println!("{seen:?}; {well} done, {failed} not done");
+    assert!(well > 0 && failed > 20, "{well} {failed}");
     for call in ["openat", "pwrite", "truncate", "chmod", "utimens", "fsync", "link", "symlink", "mkdir", "rename"] {
         assert!(seen.contains_key(call), "{call}: {seen:?}");
     }
