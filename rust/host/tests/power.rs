@@ -468,7 +468,7 @@ fn error_at_each_call_of_a_backup() {
     });
     println!("{seen:?}; {whole} whole, {less} without a file, {failed} not done");
     assert!(whole > 0 && less > 5 && failed > 5, "{whole} {less} {failed}");
-    for call in ["openat", "readlink", "load", "statx", "pwrite", "fdatasync"] {
+    for call in ["openat", "opendir", "readdir", "readlink", "load", "statx", "pwrite", "fdatasync"] {
         assert!(seen.contains_key(call), "{call}: {seen:?}");
     }
 }

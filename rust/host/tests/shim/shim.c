@@ -2,6 +2,7 @@
  * over them, as long as that folder has a file that says so: fail-NAME with an errno, slow-NAME with microseconds, fail-at with the number of the one call on
  * files that fails, counted from the program's start. With a file `keep` there, the bytes of all writes at a place are added to it, in their order. */
 #define _GNU_SOURCE
+#include <dirent.h>
 #include <dlfcn.h>
 #include <errno.h>
 #include <fcntl.h>
@@ -65,16 +66,20 @@ static int fails(const char *name) {
     return code != 0;
 }
 
-/* The same of a call on files, which are counted. */
+/* The same of a call on files, which are counted. Where it does not fail, errno is as it was: readdir tells its end by that. */
 static int breaks(const char *name) {
     static atomic_long calls;
     if (!folder()) return 0;
+    int before = errno;
     long at = number("fail", "at"), now = ++calls;
     if (fails(name)) return 1;
-    if (!at || at != now) return 0;
-    note("broken %s\n", name);
-    errno = EIO;
-    return 1;
+    if (at && at == now) {
+        note("broken %s\n", name);
+        errno = EIO;
+        return 1;
+    }
+    errno = before;
+    return 0;
 }
 
 #define REAL(name) ((__typeof__(&name))dlsym(RTLD_NEXT, #name))
@@ -179,6 +184,9 @@ int fchmod(int fd, mode_t mode) { return breaks("chmod") ? -1 : REAL(fchmod)(fd,
 int fchown(int fd, uid_t user, gid_t group) { return breaks("chown") ? -1 : REAL(fchown)(fd, user, group); }
 int futimens(int fd, const struct timespec times[2]) { return breaks("utimens") ? -1 : REAL(futimens)(fd, times); }
 int mkdirat(int at, const char *name, mode_t mode) { return breaks("mkdir") ? -1 : REAL(mkdirat)(at, name, mode); }
+
+DIR *fdopendir(int fd) { return breaks("opendir") ? NULL : REAL(fdopendir)(fd); }
+struct dirent *readdir(DIR *list) { return breaks("readdir") ? NULL : REAL(readdir)(list); }
 
 int symlinkat(const char *target, int at, const char *name) {
     return breaks("symlink") ? -1 : REAL(symlinkat)(target, at, name);
