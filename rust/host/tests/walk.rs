@@ -124,6 +124,81 @@ fn recover_leaves_the_folder_through_no_link_that_is_swapped_in() {
     assert!(whole + refused > 10, "{whole} {refused}");
 }
 
+/// Runs the program with the names x and y of a folder swapped at its nth opening through x, for each n, until there are
+/// not so many. `set` makes the folder anew, and `run` uses the vault and judges; it is told whether the names were
+/// swapped. Gives the number of swaps.
+fn at_each_opening(s: &Scratch, options: &[&str], set: impl Fn(), run: impl Fn(&Host, &dyn Fn() -> bool)) -> u32 {
+    let (shim, tape) = (Shim::new(s), s.path("tape"));
+    for n in 1..100 {
+        set();
+        shim.trace();
+        shim.say("swap-x", n);
+        let mut command = serve(&tape);
+        command.args(["--listen", "127.0.0.1:0", "--quiet"]).args(options).stderr(std::process::Stdio::null());
+        let host = Host::spawn(shim.before(&mut command));
+        let swapped =
+            || shim.folder.join("trace").exists() && has(&fs::read(shim.folder.join("trace")).unwrap(), b"swapped ");
+        run(&host, &swapped);
+        let trace = shim.trace();
+        match trace.iter().find(|l| l.starts_with("swapped ")) {
+            Some(line) => assert!(line.ends_with(" 0"), "{line}"),
+            None => return n - 1,
+        }
+    }
+    panic!("more than a hundred openings");
+}
+
+/// A folder, a file, or a file again; at each opening swapped for a link to a secret, or for a FIFO.
+#[test]
+fn backup_reads_nothing_else_whenever_a_name_is_swapped() {
+    let s = Scratch::new();
+    let (from, secret, tape) = (s.path("from"), s.folder("secret"), s.path("tape"));
+    fs::create_dir(secret.join("deep")).unwrap();
+    fs::write(secret.join("file"), b"the secret of another").unwrap();
+    drop(Host::start(&tape, &["--new-cartridge", "1M"]));
+    for (kind, least) in [("folder", 2), ("file", 1), ("fifo", 1)] {
+        let set = || {
+            let _ = fs::remove_dir_all(&from);
+            fs::create_dir_all(from.join(if kind == "folder" { "x/deep/er" } else { "" })).unwrap();
+            fs::write(from.join(if kind == "folder" { "x/file" } else { "x" }), b"one's own").unwrap();
+            match kind {
+                "folder" => symlink("../secret", from.join("y")).unwrap(),
+                "file" => symlink("../secret/file", from.join("y")).unwrap(),
+                _ => assert!(Command::new("mkfifo").arg(from.join("y")).status().unwrap().success()),
+            }
+        };
+        let swaps = at_each_opening(&s, &["--stream", text_of(&from)], set, |host, swapped| {
+            assert_eq!(host.login().backup(1_024, 1 << 20).unwrap().why, DONE);
+            let bytes = list(&fs::read(&tape).unwrap()).unwrap().concat();
+            assert!(!has(&bytes, b"the secret of another"), "{kind}: another's file is in the archive");
+            assert!(swapped() || has(&bytes, b"one's own"), "{kind}: one's own is not");
+        });
+        assert!(swaps >= least, "{kind}: {swaps}");
+    }
+}
+
+/// A folder, at each opening swapped for a link that leads outside.
+#[test]
+fn recover_writes_nothing_elsewhere_whenever_a_name_is_swapped() {
+    let s = Scratch::new();
+    let (to, outside, tape) = (s.path("to"), s.folder("outside"), s.path("tape"));
+    let members: Vec<_> = ["x/a", "b", "x/c"].iter().map(|name| member(name, b'0', "", b"mine")).collect();
+    let host = Host::start(&tape, &["--new-cartridge", "1M"]);
+    put_on_tape(&mut host.login(), &old_archive(&members), 512);
+    drop(host);
+    let set = || {
+        let _ = fs::remove_dir_all(&to);
+        fs::create_dir_all(to.join("x")).unwrap();
+        symlink("../outside", to.join("y")).unwrap();
+    };
+    let swaps = at_each_opening(&s, &["--restore-to", text_of(&to)], set, |host, swapped| {
+        let why = host.login().recover(512, 1 << 20).unwrap().why;
+        assert_eq!(fs::read_dir(&outside).unwrap().count(), 0, "something is outside");
+        assert!(swapped() || (why == DONE && fs::read(to.join("x/c")).unwrap() == b"mine"), "{why:?}");
+    });
+    assert!(swaps >= 3, "{swaps}");
+}
+
 /// Files that vanish, become shorter or become others while the backup goes on.
 #[test]
 fn what_changes_during_a_backup_is_named_and_the_backup_goes_on() {

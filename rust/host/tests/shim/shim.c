@@ -1,6 +1,6 @@
 /* Stands between the program under test and the C library: notes calls in the file `trace` of the folder that SHIM names, and lets them fail, or takes time
  * over them, as long as that folder has a file that says so: fail-NAME with an errno, slow-NAME with microseconds, fail-at with the number of the one call on
- * files that fails, counted from the program's start. With a file `keep` there, the bytes of all writes at a place are added to it, in their order. */
+ * files that fails, counted from the program's start, swap-x with the number of the opening at which a name is swapped for another. With a file `keep` there, the bytes of all writes at a place are added to it, in their order. */
 #define _GNU_SOURCE
 #include <dirent.h>
 #include <dlfcn.h>
@@ -131,11 +131,35 @@ int pthread_create(pthread_t *thread, const pthread_attr_t *how, void *(*run)(vo
     return fails("thread") ? errno : REAL(pthread_create)(thread, how, run, with);
 }
 
+/* Where in a path a name x begins. */
+static const char *name_x(const char *path) {
+    while (*path) {
+        size_t n = strcspn(path, "/");
+        if (n == 1 && *path == 'x') return path;
+        path += n + strspn(path + n, "/");
+    }
+    return NULL;
+}
+
+/* Before the opening that swap-x counts, of those through a name x, that name and y beside it change places. A look is no opening. */
+static void swap(int from, const char *path, int flags) {
+    static atomic_long opened;
+    char old[4200], new[4200];
+    const char *x = name_x(path);
+    if (!folder() || !x || flags & O_PATH) return;
+    long at = number("swap", "x");
+    if (!at || ++opened != at) return;
+    snprintf(old, sizeof old, "%.*sx", (int)(x - path), path);
+    snprintf(new, sizeof new, "%.*sy", (int)(x - path), path);
+    note("swapped %s %ld\n", path, (long)syscall(SYS_renameat2, from, old, from, new, RENAME_EXCHANGE));
+}
+
 int openat(int from, const char *name, int flags, ...) {
     va_list args;
     va_start(args, flags);
     int mode = va_arg(args, int);
     va_end(args);
+    swap(from, name, flags);
     return breaks("openat") ? -1 : syscall(SYS_openat, from, name, flags, mode);
 }
 
@@ -165,6 +189,7 @@ int open64(const char *name, int flags, ...) {
     va_start(args, flags);
     int mode = va_arg(args, int);
     va_end(args);
+    swap(AT_FDCWD, name, flags);
     return breaks("open") ? -1 : syscall(SYS_openat, AT_FDCWD, name, flags, mode);
 }
 
