@@ -51,16 +51,24 @@ fn has(bytes: &[u8], part: &[u8]) -> bool {
     bytes.windows(part.len()).any(|w| w == part)
 }
 
+/// A folder that holds a file before and one behind a folder.
+fn secrets(folder: &Path) {
+    fs::create_dir(folder.join("deep")).unwrap();
+    for name in ["a", "file"] {
+        fs::write(folder.join(name), b"the secret of another").unwrap();
+    }
+}
+
 #[test]
 fn backup_follows_no_link_that_is_swapped_in() {
     let s = Scratch::new();
     let (from, secret) = (s.folder("from"), s.folder("secret"));
-    fs::create_dir(secret.join("deep")).unwrap();
-    fs::write(secret.join("file"), b"the secret of another").unwrap();
+    secrets(&secret);
     // A folder that becomes a link, which is come back to from a folder in it; and a file that becomes one.
     for (x, y) in [("", "../secret"), ("file", "../secret/file")] {
         if x.is_empty() {
             fs::create_dir_all(from.join("x/deep/er")).unwrap();
+            fs::write(from.join("x/a"), b"one's own").unwrap();
             fs::write(from.join("x/file"), b"one's own").unwrap();
         } else {
             fs::write(from.join("x"), b"one's own").unwrap();
@@ -153,14 +161,15 @@ fn at_each_opening(s: &Scratch, options: &[&str], set: impl Fn(), run: impl Fn(&
 fn backup_reads_nothing_else_whenever_a_name_is_swapped() {
     let s = Scratch::new();
     let (from, secret, tape) = (s.path("from"), s.folder("secret"), s.path("tape"));
-    fs::create_dir(secret.join("deep")).unwrap();
-    fs::write(secret.join("file"), b"the secret of another").unwrap();
+    secrets(&secret);
     drop(Host::start(&tape, &["--new-cartridge", "1M"]));
     for (kind, least) in [("folder", 2), ("file", 1), ("fifo", 1)] {
         let set = || {
             let _ = fs::remove_dir_all(&from);
             fs::create_dir_all(from.join(if kind == "folder" { "x/deep/er" } else { "" })).unwrap();
-            fs::write(from.join(if kind == "folder" { "x/file" } else { "x" }), b"one's own").unwrap();
+            for name in if kind == "folder" { &["x/a", "x/file"][..] } else { &["x"] } {
+                fs::write(from.join(name), b"one's own").unwrap();
+            }
             match kind {
                 "folder" => symlink("../secret", from.join("y")).unwrap(),
                 "file" => symlink("../secret/file", from.join("y")).unwrap(),
