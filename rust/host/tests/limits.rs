@@ -100,35 +100,52 @@ fn wrong_logins_are_told_late_and_few() {
     c.good(CONFIG_GET_CONNECTION_TYPE, b"").unwrap();
 }
 
+/// An id and a password.
+type Account = [Vec<u8>; 2];
+
+/// The shortest times of logins, in turn: each is an account, and what is told in its place.
+fn login_times(logins: &[(Account, Account)]) -> Vec<Duration> {
+    let mut out = vec![0; proved::OUTPUT];
+    let session = proved::open(0, &mut out).session;
+    let record =
+        |[id, word]: &[Vec<u8>; 2]| request(1, CONNECT_CLIENT_AUTH, &[words(&[1]), text(id), text(word)].concat());
+    let all: Vec<_> = logins.iter().map(|(account, told)| (account, record(told))).collect();
+    let mut least = vec![Duration::MAX; all.len()];
+    for _ in 0..2_000 {
+        for (i, ([id, word], record)) in all.iter().enumerate() {
+            let begun = Instant::now();
+            let done = proved::request(session, id, word, &mut [], record, 0, &mut out);
+            least[i] = least[i].min(begun.elapsed());
+            assert!(done.code == 0 && !done.session.login.authorized);
+        }
+    }
+    least
+}
+
 /// A login that differs in its first byte takes as long as one that differs in its last, and it does not matter in which
-/// of the two texts: an early end of the comparison would be hundreds of times as quick.
+/// of the two texts. A comparison that ends early is never so; a busy machine may need several tries.
 #[test]
 fn wrong_logins_take_as_long_wherever_they_differ() {
     const LONG: usize = 12_000;
     let account = [noise(1, LONG), noise(2, LONG)];
-    let mut out = vec![0; proved::OUTPUT];
-    let session = proved::open(0, &mut out).session;
-    let mut fastest = |account: &[Vec<u8>; 2], told: [Vec<u8>; 2]| {
-        let record = request(1, CONNECT_CLIENT_AUTH, &[words(&[1]), text(&told[0]), text(&told[1])].concat());
-        let mut once = || {
-            let begun = Instant::now();
-            let done = proved::request(session, &account[0], &account[1], &mut [], &record, 0, &mut out);
-            let took = begun.elapsed();
-            assert!(done.code == 0 && !done.session.login.authorized);
-            took
-        };
-        (0..300).map(|_| once()).min().unwrap()
-    };
-    let all = [(0, 0), (0, LONG - 1), (1, 0), (1, LONG - 1)].map(|(which, at)| {
+    let wrong = |which: usize, at: usize| {
         let mut told = account.clone();
         told[which][at] ^= 1;
-        fastest(&account, told)
-    });
-    let (least, most) = (*all.iter().min().unwrap(), *all.iter().max().unwrap());
-    // All but the comparison: texts of another length than the account's are not compared.
-    let rest = fastest(&[noise(1, 1), noise(2, 1)], account.clone());
-    println!("{all:?}, without the comparison {rest:?}");
-    assert!(most - least < (most - rest) / 4, "{all:?}, without the comparison {rest:?}");
+        (account.clone(), told)
+    };
+    // The last is all but the comparison: texts of another length than the account's are not compared.
+    let short = ([noise(1, 1), noise(2, 1)], account.clone());
+    let logins = [wrong(0, 0), wrong(0, LONG - 1), wrong(1, 0), wrong(1, LONG - 1), short.clone()];
+    let is_even = |times: &[Duration]| {
+        let (rest, compared) = times.split_last().unwrap();
+        let (least, most) = (compared.iter().min().unwrap(), compared.iter().max().unwrap());
+        *most - *least < most.saturating_sub(*rest) / 4
+    };
+    let tries: Vec<_> = (0..20).map(|_| login_times(&logins)).take_while(|times| !is_even(times)).collect();
+    assert!(tries.len() < 20, "{tries:?}");
+    // The judge is not blind: of these one is not compared.
+    let uneven = login_times(&[wrong(0, 0), short.clone(), short]);
+    assert!(!is_even(&uneven), "{uneven:?}");
 }
 
 #[test]
