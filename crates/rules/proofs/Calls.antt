@@ -30,7 +30,7 @@ use Rattle.wire_replies.specs.declared.Reply.the-variants as Reply
 use Rattle.wire_replies.specs.declared.Notice.{Notice}
 use Rattle.rules.specs.declared.types.Tape.{Tape}
 use Rattle.rules.specs.declared.types.Session.{Session}
-use Rattle.rules.specs.Names.{leastRoom}
+use Rattle.rules.specs.Names.{leastRoom, firstSize}
 use Rattle.rules.specs.Judge.{Outcome, refuse, accept, judge, onto, Accepts}
 use Rattle.rules.specs.Parts.{restMover, closedTape, dataJoined, moverJoined, afterMessage, shut}
 use Rattle.rules.specs.TapeService.{Loaded, tapeOpen, tapeClose, tapeState, tapeMtio, tapeWrite, tapeRead, deviceStep, withLoaded, withMover, tapeStep, moverPartStep}
@@ -171,7 +171,7 @@ kept k l r h = call-holds Valid valid-sends valid-shuts k l r h (outcome-keeps k
 
 opened : keeps openedSession ≡ true
 unfolding dataWrong dataJoined moverJoined sameFlag choose
-opened = facts-kept openedSession (record { source = refl; mover = kept-mover (restMover 0) closedTape (rest-kept 0 closedTape (omega arith)); joined = refl })
+opened = facts-kept openedSession (record { source = refl; mover = kept-mover (restMover firstSize) closedTape (rest-kept firstSize closedTape (omega arith)); joined = refl })
 
 -- ---- soundness. An operation of the tape leaves the image where the position is out of range
 sound-by : (l : List ℕ) (p : ℕ) (m : List ℕ) → isSound l ≡ true → (f : Bool) → faulty l p ≡ f → (f ≡ true → m ≡ l) → (Placed l p → Sound m) → isSound m ≡ true

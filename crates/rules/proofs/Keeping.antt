@@ -194,7 +194,7 @@ window-kept m t offset length b free l z k =
       origins = λ e. absurd (free (active-holds (m .state) e));
     }
 
-size-kept : (m : Mover) (t : Tape) (size : ℕ) → m .state ≡ 0 → (holdsTape (m .state) ≡ true → ⊥) → size ≤ 32768 → MoverKept m t → MoverKept (moverSize size m) t
+pub size-kept : (m : Mover) (t : Tape) (size : ℕ) → m .state ≡ 0 → (holdsTape (m .state) ≡ true → ⊥) → size ≤ 32768 → MoverKept m t → MoverKept (moverSize size m) t
 size-kept m t size s free h k =
     record {
       states = k .states;
@@ -225,7 +225,7 @@ seek-kept m t seek left h k =
     }
 
 -- free of the tape: IDLE, and where a window may be set
-idle-free : (state : ℕ) → state ≡ 0 → holdsTape state ≡ true → ⊥
+pub idle-free : (state : ℕ) → state ≡ 0 → holdsTape state ≡ true → ⊥
 unfolding holdsTape choose
 idle-free state e h = clash false refl (rw e at h)
 

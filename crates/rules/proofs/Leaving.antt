@@ -67,7 +67,7 @@ number-facts : (e : ℕ) → isNumber e ≡ true → (isOneOf errors e ≡ true)
 unfolding isNumber
 number-facts e h = both (isOneOf errors e) (isRefusal e) h
 
-small-number : (e : ℕ) → isNumber e ≡ true → e < 2 ^ 32
+pub small-number : (e : ℕ) → isNumber e ≡ true → e < 2 ^ 32
 small-number e h =
     let z : (n : ℕ) → n < 27 → n < 2 ^ 32 = λ n s. omega arith in
     z e (one-of (λ (n : ℕ). n < 27) errors (
@@ -464,7 +464,7 @@ module _ (k : Kept) (l : Lent) (r : List ℕ) where
   refused-replied (Request.Joint q) e v f t = body-replied (Request.Joint q) _ e _ f t
 
   -- notices leave the reply, and without reasons there are none
-  noticed-reply : (time why : ℕ) (n : Notice) (a : Answered) → noticed time why n a .reply ≡ a .reply
+  pub noticed-reply : (time why : ℕ) (n : Notice) (a : Answered) → noticed time why n a .reply ≡ a .reply
   unfolding noticed
   noticed-reply time why n a = by-test (λ (x : Answered). x .reply ≡ a .reply) (eqb why 0) _ _ (λ _. refl) (λ _. refl)
 

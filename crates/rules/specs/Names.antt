@@ -104,6 +104,10 @@ leastRoom = largestMessage
 abbrev pub largestSize : ℕ
 largestSize = longestRecord
 
+-- paper 02, No. 9: "The first value becomes 10,240": the record size of a new session
+abbrev pub firstSize : ℕ
+firstSize = 10240
+
 -- "CDB length 0 or above 16: 9."
 abbrev pub longestCdb : ℕ
 longestCdb = 16
@@ -128,4 +132,4 @@ pub record NamesAre : Type 0 where
   pub pauses : endOfMedium ∷ endOfFile ∷ seekOutside ∷ endOfWindow ∷ [] ≡ 1 ∷ 2 ∷ 3 ∷ 5 ∷ []
   -- no action, backup, recover
   pub operations : noOperation ∷ backupOperation ∷ recoverOperation ∷ [] ≡ 0 ∷ 1 ∷ 2 ∷ []
-  pub limits : leastRoom ∷ largestSize ∷ longestCdb ∷ top ∷ [] ≡ 36864 ∷ 32768 ∷ 16 ∷ 18446744073709551615 ∷ []
+  pub limits : leastRoom ∷ largestSize ∷ firstSize ∷ longestCdb ∷ top ∷ [] ≡ 36864 ∷ 32768 ∷ 10240 ∷ 16 ∷ 18446744073709551615 ∷ []

@@ -9,7 +9,7 @@ use Rattle.rules.specs.declared.types.Tape.{Tape}
 use Rattle.rules.specs.declared.types.Changer.{Changer}
 use Rattle.rules.specs.declared.types.Login.{Login}
 use Rattle.rules.specs.declared.types.Session.{Session}
-use Rattle.rules.specs.Names.{dataIdle, dataActive, dataHalted, dataConnected, moverIdle, moverListening, moverActive, moverPaused, moverHalted, toTapeMode, noMode, noOperation, top}
+use Rattle.rules.specs.Names.{dataIdle, dataActive, dataHalted, dataConnected, moverIdle, moverListening, moverActive, moverPaused, moverHalted, toTapeMode, noMode, noOperation, firstSize, top}
 
 -- the data end at rest
 abbrev pub restData : Data
@@ -30,10 +30,10 @@ closedChanger = record { opened = false; pending = false }
 abbrev pub noLogin : Login
 noLogin = record { authorized = false }
 
--- a session with nothing in it yet
+-- a session with nothing in it yet but the first record size
 abbrev pub newSession : Bool → ℕ → Session
 newSession closed sequence =
-    record { closed = closed; first = true; login = noLogin; sequence = sequence; source = restData; mover = restMover 0; tape = closedTape; changer = closedChanger }
+    record { closed = closed; first = true; login = noLogin; sequence = sequence; source = restData; mover = restMover firstSize; tape = closedTape; changer = closedChanger }
 
 -- ---- changes of the session: other parts; and a message more. "after 4,294,967,295 comes 0"
 abbrev pub withParts : Session → Login → Data → Mover → Tape → Changer → Session

@@ -177,6 +177,9 @@ impl Mover {
 
     pub const LARGEST_SIZE: u32 = codes::LONGEST_RECORD as u32;
 
+    // The record size of a new session.
+    pub const FIRST_SIZE: u32 = 10240;
+
     // Whether a part of the stream ends above 2^64 - 1. The sum itself would overflow.
     pub fn is_past_top(offset: u64, length: u64) -> bool
         ensures { λ r. ⌜ r ≡ pastTop offset length ⌝ }
@@ -414,7 +417,7 @@ impl Mover {
 }
 
 impl Session {
-    // A session with nothing in it yet.
+    // A session with nothing in it yet but the first record size.
     pub fn begins(closed: bool, sequence: u32) -> Session
         ensures { λ r. ⌜ r ≡ newSession closed sequence ⌝ }
     {
@@ -424,7 +427,7 @@ impl Session {
             login: Login { authorized: false },
             sequence,
             source: Data::rests(),
-            mover: Mover::at_rest(0),
+            mover: Mover::at_rest(Mover::FIRST_SIZE),
             tape: Tape {
                 opened: false,
                 writable: false,

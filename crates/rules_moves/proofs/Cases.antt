@@ -19,7 +19,7 @@ use Rattle.rules.specs.Answer.{guarded, noticed, outcome, needsLogin, isLocked,
 use Rattle.rules.specs.Calls.{opening}
 use Rattle.rules.specs.Connection.{connectOpen, matches, clientAuth, connectStep}
 use Rattle.rules.specs.DataService.{dump, dataStart, dataState, dataStop, dataStep}
-use Rattle.rules.specs.Joint.{dataConnect, moverClose, jointStep}
+use Rattle.rules.specs.Joint.{dataConnect, moverConnect, atRest, moverAborted, moverAbort, moverClose, jointStep}
 use Rattle.rules.specs.Judge.{judge, onto}
 use Rattle.rules.specs.MoverService.{recordNumber, moverState, offsetWrong, moverListen, moverContinue, moverStop, busy, elsewhere}
 use Rattle.rules.specs.MoverService.{setWindow, moverRead, setSize, moverStep}
@@ -31,9 +31,10 @@ use Rattle.rules_moves.specs.Cases.{wordsBytes, wire, wide, runLine, run
 use Rattle.rules_moves.specs.Events.{movedToTape, movedFromTape, methodEnded}
 use Rattle.rules_moves.specs.Examples.{ExamplesHold}
 use Rattle.rules_moves.specs.RecoverCases.{RecoverCasesHold}
+use Rattle.rules_moves.specs.FirstSizeCases.{FirstSizeCasesHold}
 use Rattle.rules_moves.specs.Moves.{idle, streamEnds, scant, filling, toTape, outside, seekFrom, amount, reading, onFound, seeking, fromTape, methodEnd}
 
-pub cases-hold : ExamplesHold × RecoverCasesHold
+pub cases-hold : ExamplesHold × RecoverCasesHold × FirstSizeCasesHold
 unfolding
     choose allOf be32 be32s word be64 hyper overlay sameBytes allZero opaqueAt opaque
     entryBytes headerOk tableOk isSound faulty marksBefore recordsSince aheadOf passes positionAfter leftAfter stops walk spacing
@@ -47,5 +48,5 @@ unfolding
     numbersWrong windowWrong startWrong holdWrong strays resumeWrong placeWrong originWrong moverWrong sameFlag keeps tape0
     tapeOpen isRefusal protects tapeState tapeMtio deviceStep tapeStep moverPartStep movedToTape movedFromTape methodEnded wordsBytes
     wire wide runLine runCase notices expect streamed idle streamEnds scant filling toTape outside seekFrom amount reading onFound
-    seeking fromTape methodEnd
-cases-hold = (refl, refl)
+    seeking fromTape methodEnd moverConnect atRest moverAborted moverAbort
+cases-hold = (refl, refl, record { fresh = refl; handed-in = refl })

@@ -53,7 +53,7 @@ Writes MoverStopped = ⊥
 Writes DataStopped = ⊥
 Writes (Began position) = ⊥
 
-by-shown : (P : Seen → Type 0) (m next : Mover) (n : ℕ) (what : Seen) → P what → P Paused → P Nothing → P (moveShown m next n what)
+pub by-shown : (P : Seen → Type 0) (m next : Mover) (n : ℕ) (what : Seen) → P what → P Paused → P Nothing → P (moveShown m next n what)
 unfolding moveShown
 by-shown P m next n what a b c =
     by-test P (not (eqb n 0)) _ _ (λ _. a) (λ _. by-test P (not (eqb (m .state) 2)) _ _ (λ _. c) (λ _. by-test P (eqb (next .state) 3) _ _ (λ _. b) (λ _. c)))

@@ -7,3 +7,5 @@ pub mod Sequence
 pub mod Keeping
 pub mod Counts
 pub mod Modes
+pub mod FirstSize
+pub mod FirstSizeCases

@@ -11,6 +11,8 @@ ghost use Rattle.rules_moves.specs.Sequence.{WindowHolds};
 ghost use Rattle.rules_moves.specs.Keeping.{MovesKeep};
 ghost use Rattle.rules_moves.specs.Counts.{CountsHold};
 ghost use Rattle.rules_moves.specs.Modes.{EachItsMode};
+ghost use Rattle.rules_moves.specs.FirstSize.{FirstSize};
+ghost use Rattle.rules_moves.specs.FirstSizeCases.{FirstSizeCasesHold};
 use rules::types::Data;
 use rules::types::Mover;
 use rules::types::Tape;
@@ -185,4 +187,14 @@ pub fn counts_hold()
 // No work: its contract is that each of the two moves does nothing in the other's mode.
 pub fn each_its_mode()
     ensures { λ r. ⌜ EachItsMode ⌝ }
+{}
+
+// No work: its contract is that a session begins with a record size and has one after any sequence of calls, and what one without is told.
+pub fn first_size()
+    ensures { λ r. ⌜ FirstSize ⌝ }
+{}
+
+// No work: its contract is a list of cases of the first record size, and of one that is 0, in one statement.
+pub fn first_size_cases_hold()
+    ensures { λ r. ⌜ FirstSizeCasesHold ⌝ }
 {}
