@@ -9,7 +9,7 @@ use lib.Dec.{eqb, ltb}
 use borrow.Author.Tests.{eq-eqb, eqb-true, eqb-false}
 use Rattle.xdr.specs.Choose.{choose}
 use Rattle.xdr.specs.Xdr.{word}
-use Rattle.xdr.proofs.Tests.{by-test, yes, yes-not, eq-not}
+use Rattle.xdr.proofs.Tests.{by-test, yes-not, eq-not}
 use Rattle.wire_frame.specs.Frame.{sequenceOf, messageWord, bodyOf}
 use Rattle.wire_frame.specs.Messages.{look, rowOf, messageOf}
 use Rattle.wire_frame.specs.declared.MoverKind.the-variants as MoverKind
@@ -36,12 +36,11 @@ use Rattle.rules.specs.declared.types.Session.{Session}
 use Rattle.rules.specs.Judge.{Test, test, Outcome, refuse, accept, judge, onto, isAccepted, Accepts, Refuses}
 use Rattle.codes.specs.Codes.{otherNotListening}
 use Rattle.rules.specs.Names.{dataListening}
-use Rattle.rules.specs.Parts.{unwritable}
 use Rattle.rules.specs.MoverService.{offsetWrong, joinTests, moverListen, moverContinue, busy, setWindow, setSize, moverStep}
 use Rattle.rules.specs.Joint.{moverConnect, jointStep}
 use Rattle.rules.specs.TapeService.{withMover, moverPartStep}
 use Rattle.rules.specs.Relation.{keeps}
-use Rattle.rules.specs.Answer.{Kept, Lent, held, Answered, answered, judged, isClose, settled, halting, noticed, replying, silent, closing, verdict, outcome}
+use Rattle.rules.specs.Answer.{Kept, Lent, held, Answered, answered, judged, isClose, settled, halting, noticed, replying, silent, verdict, outcome}
 use Rattle.rules.specs.Answer.{Done, tapePart, withTape, withEnds, requestIn, needsLogin, isLocked, isUnread, refusing}
 use Rattle.rules.specs.Order.{isOneOf}
 use Rattle.rules.specs.Calls.{opening, isNumber}
