@@ -37,8 +37,12 @@ struct mossgoblin_data {
     uint64_t processed;
 };
 
-/* The mover. State: 0 IDLE, 1 LISTEN, 2 ACTIVE, 3 PAUSED, 4 HALTED. Mode: 0 to tape, 1 from tape, 2 none. A window of length 0 is none. Seek is the place on the stream
- * that a mover read has come to, left the bytes that it has still to be given, origin the tape's position when the mover last became ACTIVE. */
+/* The record size of a new session. */
+#define MOSSGOBLIN_FIRST_SIZE 10240
+
+/* The mover. State: 0 IDLE, 1 LISTEN, 2 ACTIVE, 3 PAUSED, 4 HALTED. Mode: 0 to tape, 1 from tape, 2 none. Size is the record size, 1 to 32,768 in every session
+ * that these calls give. A window of length 0 is none. Seek is the place on the stream that a mover read has come to, left the bytes that it has still to be
+ * given, origin the tape's position when the mover last became ACTIVE. */
 struct mossgoblin_mover {
     uint32_t state;
     uint32_t mode;

@@ -56,6 +56,7 @@ int main(void)
     check(a.code == 1001 && a.len == 0 && a.session.closed, "open: a short output is refused");
     a = mossgoblin_open(0, out, sizeof out);
     check(a.code == 0 && a.len == 40 && word(out + 16) == 0x502, "open");
+    check(a.session.mover.size == MOSSGOBLIN_FIRST_SIZE, "open: the first record size");
     session = a.session;
 
     ASK("connect open", 0x900, 4);

@@ -32,8 +32,8 @@ roomy = cartridge (1 ∷ 1 ∷ 0 ∷ 0 ∷ 0 ∷ 0 ∷ []) (replicate 10240 0)
 abbrev pub oneRecord : List ℕ
 oneRecord = cartridge (1 ∷ 1 ∷ 1 ∷ 10240 ∷ 10240 ∷ 0 ∷ []) (streamed 5 0 ++ replicate 10235 0)
 
-abbrev pub small : Case
-small =
+abbrev pub noSizeSet : Case
+noSizeSet =
     record {
       image = roomy;
       stream = streamed 5 0;
@@ -49,8 +49,8 @@ small =
     }
 
 -- "all variables of its own end reset but the record size": 512 stays 512; and "1 to 32,768 (else 9)"
-abbrev pub kept : Case
-kept =
+abbrev pub sizeStays : Case
+sizeStays =
     record {
       image = blank;
       stream = [];
@@ -76,5 +76,5 @@ abbrev pub unsizedWanted : Final
 unsizedWanted = record { shown = expect 2 unsizedLines; image = blank; position = 0 }
 
 pub record FirstSizeCasesHold : Type 0 where
-  pub fresh : allPlayed (small ∷ kept ∷ []) ≡ allWanted (small ∷ kept ∷ [])
+  pub fresh : allPlayed (noSizeSet ∷ sizeStays ∷ []) ≡ allWanted (noSizeSet ∷ sizeStays ∷ [])
   pub handed-in : unsizedPlayed ≡ unsizedWanted

@@ -1,4 +1,4 @@
-//! States, modes and reasons by the names that crates/rules gives them (`tests/names.rs` compares both), and in
+//! States, modes, reasons and the first record size by the names that crates/rules gives them (`tests/names.rs` compares both), and in
 //! words.
 use crate::{Data, Mover};
 
@@ -26,6 +26,7 @@ numbers! {
         TO_TAPE = 0, FROM_TAPE = 1, NO_MODE = 2,
         CONNECT_CLOSED = 1, ABORTED = 2, MEDIA_ERROR = 5,
         END_OF_MEDIUM = 1, END_OF_FILE = 2, SEEK = 3, END_OF_WINDOW = 5,
+        FIRST_SIZE = 10240,
     }
 }
 

@@ -71,7 +71,7 @@ pub fn meaning(error: u32) -> &'static str {
         codes::ILLEGAL_STATE => " (not in this state)",
         codes::OTHER_NOT_LISTENING => " (the other end does not listen)",
         codes::READ_IN_PROGRESS => " (a read is in progress)",
-        codes::PRECONDITION => " (record size or window is missing)",
+        codes::PRECONDITION => " (no window is set, or one that does not begin at 0)",
         _ => "",
     }
 }
@@ -224,6 +224,11 @@ impl Client {
     /// Record size, window, mover listen, data connect.
     pub fn join(&mut self, mode: u32, record: u32, window: u64) -> Result<()> {
         self.good(MOVER_SET_RECORD_SIZE, &words(&[record]))?;
+        self.join_as_sized(mode, window)
+    }
+
+    /// The same at the record size in force, which is 10,240 where none was set.
+    pub fn join_as_sized(&mut self, mode: u32, window: u64) -> Result<()> {
         self.window(0, window)?;
         self.good(MOVER_LISTEN, &words(&[mode, codes::LOCAL_ADDRESS]))?;
         self.good(DATA_CONNECT, &words(&[codes::LOCAL_ADDRESS])).map(drop)

@@ -44,6 +44,44 @@ fn several_record_sizes_and_one_large_window() {
     }
 }
 
+/// 02 No. 9: "Small programs never send set record size".
+#[test]
+fn client_that_sets_no_record_size() {
+    let s = Scratch::new();
+    let (from, to, tape) = (s.folder("from"), s.folder("to"), s.path("tape"));
+    sample(&from);
+    let options = ["--new-cartridge", "4M", "--stream", from.to_str().unwrap(), "--restore-to", to.to_str().unwrap()];
+    let host = Host::start(&tape, &options);
+    let mut c = host.login();
+    let size = |c: &mut Client| word(&c.good(MOVER_GET_STATE, b"").unwrap(), 20);
+    assert_eq!(size(&mut c), Mover::FIRST_SIZE);
+    // No window yet, and one that is no multiple.
+    c.tape_open(TO_WRITE).unwrap();
+    let listen = words(&[Mover::TO_TAPE, codes::LOCAL_ADDRESS]);
+    assert_eq!(c.call(MOVER_LISTEN, &listen).unwrap().first(), codes::PRECONDITION);
+    assert_eq!(c.call(MOVER_SET_WINDOW, &quads(&[0, 1_024])).unwrap().first(), codes::ILLEGAL_ARGUMENTS);
+    c.tape_close().unwrap();
+    for mode in [Mover::TO_TAPE, Mover::FROM_TAPE] {
+        let backup = mode == Mover::TO_TAPE;
+        c.tape_open(if backup { TO_WRITE } else { TO_READ }).unwrap();
+        c.join_as_sized(mode, 102_400).unwrap();
+        if backup {
+            c.start_backup().unwrap()
+        } else {
+            c.start_recover().unwrap()
+        }
+        let Ended { pauses, why } = c.run(102_400, |_| ()).unwrap();
+        assert_eq!(why, DONE);
+        assert!(pauses >= 2, "{pauses} pauses");
+        c.finish().unwrap();
+        assert_eq!(size(&mut c), Mover::FIRST_SIZE);
+    }
+    let (n, used) = sound(&fs::read(&tape).unwrap()).unwrap();
+    assert!(n > 30, "{n} records");
+    assert_eq!(used, n * Mover::FIRST_SIZE as u64);
+    assert_eq!(tree(&from), tree(&to));
+}
+
 #[test]
 fn file_comes_back() {
     let s = Scratch::new();

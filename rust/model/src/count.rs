@@ -55,6 +55,12 @@ const EDGES: [&str; 8] = [
     "a table of 4,096 entries",
 ];
 
+/// The requests that are refused with 26 for a record size 0: set window, mover listen, mover connect.
+const SIZED: [u32; 3] = [0xa05, 0xa01, 0xa09];
+
+/// 02 No. 9: "26 for record size 0 is never given afterwards", but on a session that was handed in.
+const NEVER: &str = "size 0: on a session that calls alone made";
+
 /// Everything that has to be reached at least once.
 pub fn wanted() -> Vec<String> {
     let mut all = vec!["reply unknown 1".to_string()];
@@ -128,6 +134,7 @@ pub fn wanted() -> Vec<String> {
         all.push(format!("{call} closed"));
     }
     all.push("open 1001".into());
+    all.extend(SIZED.map(|message| format!("size 0: reply {message:03x} 26")));
     all.extend((1..=8).map(|line| format!("1002 line {line}")));
     all.extend(EDGES.map(|e| format!("edge {e}")));
     all.extend(
@@ -163,6 +170,7 @@ impl Counts {
         }
         self.add(format!("{call} {}", given.rule));
         self.messages(step, &given.sent);
+        self.sizes(&given.sent, before, world.natural);
         let after = &world.session;
         if call != "open" {
             for (what, wraps) in [
@@ -178,6 +186,22 @@ impl Counts {
         self.edges(step, given.count, &given.sent, before, world);
         let pair = format!("pair {} {}", after.source.state_name(), after.mover.state_name());
         self.add(if world.natural { pair } else { format!("handed in: {pair}") });
+    }
+
+    /// 26 for a record size 0, and whether it was given, or the size met, where neither may be.
+    fn sizes(&mut self, sent: &[u8], before: &Session, natural: bool) {
+        let refused = |message: &u32| {
+            sent.len() >= 32 && word(sent, 12) == 1 && word(sent, 16) == *message && word(sent, 28) == 26
+        };
+        let none = before.mover.size == 0;
+        if let Some(message) = SIZED.iter().find(|m| refused(m))
+            && none
+        {
+            self.add(format!("size 0: reply {message:03x} 26"));
+        }
+        if natural && (none || refused(&0xa05)) {
+            self.add(NEVER.into());
+        }
     }
 
     fn edges(&mut self, step: &Step, count: usize, sent: &[u8], before: &Session, world: &World) {
@@ -242,6 +266,11 @@ impl Counts {
         wanted().into_iter().filter(|key| !self.0.contains_key(key)).collect()
     }
 
+    /// How often came what no sequence of calls may lead to.
+    pub fn never(&self) -> u64 {
+        self.get(NEVER)
+    }
+
     fn get(&self, key: &str) -> u64 {
         self.0.get(key).copied().unwrap_or(0)
     }
@@ -280,6 +309,7 @@ impl Counts {
             ("1002 by line of docs/RELATION.md", "1002 "),
             ("closed and", "closed and "),
             ("at the limits", "edge "),
+            ("record size 0 handed in, reply", "size 0: reply "),
         ] {
             println!("{title}: {}", self.with(start));
         }

@@ -14,6 +14,9 @@ use wire::{Header, LAST, put_word, word_at};
 
 const ROOM: usize = 36_864;
 
+/// 02 No. 9: "The first value becomes 10,240".
+const FIRST_SIZE: u32 = 10_240;
+
 /// One session's plan: what its client is after.
 pub struct Driver {
     pub r: Random,
@@ -39,6 +42,8 @@ impl Driver {
         self.size = match r.below(20) {
             0 => r.pick(&[32_767, 32_768, 32_768, 32_768, 8192]),
             1..=3 => r.pick(&[512, 1000, 1024]),
+            // The size that a session begins with: this client sets none.
+            4 | 5 => FIRST_SIZE,
             _ => r.pick(&[1, 2, 3, 4, 7, 16, 33, 64, 100]),
         };
         self.wild = r.pick(&[2, 8, 8, 20, 60]);
@@ -189,7 +194,21 @@ impl Driver {
         if self.r.percent(15) {
             return self.tape_work();
         }
-        if s.mover.size == 0 || self.r.percent(4) {
+        let mode = self.mode;
+        if s.mover.size == 0 && self.r.percent(60) {
+            // Only handed in: each is refused.
+            return match self.r.below(3) {
+                0 => self.window(s),
+                1 => self.words(0xa01, &[mode, 0]),
+                _ => self.words(0xa09, &[mode, 0]),
+            };
+        }
+        let setting = match s.mover.size {
+            0 => 100,
+            FIRST_SIZE if self.size != FIRST_SIZE => 95,
+            _ => 4,
+        };
+        if self.r.percent(setting) {
             if self.r.percent(10) {
                 self.size = self.r.pick(&[1, 5, 64, 1024]);
             }
@@ -199,7 +218,6 @@ impl Driver {
         if s.mover.length == 0 || self.r.percent(5) {
             return self.window(s);
         }
-        let mode = self.mode;
         match s.source.state {
             0 if self.r.percent(50) => self.words(0xa01, &[mode, 0]),
             // Nobody listens.
@@ -692,6 +710,8 @@ impl Driver {
             }
             5 => s.tape.position = self.r.pick(&[0, 1, 5, 40, 41, 4096, 4097, usize::MAX]),
             6 => s.mover.origin = self.r.pick(&[0, 1, s.tape.position, s.tape.position.wrapping_add(1), usize::MAX]),
+            // No record size, and so no window.
+            7 if s.mover.state == 0 => (s.mover.size, s.mover.offset, s.mover.length) = (0, 0, 0),
             _ => {
                 for _ in 0..self.r.within(1, 3) {
                     let all = fields(&s);

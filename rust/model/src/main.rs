@@ -112,6 +112,10 @@ fn run(calls: u64, seed: u64) -> ExitCode {
         "{made} calls in {sessions} sessions and {crossed} crossed, {:.1} seconds, seed {seed}: no difference",
         began.elapsed().as_secs_f64()
     );
+    if counts.never() > 0 {
+        println!("a record size 0, or 26 at set window, on a session that calls alone made");
+        return ExitCode::FAILURE;
+    }
     let missing = counts.missing();
     if missing.is_empty() {
         println!("all {} listed cases were reached", count::wanted().len());

@@ -83,7 +83,6 @@ impl Data {
 }
 
 impl Mover {
-    /// Record size: "It starts at 0, unset."
     pub fn at_rest(record_size: u32) -> Mover {
         Mover {
             state: mover::IDLE,
@@ -101,6 +100,7 @@ impl Mover {
 }
 
 impl State {
+    /// Record size, 02 No. 9: "The first value becomes 10,240". (01: "It starts at 0, unset.")
     pub fn at_rest() -> State {
         State {
             closed: false,
@@ -108,7 +108,7 @@ impl State {
             authorized: false,
             number: 1,
             data: Data::at_rest(),
-            mover: Mover::at_rest(0),
+            mover: Mover::at_rest(10_240),
             tape: Tape { open: false, writable: false, position: 0 },
             changer: Changer { open: false, pending: false },
         }
