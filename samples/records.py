@@ -1,5 +1,6 @@
 #!/usr/bin/env python3
-"""Writes records as a host may lend them, a line of hex for each, and what the program run_requests is to print of each.
+"""Writes records as a host may lend them, two lines for each: its name and its bytes in hex; then = and what it is read as, which the program
+run_requests passes over and is to print.
 
 The bodies are built from 004's layouts (Appendix C, by the lines named). Every expected line is written by hand beside its record, from
 004 and paper 01; none is taken from the program. A line has the sequence number and the request: numbers in decimal; a text as its
@@ -409,13 +410,13 @@ FILL = [
 SAMPLES = HANDLED + FRAMES + UNKNOWN + CONNECT + BARE + SCSI + TAPE + DATA + MOVER + FILL
 
 
-def line(own, data):
-    """A vector: its name, then its bytes in hex, by words."""
-    return ' '.join([own] + [data[i:i + 4].hex() for i in range(0, len(data), 4)])
+def vector(own, data, expected):
+    """Its name and its bytes in hex, by words; below, the expected line."""
+    return ' '.join([own] + [data[i:i + 4].hex() for i in range(0, len(data), 4)]) + '\n= ' + expected
 
 
 def main():
-    write('run_requests/stdin', text(line(own, data) for own, data, _ in SAMPLES))
+    write('run_requests/stdin', text(vector(*sample) for sample in SAMPLES))
     write('run_requests/stdout', text(f'{own}: {expected}' for own, _, expected in SAMPLES))
     print(f'run_requests: {len(SAMPLES)} records')
 

@@ -1,4 +1,5 @@
 // Reads lines of a name and a record in hex, and prints a line for each: its name, then what its frame is or the request that its body holds.
+// A line that begins with = is passed over: there the file says what the record above is to be read as.
 ghost use Prim.Native.Nat.{_≤_};
 ghost use lib.ListN.{length};
 
@@ -65,8 +66,8 @@ fn empty_record() -> [u8; 36870] {
     [0u8; 36870]
 }
 
-// A line: a name, then a record in hex. One that is above the buffer is said to be so, and not shown in part.
-fn show_line(line: &[u8]) {
+// A name, then a record in hex. One that is above the buffer is said to be so, and not shown in part.
+fn show_vector(line: &[u8]) {
     let n = find(line, 32);
     put(&line[..n]);
     put(b": ");
@@ -77,6 +78,21 @@ fn show_line(line: &[u8]) {
         Decoded::NotHex => put(b"not hex\n"),
         Decoded::NoRoom => put(b"above 36870 bytes\n"),
     }
+}
+
+// Whether a line says what is expected. It is not read: what is printed is of the record alone.
+fn is_expected(line: &[u8]) -> bool {
+    if line.len() == 0 {
+        return false;
+    }
+    line[0] == b'='
+}
+
+fn show_line(line: &[u8]) {
+    if is_expected(line) {
+        return;
+    }
+    show_vector(line);
 }
 
 // Any text, line by line.

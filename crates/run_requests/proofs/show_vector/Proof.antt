@@ -4,8 +4,8 @@ use native.Mathlib.Omega.{arith}
 use lib.Seq.{length-take-le}
 use Rattle.hex.proofs.Laws.{reads-within}
 use borrow.Author.Needs.{needs}
-use Rattle.run_requests.proofs.show_line.Statement.{statement}
-use Rattle.run_requests.proofs.show_line.Tie as tie
+use Rattle.run_requests.proofs.show_vector.Statement.{statement}
+use Rattle.run_requests.proofs.show_vector.Tie as tie
 
 find-requires : tie.Need-find-requires
 find-requires c κs = search needs
@@ -82,8 +82,8 @@ returns-2 c = search needs
 returns-3 : tie.Need-returns-3
 returns-3 c = search needs
 
-pub show-line-spec : {M : Type 1} → statement M
-show-line-spec =
+pub show-vector-spec : {M : Type 1} → statement M
+show-vector-spec =
     tie.close
     (tie.spec
     find-requires
