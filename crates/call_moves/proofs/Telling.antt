@@ -3,8 +3,8 @@ use Prim.Native.Nat.{ℕ}
 use mathlib.Core.Bool.{Bool}
 use mathlib.Core.List.{List, []}
 use mathlib.Core.Path.{_≡_}
-use Rattle.rules.specs.declared.types.Answer.{Answer}
-use Rattle.rules.specs.declared.types.Moved.{Moved}
+use Rattle.rules_parts.specs.declared.types.Answer.{Answer}
+use Rattle.rules_parts.specs.declared.types.Moved.{Moved}
 use Rattle.rules.specs.declared.Guard.the-variants.{Stop, Go}
 use Rattle.rules.specs.Answer.{Kept, Lent, Answered, silent, guarded}
 use Rattle.rules.proofs.Guarding.{when-stopped, when-goes}

@@ -2,10 +2,10 @@
 use Prim.Native.Nat.{ℕ}
 use mathlib.Core.List.{List}
 use mathlib.Core.Path.{_≡_}
-use Rattle.rules.specs.declared.types.Answer.{Answer}
+use Rattle.rules_parts.specs.declared.types.Answer.{Answer}
 use Rattle.call_sending.specs.Call.{CallTold}
 use Rattle.rules_moves.specs.Events.{Moving}
-use Rattle.rules.specs.declared.types.Moved.{Moved}
+use Rattle.rules_parts.specs.declared.types.Moved.{Moved}
 
 -- what every call returns of it
 abbrev pub answerOf : Moved → Answer

@@ -4,17 +4,17 @@ ghost use mathlib.Core.Bool.{true};
 ghost use mathlib.Core.List.{List, []};
 ghost use Prim.Native.Nat.{ℕ, _≤_};
 ghost use lib.ListN.{length};
-ghost use Rattle.rules.specs.Names.{leastRoom};
+ghost use Rattle.rules_parts.specs.Names.{leastRoom};
 ghost use Rattle.rules.specs.Relation.{keeps};
 ghost use Rattle.rules.specs.Answer.{held};
 ghost use Rattle.call_sending.specs.Call.{CallTold};
 ghost use Rattle.rules_moves.specs.Events.{stamped, idling, announced, moved, feeding, handing, movedToTape, movedFromTape, methodEnded};
 ghost use Rattle.call_moves.specs.Told.{MoveTold};
 use rules::Guard;
-use rules::types::Answer;
-use rules::types::Moved;
-use rules::types::Session;
 use rules_moves::Move;
+use rules_parts::types::Answer;
+use rules_parts::types::Moved;
+use rules_parts::types::Session;
 use wire_replies::Notice;
 
 // The session with a move's parts, and the notices of what it came to: data first, mover second.
@@ -50,7 +50,7 @@ pub fn end_method(s: Session, ok: bool, time: u32, out: &mut [u8]) -> Answer
     let d = s.source;
     let m = s.mover;
     let t = s.tape;
-    let mv = rules_moves::method_end(ok, d, m, t);
+    let mv = serve_moves::method_end(ok, d, m, t);
     announce(s, mv, time, out)
 }
 

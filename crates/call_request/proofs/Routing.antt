@@ -18,7 +18,7 @@ use Rattle.wire_replies.specs.declared.Notice.the-variants as Notice
 use Rattle.wire_replies.specs.Fit.{Sendable}
 use Rattle.wire_requests.specs.declared.TapeRequest.{TapeRequest}
 use Rattle.wire_requests.specs.declared.MoverRequest.{MoverRequest}
-use Rattle.rules.specs.declared.types.Mover.{Mover}
+use Rattle.rules_parts.specs.declared.types.Mover.{Mover}
 use Rattle.rules.specs.declared.Guard.the-variants.{Stop, Go}
 use Rattle.rules.specs.TapeService.{Loaded, TapePart, deviceStep, withLoaded, withMover, tapeStep, moverPartStep}
 use Rattle.rules.specs.MoverService.{moverStep}
@@ -27,7 +27,7 @@ use Rattle.rules.specs.Answer.{Kept, Lent, Answered, Done, silent, guarded, ans
 use Rattle.rules.specs.Answer.{isLocked, isClose, closing, outcome}
 use Rattle.rules.proofs.Guarding.{when-stopped, when-goes}
 use Rattle.rules.proofs.Calls.{judged-locked, judged-free}
-use Rattle.rules.specs.declared.types.Answer.{Answer}
+use Rattle.rules_parts.specs.declared.types.Answer.{Answer}
 use Rattle.call_sending.specs.Call.{CallTold}
 
 -- what is said of accepted answers, of the one that was given

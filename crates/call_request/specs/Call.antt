@@ -4,7 +4,7 @@ use mathlib.Core.List.{List, []}
 use lib.ListN.{length}
 use Rattle.wire_replies.specs.declared.Reply.{Reply}
 use Rattle.wire_replies.specs.Fit.{Sendable}
-use Rattle.rules.specs.declared.types.Login.{Login}
+use Rattle.rules_parts.specs.declared.types.Login.{Login}
 use Rattle.rules.specs.Answer.{Lent}
 
 -- what is lent with a request, from the caller's buffers

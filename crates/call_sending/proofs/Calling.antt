@@ -19,10 +19,10 @@ use Rattle.wire_replies.specs.declared.Reply.the-variants as Reply
 use Rattle.wire_replies.specs.Fit.{Sendable}
 use Rattle.wire_replies.specs.declared.Notice.{Notice}
 use Rattle.wire_replies.specs.Replies.{replyBytes, noticeBytes}
-use Rattle.rules.specs.declared.types.Session.{Session}
-use Rattle.rules.specs.Parts.{afterMessage}
+use Rattle.rules_parts.specs.declared.types.Session.{Session}
+use Rattle.rules_parts.specs.Parts.{afterMessage}
 use Rattle.rules.specs.Answer.{held, Answered, silent, replying, refusedIn, noticed}
-use Rattle.rules.specs.declared.types.Answer.{Answer}
+use Rattle.rules_parts.specs.declared.types.Answer.{Answer}
 use Rattle.call_sending.specs.Call.{CallTold}
 
 -- a reply

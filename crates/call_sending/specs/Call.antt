@@ -4,9 +4,9 @@ use mathlib.Core.List.{List, _++_}
 use mathlib.Core.Path.{_≡_}
 use lib.ListN.{length}
 use Rattle.xdr.specs.Xdr.{overlay}
-use Rattle.rules.specs.Names.{leastRoom}
+use Rattle.rules_parts.specs.Names.{leastRoom}
 use Rattle.rules.specs.Answer.{Answered}
-use Rattle.rules.specs.declared.types.Answer.{Answer}
+use Rattle.rules_parts.specs.declared.types.Answer.{Answer}
 
 -- "Bytes of the output after the answer stay": what is sent is written at the output's start, and nothing else
 pub record CallTold (a : Answered) (r : Answer) (image′ out out′ : List ℕ) : Type 0 where

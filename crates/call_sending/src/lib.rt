@@ -4,12 +4,12 @@ ghost use mathlib.Core.List.{List, []};
 ghost use Prim.Native.Nat.{ℕ, _+_, _≤_};
 ghost use lib.ListN.{length};
 ghost use Rattle.wire_replies.specs.Fit.{Sendable};
-ghost use Rattle.rules.specs.Names.{leastRoom};
+ghost use Rattle.rules_parts.specs.Names.{leastRoom};
 ghost use Rattle.rules.specs.Answer.{held, Answered, silent, closing, replying, refusedIn, noticed, halting};
 ghost use Rattle.rules.specs.Calls.{opening};
 ghost use Rattle.call_sending.specs.Call.{CallTold, Ready};
-use rules::types::Answer;
-use rules::types::Session;
+use rules_parts::types::Answer;
+use rules_parts::types::Session;
 use wire_replies::Notice;
 use wire_replies::Reply;
 

@@ -11,9 +11,9 @@ ghost use Rattle.call_moves.specs.Told.{MoveTold};
 
 mod tape; // tape.rt: the tape operations alone
 
-use rules::types::Answer;
-use rules::types::Moved;
-use rules::types::Session;
+use rules_parts::types::Answer;
+use rules_parts::types::Moved;
+use rules_parts::types::Session;
 
 // A new session.
 #[no_mangle]

@@ -21,11 +21,11 @@ use Rattle.wire_requests.specs.declared.Request.{Request}
 use Rattle.wire_requests.specs.declared.Request.the-variants as Request
 use Rattle.wire_replies.specs.declared.Reply.the-variants as Reply
 use Rattle.wire_replies.specs.Replies.{replyBytes, shapeOf}
-use Rattle.rules.specs.declared.types.Tape.{Tape}
-use Rattle.rules.specs.declared.types.Session.{Session}
-use Rattle.rules.specs.Names.{leastRoom}
+use Rattle.rules_parts.specs.declared.types.Tape.{Tape}
+use Rattle.rules_parts.specs.declared.types.Session.{Session}
+use Rattle.rules_parts.specs.Names.{leastRoom}
 use Rattle.rules.specs.Judge.{test, Outcome, refuse, accept, judge, onto}
-use Rattle.rules.specs.Parts.{holdsTape}
+use Rattle.rules_parts.specs.Parts.{holdsTape}
 use Rattle.rules.specs.TapeService.{Loaded, loaded, movedTo, isRefusal, protects, tapeMtio, deviceStep, withLoaded, tapeStep}
 use Rattle.rules.specs.Relation.{keeps}
 use Rattle.rules.specs.Answer.{Lent, held, Answered, guarded, answered, requested, judged, isClose, settled, verdict, isLocked, outcome}

@@ -28,11 +28,11 @@ use Rattle.wire_requests.specs.declared.Request.the-variants as Request
 use Rattle.wire_replies.specs.declared.Reply.{Reply}
 use Rattle.wire_replies.specs.declared.Reply.the-variants as Reply
 use Rattle.wire_replies.specs.declared.Notice.{Notice}
-use Rattle.rules.specs.declared.types.Tape.{Tape}
-use Rattle.rules.specs.declared.types.Session.{Session}
-use Rattle.rules.specs.Names.{leastRoom, firstSize}
+use Rattle.rules_parts.specs.declared.types.Tape.{Tape}
+use Rattle.rules_parts.specs.declared.types.Session.{Session}
+use Rattle.rules_parts.specs.Names.{leastRoom, firstSize}
 use Rattle.rules.specs.Judge.{Outcome, refuse, accept, judge, onto, Accepts}
-use Rattle.rules.specs.Parts.{restMover, closedTape, dataJoined, moverJoined, afterMessage, shut}
+use Rattle.rules_parts.specs.Parts.{restMover, closedTape, dataJoined, moverJoined, afterMessage, shut}
 use Rattle.rules.specs.TapeService.{Loaded, tapeOpen, tapeClose, tapeState, tapeMtio, tapeWrite, tapeRead, deviceStep, withLoaded, withMover, tapeStep, moverPartStep}
 use Rattle.rules.specs.Connection.{matches, clientAuth, connectStep}
 use Rattle.rules.specs.Relation.{dataWrong, moverWrong, sameFlag, keeps}

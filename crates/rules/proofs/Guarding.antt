@@ -7,9 +7,9 @@ use lib.Dec.{ltb}
 use borrow.Author.Tests.{ltb-false, le-ltb}
 use Rattle.xdr.specs.Choose.{choose}
 use Rattle.xdr.proofs.Tests.{by-test, yes}
-use Rattle.rules.specs.declared.types.Session.{Session}
+use Rattle.rules_parts.specs.declared.types.Session.{Session}
 use Rattle.rules.specs.declared.Guard.the-variants.{Stop, Go}
-use Rattle.rules.specs.Names.{leastRoom}
+use Rattle.rules_parts.specs.Names.{leastRoom}
 use Rattle.rules.specs.Relation.{keeps}
 use Rattle.rules.specs.Answer.{guarded}
 

@@ -17,13 +17,13 @@ use Rattle.wire_requests.specs.declared.TapeRequest.the-variants as TapeRequest
 use Rattle.wire_requests.specs.declared.JointRequest.{JointRequest}
 use Rattle.wire_requests.specs.declared.JointRequest.the-variants as JointRequest
 use Rattle.wire_replies.specs.declared.Reply.{Reply}
-use Rattle.rules.specs.declared.types.Data.{Data}
-use Rattle.rules.specs.declared.types.Mover.{Mover}
-use Rattle.rules.specs.declared.types.Tape.{Tape}
-use Rattle.rules.specs.Names.{top}
+use Rattle.rules_parts.specs.declared.types.Data.{Data}
+use Rattle.rules_parts.specs.declared.types.Mover.{Mover}
+use Rattle.rules_parts.specs.declared.types.Tape.{Tape}
+use Rattle.rules_parts.specs.Names.{top}
 use Rattle.rules.specs.Judge.{Test, accept, judge, Accepts}
-use Rattle.rules.specs.Parts.{restData, restMover, dataTo, dataStarts, dataHalts, moverListens, moverRuns, moverWindow, moverSize, moverSeeks, moverHalts, dataJoined, moverJoined}
-use Rattle.rules.specs.Parts.{holdsTape, unwritable}
+use Rattle.rules_parts.specs.Parts.{restData, restMover, dataTo, dataStarts, dataHalts, moverListens, moverRuns, moverWindow, moverSize, moverSeeks, moverHalts, dataJoined, moverJoined}
+use Rattle.rules_parts.specs.Parts.{holdsTape, unwritable}
 use Rattle.rules.specs.DataService.{dataState, dataListen, dataStart, dataStop, dataStep}
 use Rattle.rules.specs.MoverService.{moverState, offsetWrong, moverListen, moverContinue, moverStop, busy, elsewhere, setWindow, moverRead, setSize, moverStep}
 use Rattle.rules.specs.TapeService.{Loaded, tapeOpen, tapeClose, tapeState, tapeMtio, tapeWrite, tapeRead, deviceStep, TapePart, withLoaded, withMover, tapeStep, moverPartStep}

@@ -7,10 +7,10 @@ use lib.Dec.{eqb, ltb}
 use borrow.Author.Tests.{eq-eqb, ne-eqb, le-ltb, ltb-false, eqb-true}
 use Rattle.xdr.specs.Choose.{choose}
 use Rattle.xdr.proofs.Tests.{by-test, when, unless, none-of, none, if-not, if-so, is, isnt, yes, eq-not, yes-not}
-use Rattle.rules.specs.declared.types.Mover.{Mover}
-use Rattle.rules.specs.declared.types.Tape.{Tape}
-use Rattle.rules.specs.Names.{top}
-use Rattle.rules.specs.Parts.{holdsTape, unwritable, pastTop}
+use Rattle.rules_parts.specs.declared.types.Mover.{Mover}
+use Rattle.rules_parts.specs.declared.types.Tape.{Tape}
+use Rattle.rules_parts.specs.Names.{top}
+use Rattle.rules_parts.specs.Parts.{holdsTape, unwritable, pastTop}
 use Rattle.rules.specs.Relation.{numbersWrong, windowWrong, startWrong, holdWrong, strays, resumeWrong, placeWrong, originWrong, moverWrong, Legal, Held, InWindow, MoverKept}
 
 pub past-top : (a b : ℕ) → pastTop a b ≡ false → a + b ≤ top

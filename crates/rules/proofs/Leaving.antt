@@ -39,9 +39,9 @@ use Rattle.wire_replies.specs.declared.Notice.the-variants as Notice
 use Rattle.wire_replies.specs.Replies.{numberOf, headerError, replyBytes}
 use Rattle.wire_replies.specs.Numbers.{placeOf, numberIn, bodyIn}
 use Rattle.wire_replies.proofs.Numbers as numbers
-use Rattle.rules.specs.declared.types.Tape.{Tape}
+use Rattle.rules_parts.specs.declared.types.Tape.{Tape}
 use Rattle.rules.specs.Judge.{test, Outcome, refuse, accept, judge, onto, Accepts, Refuses}
-use Rattle.rules.specs.Parts.{withParts, afterMessage, holdsTape}
+use Rattle.rules_parts.specs.Parts.{withParts, afterMessage, holdsTape}
 use Rattle.rules.specs.TapeService.{movedTo, isRefusal, protects, tapeOpen, tapeClose, tapeState, tapeMtio, tapeWrite, tapeRead}
 use Rattle.rules.specs.TapeService.{deviceStep, withLoaded, withMover, tapeStep, moverPartStep}
 use Rattle.rules.specs.Connection.{matches, connectOpen, clientAuth, connectStep, configStep}

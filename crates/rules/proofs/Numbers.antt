@@ -38,11 +38,11 @@ use Rattle.wire_requests.specs.declared.Request.{Request}
 use Rattle.wire_requests.specs.declared.Request.the-variants as Request
 use Rattle.wire_replies.specs.declared.Reply.{Reply}
 use Rattle.wire_replies.specs.Replies.{numberOf}
-use Rattle.rules.specs.declared.types.Data.{Data}
-use Rattle.rules.specs.declared.types.Mover.{Mover}
-use Rattle.rules.specs.declared.types.Tape.{Tape}
-use Rattle.rules.specs.declared.types.Changer.{Changer}
-use Rattle.rules.specs.declared.types.Login.{Login}
+use Rattle.rules_parts.specs.declared.types.Data.{Data}
+use Rattle.rules_parts.specs.declared.types.Mover.{Mover}
+use Rattle.rules_parts.specs.declared.types.Tape.{Tape}
+use Rattle.rules_parts.specs.declared.types.Changer.{Changer}
+use Rattle.rules_parts.specs.declared.types.Login.{Login}
 use Rattle.codes.specs.Codes.{longestRecord, deviceOpened, permissionDenied, notOpen, illegalArguments, badFile, noDevice, illegalState}
 use Rattle.rules.specs.Judge.{test, refuse, accept, judge, Accepts, Refuses}
 use Rattle.rules.specs.DataService.{dataState, dataListen, dataStart, dataStop, dataStep}

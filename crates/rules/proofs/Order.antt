@@ -19,13 +19,13 @@ use Rattle.wire_requests.specs.declared.Request.{Request}
 use Rattle.wire_requests.specs.declared.Request.the-variants as Request
 use Rattle.wire_replies.specs.declared.Reply.{Reply}
 use Rattle.wire_replies.specs.Replies.{replyBytes}
-use Rattle.rules.specs.declared.types.Data.{Data}
-use Rattle.rules.specs.declared.types.Changer.{Changer}
-use Rattle.rules.specs.declared.types.Login.{Login}
-use Rattle.rules.specs.declared.types.Session.{Session}
-use Rattle.rules.specs.Names.{leastRoom}
+use Rattle.rules_parts.specs.declared.types.Data.{Data}
+use Rattle.rules_parts.specs.declared.types.Changer.{Changer}
+use Rattle.rules_parts.specs.declared.types.Login.{Login}
+use Rattle.rules_parts.specs.declared.types.Session.{Session}
+use Rattle.rules_parts.specs.Names.{leastRoom}
 use Rattle.rules.specs.Judge.{test, Outcome, refuse, accept, judge, onto}
-use Rattle.rules.specs.Parts.{restData, restMover, closedTape, closedChanger}
+use Rattle.rules_parts.specs.Parts.{restData, restMover, closedTape, closedChanger}
 use Rattle.rules.specs.TapeService.{TapePart}
 use Rattle.rules.specs.Relation.{keeps}
 use Rattle.rules.specs.Answer.{Kept, Lent, Answered, guarded, answered, requested, judged, isClose, settled, verdict, isLocked, outcome, noticed, silent, tapePart, withData}

@@ -25,11 +25,11 @@ use Rattle.wire_requests.specs.declared.JointRequest.{JointRequest}
 use Rattle.wire_requests.specs.declared.JointRequest.the-variants as JointRequest
 use Rattle.wire_replies.specs.declared.Reply.{Reply}
 use Rattle.wire_replies.specs.Fit.{Sendable}
-use Rattle.rules.specs.declared.types.Data.{Data}
-use Rattle.rules.specs.declared.types.Mover.{Mover}
-use Rattle.rules.specs.declared.types.Tape.{Tape}
-use Rattle.rules.specs.declared.types.Changer.{Changer}
-use Rattle.rules.specs.declared.types.Login.{Login}
+use Rattle.rules_parts.specs.declared.types.Data.{Data}
+use Rattle.rules_parts.specs.declared.types.Mover.{Mover}
+use Rattle.rules_parts.specs.declared.types.Tape.{Tape}
+use Rattle.rules_parts.specs.declared.types.Changer.{Changer}
+use Rattle.rules_parts.specs.declared.types.Login.{Login}
 use Rattle.rules.specs.Judge.{Accepts}
 use Rattle.rules.specs.DataService.{dataState, dataListen, dataStart, dataStop, dataStep}
 use Rattle.rules.specs.MoverService.{moverState, moverListen, moverContinue, moverStop, setWindow, moverRead, setSize, moverStep}

@@ -1,12 +1,12 @@
 -- The rules of windows, and what holds of every request. Assumes nothing.
 use Prim.Native.Nat.{ℕ}
 use mathlib.Core.Path.{_≡_, refl}
-use Rattle.rules.specs.declared.types.Data.{Data}
-use Rattle.rules.specs.declared.types.Mover.{Mover}
-use Rattle.rules.specs.declared.types.Tape.{Tape}
+use Rattle.rules_parts.specs.declared.types.Data.{Data}
+use Rattle.rules_parts.specs.declared.types.Mover.{Mover}
+use Rattle.rules_parts.specs.declared.types.Tape.{Tape}
 use Rattle.rules.specs.declared.Ends.{Ends}
 use Rattle.rules.specs.Judge.{Accepts}
-use Rattle.rules.specs.Parts.{restMover, moverRuns, moverSize, moverSeeks}
+use Rattle.rules_parts.specs.Parts.{restMover, moverRuns, moverSize, moverSeeks}
 use Rattle.rules.specs.MoverService.{moverContinue, moverStop, moverRead, setSize}
 use Rattle.rules.specs.Joint.{joined, dataConnect, moverConnect}
 use Rattle.rules.specs.Promises.{Stopped, Promises}

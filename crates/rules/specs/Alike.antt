@@ -10,7 +10,7 @@ use Rattle.tape_spacing.specs.Spacing.{goesForward}
 use Rattle.tape_spacing.specs.Alike.{AgreeInKind}
 use Rattle.wire_requests.specs.declared.TapeRequest.the-variants as TapeRequest
 use Rattle.wire_requests.specs.declared.Request.the-variants as Request
-use Rattle.rules.specs.declared.types.Session.{Session}
+use Rattle.rules_parts.specs.declared.types.Session.{Session}
 use Rattle.rules.specs.Answer.{Lent, held, Answered, answered, requestIn}
 
 -- the same is told and the same session is passed on; each cartridge is as it was

@@ -20,13 +20,13 @@ use Rattle.wire_replies.specs.declared.Reply.the-variants as Reply
 use Rattle.wire_replies.specs.declared.Notice.{Notice}
 use Rattle.wire_replies.specs.declared.Notice.the-variants as Notice
 use Rattle.wire_replies.specs.Replies.{replyBytes, noticeBytes}
-use Rattle.rules.specs.declared.types.Data.{Data}
-use Rattle.rules.specs.declared.types.Changer.{Changer}
-use Rattle.rules.specs.declared.types.Login.{Login}
-use Rattle.rules.specs.declared.types.Session.{Session}
-use Rattle.rules.specs.Names.{leastRoom}
+use Rattle.rules_parts.specs.declared.types.Data.{Data}
+use Rattle.rules_parts.specs.declared.types.Changer.{Changer}
+use Rattle.rules_parts.specs.declared.types.Login.{Login}
+use Rattle.rules_parts.specs.declared.types.Session.{Session}
+use Rattle.rules_parts.specs.Names.{leastRoom}
 use Rattle.rules.specs.Judge.{test, Outcome, refuse, accept, judge, onto}
-use Rattle.rules.specs.Parts.{withParts, afterMessage, shut}
+use Rattle.rules_parts.specs.Parts.{withParts, afterMessage, shut}
 use Rattle.rules.specs.DataService.{dataStep}
 use Rattle.rules.specs.TapeService.{TapePart, tapeStep, moverPartStep}
 use Rattle.rules.specs.ScsiService.{scsiStep}

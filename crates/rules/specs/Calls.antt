@@ -19,10 +19,10 @@ use Rattle.wire_layouts.specs.declared.Text.{Text}
 use Rattle.wire_replies.specs.declared.Reply.the-variants as Reply
 use Rattle.wire_replies.specs.declared.Notice.the-variants as Notice
 use Rattle.wire_replies.specs.Replies.{numberOf, noticeBytes}
-use Rattle.rules.specs.declared.types.Session.{Session}
-use Rattle.rules.specs.Names.{leastRoom}
+use Rattle.rules_parts.specs.declared.types.Session.{Session}
+use Rattle.rules_parts.specs.Names.{leastRoom}
 use Rattle.rules.specs.Judge.{refuse, Accepts, Refuses}
-use Rattle.rules.specs.Parts.{newSession}
+use Rattle.rules_parts.specs.Parts.{newSession}
 use Rattle.rules.specs.TapeService.{isRefusal}
 use Rattle.rules.specs.Connection.{matches}
 use Rattle.rules.specs.Relation.{keeps}

@@ -13,7 +13,7 @@ use Rattle.wire_requests.specs.declared.ConnectRequest.the-variants.{Open, Auth
 use Rattle.wire_requests.specs.declared.ConfigRequest.{ConfigRequest}
 use Rattle.wire_requests.specs.declared.ConfigRequest.the-variants.{ConnectionType, ServerInfo}
 use Rattle.wire_replies.specs.declared.Reply.the-variants as Reply
-use Rattle.rules.specs.declared.types.Login.{Login}
+use Rattle.rules_parts.specs.declared.types.Login.{Login}
 use Rattle.rules.specs.Judge.{test, Outcome, refuse, accept, judge}
 
 -- an account

@@ -10,10 +10,10 @@ use Rattle.wire_requests.specs.declared.DataRequest.{DataRequest}
 use Rattle.wire_requests.specs.declared.DataRequest.the-variants.{State, Backup, Recover, Stop, Listen}
 use Rattle.wire_replies.specs.declared.DataView.{DataView}
 use Rattle.wire_replies.specs.declared.Reply.the-variants.{Plain, Listening, DataState}
-use Rattle.rules.specs.declared.types.Data.{Data}
-use Rattle.rules.specs.Names.{dataIdle, dataHalted, dataListening, dataConnected, backupOperation, recoverOperation}
+use Rattle.rules_parts.specs.declared.types.Data.{Data}
+use Rattle.rules_parts.specs.Names.{dataIdle, dataHalted, dataListening, dataConnected, backupOperation, recoverOperation}
 use Rattle.rules.specs.Judge.{test, Outcome, accept, judge}
-use Rattle.rules.specs.Parts.{restData, dataTo, dataStarts, toldIn}
+use Rattle.rules_parts.specs.Parts.{restData, dataTo, dataStarts, toldIn}
 
 -- the method's name, `dump`
 unfoldable pub dump : List ℕ

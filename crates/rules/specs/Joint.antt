@@ -8,13 +8,13 @@ use Rattle.xdr.specs.Choose.{choose}
 use Rattle.wire_requests.specs.declared.JointRequest.{JointRequest}
 use Rattle.wire_requests.specs.declared.JointRequest.the-variants.{DataAbort, DataConnect, MoverAbort, MoverClose, MoverConnect}
 use Rattle.wire_replies.specs.declared.Reply.the-variants.{Plain}
-use Rattle.rules.specs.declared.types.Data.{Data}
-use Rattle.rules.specs.declared.types.Mover.{Mover}
-use Rattle.rules.specs.declared.types.Tape.{Tape}
+use Rattle.rules_parts.specs.declared.types.Data.{Data}
+use Rattle.rules_parts.specs.declared.types.Mover.{Mover}
+use Rattle.rules_parts.specs.declared.types.Tape.{Tape}
 use Rattle.rules.specs.declared.Ends.{Ends}
-use Rattle.rules.specs.Names.{dataIdle, dataHalted, dataListening, dataConnected, moverIdle, moverListening, moverPaused, moverHalted, dataAbortedReason, dataConnectError, moverConnectClosed, moverAbortedReason}
+use Rattle.rules_parts.specs.Names.{dataIdle, dataHalted, dataListening, dataConnected, moverIdle, moverListening, moverPaused, moverHalted, dataAbortedReason, dataConnectError, moverConnectClosed, moverAbortedReason}
 use Rattle.rules.specs.Judge.{test, Outcome, accept, judge}
-use Rattle.rules.specs.Parts.{dataTo, dataHalts, moverRuns, moverHalts, dataJoined, moverJoined}
+use Rattle.rules_parts.specs.Parts.{dataTo, dataHalts, moverRuns, moverHalts, dataJoined, moverJoined}
 use Rattle.rules.specs.MoverService.{joinTests}
 
 -- both ends joined at a position of the tape; neither halts. "data becomes CONNECTED, mover ACTIVE"

@@ -24,8 +24,8 @@ use Rattle.wire_requests.specs.declared.Request.the-variants as Request
 use Rattle.wire_replies.specs.declared.Reply.{Reply}
 use Rattle.wire_replies.specs.Replies.{numberOf, headerError, replyBytes}
 use Rattle.wire_replies.specs.Numbers.{placeOf, numberIn, bodyIn, bare}
-use Rattle.rules.specs.declared.types.Session.{Session}
-use Rattle.rules.specs.Names.{moverListening, moverActive}
+use Rattle.rules_parts.specs.declared.types.Session.{Session}
+use Rattle.rules_parts.specs.Names.{moverListening, moverActive}
 use Rattle.rules.specs.Connection.{matches}
 use Rattle.rules.specs.Answer.{Kept, Lent, Answered, answered, requestIn}
 use Rattle.rules.specs.Order.{Call, run}

@@ -1,6 +1,4 @@
-pub mod Names
 pub mod Judge
-pub mod Parts
 pub mod DataService
 pub mod MoverService
 pub mod TapeService

@@ -9,11 +9,11 @@ use Rattle.wire_requests.specs.declared.MoverRequest.{MoverRequest}
 use Rattle.wire_requests.specs.declared.MoverRequest.the-variants.{State, Listen, Continue, Stop, Window, Read, Size}
 use Rattle.wire_replies.specs.declared.MoverView.{MoverView}
 use Rattle.wire_replies.specs.declared.Reply.the-variants.{Plain, Listening, MoverState}
-use Rattle.rules.specs.declared.types.Mover.{Mover}
-use Rattle.rules.specs.declared.types.Tape.{Tape}
-use Rattle.rules.specs.Names.{moverIdle, moverActive, moverPaused, moverHalted, toTapeMode, fromTapeMode, largestSize}
+use Rattle.rules_parts.specs.declared.types.Mover.{Mover}
+use Rattle.rules_parts.specs.declared.types.Tape.{Tape}
+use Rattle.rules_parts.specs.Names.{moverIdle, moverActive, moverPaused, moverHalted, toTapeMode, fromTapeMode, largestSize}
 use Rattle.rules.specs.Judge.{Test, test, Outcome, accept, judge}
-use Rattle.rules.specs.Parts.{restMover, moverListens, moverRuns, moverWindow, moverSize, moverSeeks, unwritable, pastTop, toldIn}
+use Rattle.rules_parts.specs.Parts.{restMover, moverListens, moverRuns, moverWindow, moverSize, moverSeeks, unwritable, pastTop, toldIn}
 
 -- "record number is bytes moved divided by record size (0 if unset), modulo 2^32"
 unfoldable pub recordNumber : ℕ → ℕ → ℕ

@@ -13,7 +13,7 @@ use Rattle.wire_frame.specs.Frame.{wellFramed, kindOf, messageWord}
 use Rattle.wire_frame.specs.Messages.{messageOf}
 use Rattle.wire_frame.specs.declared.Message.{Message}
 use Rattle.wire_frame.specs.declared.Message.the-variants as Message
-use Rattle.rules.specs.Names.{leastRoom}
+use Rattle.rules_parts.specs.Names.{leastRoom}
 use Rattle.rules.specs.Relation.{keeps}
 use Rattle.rules.specs.Answer.{Kept, Lent, Answered, answered}
 

@@ -7,12 +7,12 @@ use Rattle.wire_requests.specs.declared.DataRequest.{DataRequest}
 use Rattle.wire_requests.specs.declared.MoverRequest.{MoverRequest}
 use Rattle.wire_requests.specs.declared.TapeRequest.{TapeRequest}
 use Rattle.wire_requests.specs.declared.JointRequest.{JointRequest}
-use Rattle.rules.specs.declared.types.Data.{Data}
-use Rattle.rules.specs.declared.types.Mover.{Mover}
-use Rattle.rules.specs.declared.types.Tape.{Tape}
-use Rattle.rules.specs.Names.{moverIdle, noMode}
+use Rattle.rules_parts.specs.declared.types.Data.{Data}
+use Rattle.rules_parts.specs.declared.types.Mover.{Mover}
+use Rattle.rules_parts.specs.declared.types.Tape.{Tape}
+use Rattle.rules_parts.specs.Names.{moverIdle, noMode}
 use Rattle.rules.specs.Judge.{Accepts}
-use Rattle.rules.specs.Parts.{dataJoined, moverJoined, moverPauses, moverHands}
+use Rattle.rules_parts.specs.Parts.{dataJoined, moverJoined, moverPauses, moverHands}
 use Rattle.rules.specs.DataService.{dataStep}
 use Rattle.rules.specs.MoverService.{moverContinue, moverStop, moverRead, setSize}
 use Rattle.rules.specs.TapeService.{TapePart, tapeStep, moverPartStep}

@@ -4,12 +4,12 @@ use mathlib.Core.Bool.{Bool, true, false, not}
 use mathlib.Core.Path.{_≡_}
 use lib.Dec.{eqb, ltb}
 use Rattle.xdr.specs.Choose.{choose}
-use Rattle.rules.specs.declared.types.Data.{Data}
-use Rattle.rules.specs.declared.types.Mover.{Mover}
-use Rattle.rules.specs.declared.types.Tape.{Tape}
-use Rattle.rules.specs.declared.types.Session.{Session}
-use Rattle.rules.specs.Names.{dataConnected, moverListening, moverActive, moverPaused, moverHalted, toTapeMode, largestSize, top}
-use Rattle.rules.specs.Parts.{dataJoined, moverJoined, holdsTape, unwritable, pastTop, windowEnd}
+use Rattle.rules_parts.specs.declared.types.Data.{Data}
+use Rattle.rules_parts.specs.declared.types.Mover.{Mover}
+use Rattle.rules_parts.specs.declared.types.Tape.{Tape}
+use Rattle.rules_parts.specs.declared.types.Session.{Session}
+use Rattle.rules_parts.specs.Names.{dataConnected, moverListening, moverActive, moverPaused, moverHalted, toTapeMode, largestSize, top}
+use Rattle.rules_parts.specs.Parts.{dataJoined, moverJoined, holdsTape, unwritable, pastTop, windowEnd}
 
 -- ---- each is true where something is wrong
 unfoldable pub dataWrong : Data → Bool

@@ -11,8 +11,8 @@ use Rattle.wire_requests.specs.Within.{bytesAt}
 use Rattle.wire_requests.specs.declared.ScsiRequest.{ScsiRequest}
 use Rattle.wire_requests.specs.declared.ScsiRequest.the-variants.{Open, Close, State, Reset, Cdb}
 use Rattle.wire_replies.specs.declared.Reply.the-variants as Reply
-use Rattle.rules.specs.declared.types.Changer.{Changer}
-use Rattle.rules.specs.Names.{longestCdb}
+use Rattle.rules_parts.specs.declared.types.Changer.{Changer}
+use Rattle.rules_parts.specs.Names.{longestCdb}
 use Rattle.rules.specs.Judge.{test, Outcome, accept, judge}
 
 -- the device's name, `changer0`

@@ -13,11 +13,11 @@ use Rattle.wire_requests.specs.declared.TapeRequest.{TapeRequest}
 use Rattle.wire_requests.specs.declared.TapeRequest.the-variants.{Open, Close, State, Mtio, Write, Read}
 use Rattle.wire_requests.specs.declared.MoverRequest.{MoverRequest}
 use Rattle.wire_replies.specs.declared.Reply.the-variants as Reply
-use Rattle.rules.specs.declared.types.Mover.{Mover}
-use Rattle.rules.specs.declared.types.Tape.{Tape}
-use Rattle.rules.specs.Names.{readWrite}
+use Rattle.rules_parts.specs.declared.types.Mover.{Mover}
+use Rattle.rules_parts.specs.declared.types.Tape.{Tape}
+use Rattle.rules_parts.specs.Names.{readWrite}
 use Rattle.rules.specs.Judge.{Test, test, Outcome, accept, judge, onto}
-use Rattle.rules.specs.Parts.{closedTape, holdsTape}
+use Rattle.rules_parts.specs.Parts.{closedTape, holdsTape}
 use Rattle.rules.specs.MoverService.{moverStep}
 
 -- a tape and the cartridge in it

@@ -18,13 +18,13 @@ use Rattle.wire_requests.specs.declared.JointRequest.the-variants as JointReque
 use Rattle.wire_requests.specs.declared.Request.{Request}
 use Rattle.wire_requests.specs.declared.Request.the-variants as Request
 use Rattle.wire_replies.specs.declared.Reply.{Reply}
-use Rattle.rules.specs.declared.types.Data.{Data}
-use Rattle.rules.specs.declared.types.Mover.{Mover}
-use Rattle.rules.specs.declared.types.Tape.{Tape}
-use Rattle.rules.specs.declared.types.Session.{Session}
+use Rattle.rules_parts.specs.declared.types.Data.{Data}
+use Rattle.rules_parts.specs.declared.types.Mover.{Mover}
+use Rattle.rules_parts.specs.declared.types.Tape.{Tape}
+use Rattle.rules_parts.specs.declared.types.Session.{Session}
 use Rattle.rules.specs.declared.Ends.{Ends}
 use Rattle.rules.specs.Judge.{Outcome, onto, Accepts}
-use Rattle.rules.specs.Parts.{moverListens, moverRuns, moverPauses, moverHalts, moverWindow, moverSeeks, dataJoined, moverJoined, windowEnd}
+use Rattle.rules_parts.specs.Parts.{moverListens, moverRuns, moverPauses, moverHalts, moverWindow, moverSeeks, dataJoined, moverJoined, windowEnd}
 use Rattle.rules.specs.MoverService.{moverState, moverListen, moverContinue, moverStop, busy, setWindow, moverRead, setSize, moverStep}
 use Rattle.rules.specs.TapeService.{withLoaded, withMover, moverPartStep, tapeStep}
 use Rattle.rules.specs.Joint.{dataConnect, moverConnect, dataAborted, dataAbort, moverAborted, moverAbort, moverClose, jointStep}

@@ -17,9 +17,9 @@ use Rattle.tape_ops.specs.Step.{Step}
 use Rattle.wire_requests.specs.declared.Request.{Request}
 use Rattle.wire_requests.specs.declared.Request.the-variants as Request
 use Rattle.wire_replies.specs.declared.Reply.{Reply}
-use Rattle.rules.specs.declared.types.Data.{Data}
-use Rattle.rules.specs.declared.types.Mover.{Mover}
-use Rattle.rules.specs.declared.types.Tape.{Tape}
+use Rattle.rules_parts.specs.declared.types.Data.{Data}
+use Rattle.rules_parts.specs.declared.types.Mover.{Mover}
+use Rattle.rules_parts.specs.declared.types.Tape.{Tape}
 use Rattle.rules.specs.Judge.{Outcome, onto, Accepts}
 use Rattle.rules.specs.TapeService.{withMover, moverPartStep}
 use Rattle.rules.specs.Relation.{keeps, MoverKept}

@@ -21,7 +21,7 @@ use Rattle.rules.specs.DataService.{dump, dataStart, dataStop, dataStep}
 use Rattle.rules.specs.Joint.{dataConnect, jointStep}
 use Rattle.rules.specs.Judge.{judge, onto, isAccepted}
 use Rattle.rules.specs.MoverService.{offsetWrong, moverListen, moverContinue, moverStop, moverRead, busy, elsewhere, setWindow, setSize, moverStep}
-use Rattle.rules.specs.Parts.{windowEnd, pastTop, dataJoined, moverJoined, holdsTape, unwritable}
+use Rattle.rules_parts.specs.Parts.{windowEnd, pastTop, dataJoined, moverJoined, holdsTape, unwritable}
 use Rattle.rules.specs.Relation.{dataWrong, numbersWrong, windowWrong, startWrong, holdWrong, strays, resumeWrong, placeWrong, originWrong, moverWrong, sameFlag, keeps}
 use Rattle.rules.specs.TapeService.{tape0, tapeOpen, isRefusal, protects, tapeMtio, tapeWrite, deviceStep, tapeStep, moverPartStep}
 use Rattle.rules_moves.specs.Events.{movedToTape, movedFromTape}

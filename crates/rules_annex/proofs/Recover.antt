@@ -13,10 +13,10 @@ use Rattle.xdr.specs.Choose.{choose, least}
 use Rattle.xdr.specs.Xdr.{overlay}
 use Rattle.xdr.proofs.Tests.{by-test, none-of, isnt, yes, least-left, least-right, least-some}
 use Rattle.tape_image.specs.Image.{count, entryLen, entryBytes, faulty}
-use Rattle.rules.specs.declared.types.Data.{Data}
-use Rattle.rules.specs.declared.types.Mover.{Mover}
-use Rattle.rules.specs.declared.types.Tape.{Tape}
-use Rattle.rules.specs.Parts.{moverHands}
+use Rattle.rules_parts.specs.declared.types.Data.{Data}
+use Rattle.rules_parts.specs.declared.types.Mover.{Mover}
+use Rattle.rules_parts.specs.declared.types.Tape.{Tape}
+use Rattle.rules_parts.specs.Parts.{moverHands}
 use Rattle.rules.specs.Relation.{keeps, MoverKept, Legal}
 use Rattle.rules.specs.Answer.{Kept, Lent, Answered}
 use Rattle.rules.proofs.Kept.{mover-kept}

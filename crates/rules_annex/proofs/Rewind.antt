@@ -13,7 +13,7 @@ use Rattle.wire_requests.specs.declared.TapeRequest.the-variants as TapeRequest
 use Rattle.wire_requests.specs.declared.Request.{Request}
 use Rattle.wire_requests.specs.declared.Request.the-variants as Request
 use Rattle.wire_replies.specs.declared.Reply.{Reply}
-use Rattle.rules.specs.declared.types.Tape.{Tape}
+use Rattle.rules_parts.specs.declared.types.Tape.{Tape}
 use Rattle.rules.specs.Judge.{isAccepted, Accepts}
 use Rattle.rules.specs.TapeService.{Loaded, isRefusal, tapeMtio, deviceStep, withLoaded, tapeStep}
 use Rattle.rules.specs.Answer.{Kept, Lent, answered, isClose, verdict, outcome, requestIn, Done, tapePart, withTape}

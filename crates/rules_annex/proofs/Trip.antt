@@ -8,8 +8,8 @@ use native.Mathlib.Nat.{zero-mul}
 use Rattle.tape_image.specs.Image.{count, faulty}
 use Rattle.tape_image.specs.Sound.{Placed}
 use Rattle.tape_image.proofs.Laws.{placed}
-use Rattle.rules.specs.declared.types.Mover.{Mover}
-use Rattle.rules.specs.Parts.{restMover, moverWindow, windowEnd}
+use Rattle.rules_parts.specs.declared.types.Mover.{Mover}
+use Rattle.rules_parts.specs.Parts.{restMover, moverWindow, windowEnd}
 use Rattle.rules.specs.Relation.{keeps}
 use Rattle.rules.specs.Answer.{Kept}
 use Rattle.rules.specs.Order.{Call}

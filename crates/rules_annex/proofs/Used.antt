@@ -22,7 +22,7 @@ use Rattle.wire_requests.specs.declared.MoverRequest.{MoverRequest}
 use Rattle.wire_requests.specs.declared.MoverRequest.the-variants as MoverRequest
 use Rattle.wire_requests.specs.declared.Request.{Request}
 use Rattle.wire_requests.specs.declared.Request.the-variants as Request
-use Rattle.rules.specs.declared.types.Mover.{Mover}
+use Rattle.rules_parts.specs.declared.types.Mover.{Mover}
 use Rattle.rules.specs.Answer.{Kept, requestIn}
 use Rattle.rules.specs.Order.{Call}
 use Rattle.rules_moves.specs.Sequence.{Event, Asked, ToTape, FromTape, Ended, Inserted, Renumbered, step, runs, Seen, Wrote, moverAsked, dataAsked, jointAsked, asked, moveShown, seen}

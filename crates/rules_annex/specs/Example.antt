@@ -10,7 +10,7 @@ use Rattle.xdr.specs.Xdr.{be32s, be64}
 use Rattle.xdr_opaque.specs.Put.{opaque}
 use Rattle.tape_image.specs.Image.{count, used}
 use Rattle.wire_frame.specs.Frame.{recordBytes}
-use Rattle.rules.specs.Names.{toTapeMode, fromTapeMode, readWrite}
+use Rattle.rules_parts.specs.Names.{toTapeMode, fromTapeMode, readWrite}
 use Rattle.rules.specs.Answer.{Kept, held}
 use Rattle.rules.specs.Order.{Call}
 use Rattle.rules.specs.Calls.{openedSession}

@@ -13,7 +13,7 @@ use Rattle.wire_requests.specs.declared.TapeRequest.the-variants as TapeRequest
 use Rattle.wire_requests.specs.declared.Request.{Request}
 use Rattle.wire_requests.specs.declared.Request.the-variants as Request
 use Rattle.rules.specs.Judge.{isAccepted}
-use Rattle.rules.specs.Parts.{restMover, moverWindow, windowEnd}
+use Rattle.rules_parts.specs.Parts.{restMover, moverWindow, windowEnd}
 use Rattle.rules.specs.Relation.{keeps}
 use Rattle.rules.specs.Answer.{Kept, verdict, requestIn}
 use Rattle.rules.specs.Order.{Call}

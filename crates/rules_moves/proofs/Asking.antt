@@ -18,14 +18,14 @@ use Rattle.wire_requests.specs.declared.Request.the-variants as Request
 use Rattle.wire_replies.specs.declared.Reply.{Reply}
 use Rattle.wire_replies.specs.declared.Reply.the-variants as Reply
 use Rattle.wire_replies.specs.declared.Notice.the-variants as Notice
-use Rattle.rules.specs.declared.types.Data.{Data}
-use Rattle.rules.specs.declared.types.Mover.{Mover}
-use Rattle.rules.specs.declared.types.Tape.{Tape}
-use Rattle.rules.specs.declared.types.Session.{Session}
+use Rattle.rules_parts.specs.declared.types.Data.{Data}
+use Rattle.rules_parts.specs.declared.types.Mover.{Mover}
+use Rattle.rules_parts.specs.declared.types.Tape.{Tape}
+use Rattle.rules_parts.specs.declared.types.Session.{Session}
 use Rattle.rules.specs.declared.Ends.{Ends}
-use Rattle.rules.specs.Names.{leastRoom}
+use Rattle.rules_parts.specs.Names.{leastRoom}
 use Rattle.rules.specs.Judge.{Outcome, refuse, accept, onto, isAccepted, Accepts}
-use Rattle.rules.specs.Parts.{dataJoined, moverJoined, afterMessage, shut}
+use Rattle.rules_parts.specs.Parts.{dataJoined, moverJoined, afterMessage, shut}
 use Rattle.rules.specs.DataService.{dataState, dataListen, dataStart, dataStop, dataStep}
 use Rattle.rules.specs.MoverService.{moverState, moverListen, moverContinue, moverStop, setWindow, moverRead, setSize, moverStep}
 use Rattle.rules.specs.TapeService.{withLoaded, withMover, moverPartStep, tapeStep}

@@ -23,7 +23,7 @@ use Rattle.rules.specs.Joint.{dataConnect, moverConnect, atRest, moverAborted, 
 use Rattle.rules.specs.Judge.{judge, onto}
 use Rattle.rules.specs.MoverService.{recordNumber, moverState, offsetWrong, moverListen, moverContinue, moverStop, busy, elsewhere}
 use Rattle.rules.specs.MoverService.{setWindow, moverRead, setSize, moverStep}
-use Rattle.rules.specs.Parts.{pastTop, toldIn, dataJoined, moverJoined, holdsTape, unwritable}
+use Rattle.rules_parts.specs.Parts.{pastTop, toldIn, dataJoined, moverJoined, holdsTape, unwritable}
 use Rattle.rules.specs.Relation.{dataWrong, numbersWrong, windowWrong, startWrong, holdWrong, strays, resumeWrong, placeWrong}
 use Rattle.rules.specs.Relation.{originWrong, moverWrong, sameFlag, keeps}
 use Rattle.rules.specs.TapeService.{tape0, tapeOpen, isRefusal, protects, tapeState, tapeMtio, deviceStep, tapeStep, moverPartStep}

@@ -10,8 +10,8 @@ use borrow.Author.Tests.{ne-eqb}
 use Rattle.xdr.specs.Choose.{choose}
 use Rattle.xdr.proofs.Tests.{by-test}
 use Rattle.xdr_opaque.specs.Put.{Each}
-use Rattle.rules.specs.declared.types.Mover.{Mover}
-use Rattle.rules.specs.Parts.{wrapped}
+use Rattle.rules_parts.specs.declared.types.Mover.{Mover}
+use Rattle.rules_parts.specs.Parts.{wrapped}
 use Rattle.rules.specs.MoverService.{recordNumber}
 use Rattle.rules.specs.Relation.{keeps}
 use Rattle.rules.specs.Answer.{Kept}

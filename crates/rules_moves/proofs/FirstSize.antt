@@ -30,12 +30,12 @@ use Rattle.wire_replies.specs.declared.Notice.the-variants as Notice
 use Rattle.wire_replies.specs.Replies.{numberOf, replyBytes}
 use Rattle.wire_replies.specs.Numbers.{placeOf, numberIn}
 use Rattle.wire_replies.proofs.Numbers as numbers
-use Rattle.rules.specs.declared.types.Mover.{Mover}
-use Rattle.rules.specs.declared.types.Tape.{Tape}
-use Rattle.rules.specs.declared.types.Session.{Session}
+use Rattle.rules_parts.specs.declared.types.Mover.{Mover}
+use Rattle.rules_parts.specs.declared.types.Tape.{Tape}
+use Rattle.rules_parts.specs.declared.types.Session.{Session}
 use Rattle.rules.specs.Judge.{Test, test, Outcome, refuse, accept, judge, onto, isAccepted, Accepts, Refuses}
 use Rattle.codes.specs.Codes.{otherNotListening}
-use Rattle.rules.specs.Names.{dataListening}
+use Rattle.rules_parts.specs.Names.{dataListening}
 use Rattle.rules.specs.MoverService.{offsetWrong, joinTests, moverListen, moverContinue, busy, setWindow, setSize, moverStep}
 use Rattle.rules.specs.Joint.{moverConnect, jointStep}
 use Rattle.rules.specs.TapeService.{withMover, moverPartStep}

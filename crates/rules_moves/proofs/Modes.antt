@@ -6,7 +6,7 @@ use mathlib.Core.Path.{_≡_, refl}
 use lib.Dec.{eqb}
 use Rattle.xdr.specs.Choose.{choose}
 use Rattle.xdr.proofs.Tests.{by-test, ne-not}
-use Rattle.rules.specs.Names.{moverActive, toTapeMode, fromTapeMode, backupOperation, recoverOperation}
+use Rattle.rules_parts.specs.Names.{moverActive, toTapeMode, fromTapeMode, backupOperation, recoverOperation}
 use Rattle.rules.specs.Answer.{Kept, Lent, noticed}
 use Rattle.rules.proofs.Keeping.{clash}
 use Rattle.rules.proofs.Guarding.{by-guard, Goes}

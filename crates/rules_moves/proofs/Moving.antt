@@ -16,10 +16,10 @@ use Rattle.tape_writing.specs.Writing.{roomFor, fillTo}
 use Rattle.tape_writing.proofs.Laws.{length-fill, room-facts}
 use Rattle.tape_writing.proofs.Theorems.{written-sound}
 use Rattle.tape_ops.specs.Step.{Step, keeping}
-use Rattle.rules.specs.declared.types.Data.{Data}
-use Rattle.rules.specs.declared.types.Mover.{Mover}
-use Rattle.rules.specs.declared.types.Tape.{Tape}
-use Rattle.rules.specs.Parts.{wrapped, moverPauses, moverHalts, moverRecords, moverHands, dataJoined, moverJoined, holdsTape}
+use Rattle.rules_parts.specs.declared.types.Data.{Data}
+use Rattle.rules_parts.specs.declared.types.Mover.{Mover}
+use Rattle.rules_parts.specs.declared.types.Tape.{Tape}
+use Rattle.rules_parts.specs.Parts.{wrapped, moverPauses, moverHalts, moverRecords, moverHands, dataJoined, moverJoined, holdsTape}
 use Rattle.rules.specs.TapeService.{movedTo}
 use Rattle.rules.specs.Relation.{dataWrong, moverWrong, sameFlag, Legal, Held, InWindow, MoverKept}
 use Rattle.rules.proofs.Kept.{mover-kept, kept-mover}

@@ -11,8 +11,8 @@ use Rattle.xdr_opaque.specs.Put.{Each}
 use Rattle.tape_image.specs.Image.{isSound}
 use Rattle.tape_ops.specs.Step.{Step}
 use Rattle.wire_replies.specs.declared.Notice.{Notice}
-use Rattle.rules.specs.declared.types.Session.{Session}
-use Rattle.rules.specs.Names.{leastRoom}
+use Rattle.rules_parts.specs.declared.types.Session.{Session}
+use Rattle.rules_parts.specs.Names.{leastRoom}
 use Rattle.rules.specs.Relation.{keeps}
 use Rattle.rules.specs.Answer.{Kept, Lent, Answered, guarded, noticed, silent}
 use Rattle.rules.specs.Calls.{Unmoved}

@@ -3,7 +3,7 @@ use Prim.Native.Nat.{ℕ}
 use mathlib.Core.Bool.{Bool}
 use mathlib.Core.List.{List, []}
 use Rattle.wire_replies.specs.declared.Notice.the-variants as Notice
-use Rattle.rules.specs.Parts.{withParts}
+use Rattle.rules_parts.specs.Parts.{withParts}
 use Rattle.rules.specs.Answer.{Kept, Lent, held, Answered, silent, guarded, halting, noticed}
 use Rattle.rules_moves.specs.declared.Move.{Move}
 use Rattle.rules_moves.specs.Moves.{toTape, fromTape, methodEnd}

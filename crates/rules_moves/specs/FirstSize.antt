@@ -12,10 +12,10 @@ use Rattle.wire_requests.specs.declared.JointRequest.the-variants as JointReque
 use Rattle.wire_requests.specs.declared.Request.{Request}
 use Rattle.wire_requests.specs.declared.Request.the-variants as Request
 use Rattle.wire_replies.specs.Numbers.{numberIn}
-use Rattle.rules.specs.declared.types.Mover.{Mover}
-use Rattle.rules.specs.declared.types.Session.{Session}
-use Rattle.rules.specs.Names.{moverIdle, toTapeMode, largestSize}
-use Rattle.rules.specs.Parts.{withParts, moverSize, unwritable}
+use Rattle.rules_parts.specs.declared.types.Mover.{Mover}
+use Rattle.rules_parts.specs.declared.types.Session.{Session}
+use Rattle.rules_parts.specs.Names.{moverIdle, toTapeMode, largestSize}
+use Rattle.rules_parts.specs.Parts.{withParts, moverSize, unwritable}
 use Rattle.rules.specs.MoverService.{busy}
 use Rattle.rules.specs.Relation.{keeps}
 use Rattle.rules.specs.Answer.{Kept, Lent, held, Answered, answered, replying, requestIn, refusedIn}

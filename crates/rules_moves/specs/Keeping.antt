@@ -8,7 +8,7 @@ use Rattle.codes.specs.Codes.{shortOutput, brokenSession}
 use Rattle.xdr.specs.Choose.{choose}
 use Rattle.xdr_opaque.specs.Put.{Each}
 use Rattle.tape_image.specs.Image.{isSound}
-use Rattle.rules.specs.Names.{leastRoom}
+use Rattle.rules_parts.specs.Names.{leastRoom}
 use Rattle.rules.specs.Relation.{keeps}
 use Rattle.rules.specs.Answer.{Kept, Lent}
 use Rattle.rules.specs.Calls.{Unmoved}

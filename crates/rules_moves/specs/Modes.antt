@@ -4,8 +4,8 @@ use Prim.Native.Nat.{ℕ}
 use mathlib.Core.Bool.{Bool, true}
 use mathlib.Core.List.{List, []}
 use mathlib.Core.Path.{_≡_}
-use Rattle.rules.specs.declared.types.Session.{Session}
-use Rattle.rules.specs.Names.{moverActive, toTapeMode, fromTapeMode}
+use Rattle.rules_parts.specs.declared.types.Session.{Session}
+use Rattle.rules_parts.specs.Names.{moverActive, toTapeMode, fromTapeMode}
 use Rattle.rules.specs.Answer.{Kept, Lent}
 use Rattle.rules_moves.specs.Events.{Moving, movedToTape, movedFromTape}
 use Rattle.rules_moves.specs.Keeping.{Idle, codeTold}

@@ -11,12 +11,12 @@ use Rattle.xdr.specs.Xdr.{overlay}
 use Rattle.tape_image.specs.Image.{count, entryLen, entryBytes, faulty}
 use Rattle.tape_writing.specs.Writing.{roomFor, written, fillTo}
 use Rattle.tape_ops.specs.Step.{Step, keeping}
-use Rattle.rules.specs.declared.types.Data.{Data}
-use Rattle.rules.specs.declared.types.Mover.{Mover}
-use Rattle.rules.specs.declared.types.Tape.{Tape}
-use Rattle.rules.specs.Names.{dataActive, moverActive, toTapeMode, fromTapeMode, backupOperation, recoverOperation}
-use Rattle.rules.specs.Names.{dataSuccessful, dataInternalError, dataConnectError, moverConnectClosed, moverMediaError, endOfMedium, endOfFile, seekOutside, endOfWindow}
-use Rattle.rules.specs.Parts.{dataHalts, dataFed, moverPauses, moverHalts, moverRecords, moverHands, windowEnd}
+use Rattle.rules_parts.specs.declared.types.Data.{Data}
+use Rattle.rules_parts.specs.declared.types.Mover.{Mover}
+use Rattle.rules_parts.specs.declared.types.Tape.{Tape}
+use Rattle.rules_parts.specs.Names.{dataActive, moverActive, toTapeMode, fromTapeMode, backupOperation, recoverOperation}
+use Rattle.rules_parts.specs.Names.{dataSuccessful, dataInternalError, dataConnectError, moverConnectClosed, moverMediaError, endOfMedium, endOfFile, seekOutside, endOfWindow}
+use Rattle.rules_parts.specs.Parts.{dataHalts, dataFed, moverPauses, moverHalts, moverRecords, moverHands, windowEnd}
 use Rattle.rules.specs.TapeService.{movedTo}
 use Rattle.rules_moves.specs.declared.Move.{Move}
 use Rattle.rules_moves.specs.declared.Found.{Found}

@@ -21,12 +21,12 @@ use Rattle.wire_requests.specs.declared.JointRequest.{JointRequest}
 use Rattle.wire_requests.specs.declared.JointRequest.the-variants as JointRequest
 use Rattle.wire_requests.specs.declared.Request.{Request}
 use Rattle.wire_requests.specs.declared.Request.the-variants as Request
-use Rattle.rules.specs.declared.types.Data.{Data}
-use Rattle.rules.specs.declared.types.Mover.{Mover}
-use Rattle.rules.specs.declared.types.Session.{Session}
-use Rattle.rules.specs.Names.{moverActive, moverPaused}
+use Rattle.rules_parts.specs.declared.types.Data.{Data}
+use Rattle.rules_parts.specs.declared.types.Mover.{Mover}
+use Rattle.rules_parts.specs.declared.types.Session.{Session}
+use Rattle.rules_parts.specs.Names.{moverActive, moverPaused}
 use Rattle.rules.specs.Judge.{isAccepted}
-use Rattle.rules.specs.Parts.{wrapped, windowEnd}
+use Rattle.rules_parts.specs.Parts.{wrapped, windowEnd}
 use Rattle.rules.specs.Relation.{keeps, Legal}
 use Rattle.rules.specs.Answer.{Kept, Lent, held, guarded, verdict, answered, requestIn}
 use Rattle.rules.specs.Order.{Call}

@@ -5,7 +5,7 @@ use hex::Decoded;
 use line::put;
 use line::put_first;
 use line::put_number;
-use rules::types::Session;
+use rules_parts::types::Session;
 
 // 1,700,000,000 seconds
 const TIME: u32 = 0x6553F100;

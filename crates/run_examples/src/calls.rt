@@ -5,7 +5,7 @@ ghost use lib.ListN.{length};
 use super::line::put;
 use super::line::put_body;
 use super::line::put_number;
-use rules::types::Session;
+use rules_parts::types::Session;
 
 // The record of a request.
 fn write_request(out: &mut [u8], message: u32, body: &[u32])

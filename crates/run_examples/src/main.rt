@@ -7,7 +7,7 @@ mod line; // line.rt: the parts of a line
 
 use line::put;
 use line::put_number;
-use rules::types::Session;
+use rules_parts::types::Session;
 
 // An empty cartridge: 1, a capacity of 4, no entries, no bytes used; then room for 4 entries and 4,096 bytes.
 fn blank() -> [u8; 4144] {

@@ -1,5 +1,5 @@
 -- What the code of a SCSI request hands back, as the definitions have it.
-use Rattle.rules.specs.declared.types.Changer.{Changer}
+use Rattle.rules_parts.specs.declared.types.Changer.{Changer}
 use Rattle.rules.specs.Judge.{Outcome, refuse, accept}
 use Rattle.serve_changer.specs.declared.ScsiDone.{ScsiDone}
 use Rattle.serve_changer.specs.declared.ScsiDone.the-variants as ScsiDone

@@ -5,7 +5,7 @@ ghost use Rattle.wire_requests.specs.Within.{bytesAt, Within, textsWithin};
 ghost use Rattle.wire_requests.specs.declared.Request.the-variants as Request;
 ghost use Rattle.rules.specs.ScsiService.{changer0, withSense, scsiOpen, scsiClear, scsiState, senseLength, scsiCdb, scsiStep};
 ghost use Rattle.serve_changer.specs.Done.{outcomeOf};
-use rules::types::Changer;
+use rules_parts::types::Changer;
 use wire_layouts::Text;
 use wire_replies::Reply;
 use wire_requests::ScsiRequest;

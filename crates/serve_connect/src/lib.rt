@@ -6,7 +6,7 @@ ghost use Rattle.wire_requests.specs.declared.Request.the-variants as Request;
 ghost use Rattle.rules.specs.Connection.{Account, connectOpen, matches, clientAuth, connectStep, configStep};
 ghost use Rattle.rules.specs.Answer.{needsLogin, isLocked, isClose};
 ghost use Rattle.serve_connect.specs.Done.{outcomeOf};
-use rules::types::Login;
+use rules_parts::types::Login;
 use wire_layouts::Text;
 use wire_replies::Reply;
 use wire_requests::ConfigRequest;

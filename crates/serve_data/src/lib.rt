@@ -5,7 +5,7 @@ ghost use Rattle.wire_requests.specs.Within.{bytesAt, Within, textsWithin};
 ghost use Rattle.wire_requests.specs.declared.Request.the-variants as Request;
 ghost use Rattle.rules.specs.DataService.{dump, dataState, dataListen, dataStart, dataStop, dataStep};
 ghost use Rattle.serve_data.specs.Done.{outcomeOf};
-use rules::types::Data;
+use rules_parts::types::Data;
 use wire_layouts::Text;
 use wire_replies::DataView;
 use wire_replies::Reply;
@@ -23,7 +23,7 @@ fn get_state(d: Data) -> DataDone
     let view = DataView {
         operation: d.operation,
         state: d.state,
-        reason: rules::told_in(Data::HALTED, d.state, d.reason),
+        reason: rules_parts::told_in(Data::HALTED, d.state, d.reason),
         processed: d.processed,
     };
     DataDone::Accept(Reply::DataState(view), d)

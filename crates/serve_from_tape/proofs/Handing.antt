@@ -12,11 +12,11 @@ use Rattle.xdr.proofs.Tests.{asked, tests, none-of}
 use Rattle.tape_image.specs.Image.{count, entryLen, entryStart, entryBytes, bodyAt, faulty}
 use Rattle.tape_image.proofs.Laws.{placed}
 use Rattle.tape_ops.proofs.Reading.{entry-part}
-use Rattle.rules.specs.declared.types.Data.{Data}
-use Rattle.rules.specs.declared.types.Mover.{Mover}
-use Rattle.rules.specs.declared.types.Tape.{Tape}
-use Rattle.rules.specs.Names.{fromTapeMode, recoverOperation, dataConnectError, moverMediaError, endOfMedium, endOfFile}
-use Rattle.rules.specs.Parts.{windowEnd}
+use Rattle.rules_parts.specs.declared.types.Data.{Data}
+use Rattle.rules_parts.specs.declared.types.Mover.{Mover}
+use Rattle.rules_parts.specs.declared.types.Tape.{Tape}
+use Rattle.rules_parts.specs.Names.{fromTapeMode, recoverOperation, dataConnectError, moverMediaError, endOfMedium, endOfFile}
+use Rattle.rules_parts.specs.Parts.{windowEnd}
 use Rattle.rules.specs.Relation.{moverWrong}
 use Rattle.rules.specs.TapeService.{movedTo}
 use Rattle.rules.proofs.Kept.{mover-kept}

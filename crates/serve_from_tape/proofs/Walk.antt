@@ -6,7 +6,7 @@ use native.Mathlib.Omega.{arith}
 use borrow.Author.Tests.{eq-eqb, ne-eqb}
 use Rattle.xdr.specs.Choose.{choose}
 use Rattle.tape_image.specs.Image.{count, entryLen}
-use Rattle.rules.specs.declared.types.Mover.{Mover}
+use Rattle.rules_parts.specs.declared.types.Mover.{Mover}
 use Rattle.rules_moves.specs.declared.Found.{Found}
 use Rattle.rules_moves.specs.Moves.{seekFrom, sought, ordinal}
 use Rattle.rules_moves.proofs.Moving.{target-at}

@@ -5,9 +5,9 @@ use mathlib.Core.Path.{_≡_}
 use lib.ListN.{length}
 use Rattle.tape_image.specs.Image.{count, entryLen, entryStart, bodyAt}
 use Rattle.tape_image.specs.Sound.{Sound}
-use Rattle.rules.specs.declared.types.Mover.{Mover}
-use Rattle.rules.specs.Names.{largestSize, top}
-use Rattle.rules.specs.Parts.{windowEnd}
+use Rattle.rules_parts.specs.declared.types.Mover.{Mover}
+use Rattle.rules_parts.specs.Names.{largestSize, top}
+use Rattle.rules_parts.specs.Parts.{windowEnd}
 use Rattle.rules_moves.specs.Moves.{inRecord, amount}
 
 -- a mover with a window in force, whose walk begins in the tape of a sound image

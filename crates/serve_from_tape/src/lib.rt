@@ -4,17 +4,17 @@ ghost use mathlib.Core.Bool.{false};
 ghost use Prim.Native.Nat.{_+_, _-_, _<_, _≤_};
 ghost use Rattle.tape_image.specs.Image.{count, Table};
 ghost use Rattle.tape_image.specs.Sound.{Sound};
-ghost use Rattle.rules.specs.Names.{top};
-ghost use Rattle.rules.specs.Parts.{windowEnd};
+ghost use Rattle.rules_parts.specs.Names.{top};
+ghost use Rattle.rules_parts.specs.Parts.{windowEnd};
 ghost use Rattle.rules.specs.Relation.{moverWrong};
 ghost use Rattle.rules.specs.TapeService.{movedTo};
 ghost use Rattle.rules_moves.specs.Moves.{outside, seekFrom, sought, inRecord, pauses, reading, onFound, seeking, fromTape, HandedAs};
 ghost use Rattle.serve_from_tape.specs.Facts.{Seekable, Start, Amount};
-use rules::types::Data;
-use rules::types::Mover;
-use rules::types::Tape;
 use rules_moves::Found;
 use rules_moves::Move;
+use rules_parts::types::Data;
+use rules_parts::types::Mover;
+use rules_parts::types::Tape;
 
 // Whether the seek position is outside the window.
 fn is_outside(seek: u64, offset: u64, length: u64) -> bool
@@ -91,14 +91,14 @@ fn read_record(i: usize, d: Data, m: Mover, t: Tape, image: &[u8], dest: &mut [u
     let size = m.size as usize;
     let len = tape_image::entry_len(image, i);
     if len != size {
-        return rules_moves::halt_both(Data::CONNECT_ERROR, Mover::MEDIA_ERROR, d, m, t);
+        return serve_moves::halt_both(Data::CONNECT_ERROR, Mover::MEDIA_ERROR, d, m, t);
     }
     let into = into_record(m);
     let n = amount(m, dest.len());
     let begin = record_start(image, i) + into;
     let end = begin + n;
     xdr::copy_blocks(dest, 0, &image[begin..end]);
-    rules_moves::hand_over(n, i, d, m, t)
+    serve_moves::hand_over(n, i, d, m, t)
 }
 
 // The mover pauses, and the tape stands at a position.
@@ -110,7 +110,7 @@ fn pause_there(why: u32, position: usize, d: Data, m: Mover, t: Tape) -> Move
         writable: t.writable,
         position,
     };
-    rules_moves::pause_at(why, d, m, tape)
+    serve_moves::pause_at(why, d, m, tape)
 }
 
 // A move after its tests: the walk, and what it comes to.
@@ -134,7 +134,7 @@ fn seek_back(d: Data, m: Mover, t: Tape, image: &[u8], dest: &mut [u8]) -> Move
     ensures { λ r. ⌜ HandedAs (seeking d m t (now (image .entry)) (now (dest .entry))) r (now (dest .exit)) ⌝ }
 {
     if is_outside(m.seek, m.offset, m.length) {
-        return rules_moves::pause_at(Mover::SEEK, d, m, t);
+        return serve_moves::pause_at(Mover::SEEK, d, m, t);
     }
     walk_back(d, m, t, image, dest)
 }
@@ -144,18 +144,18 @@ pub fn from_tape(d: Data, m: Mover, t: Tape, image: &[u8], dest: &mut [u8]) -> M
     requires { ⌜ moverWrong m t ≡ false ⌝ }
     ensures { λ r. ⌜ HandedAs (fromTape d m t (now (image .entry)) (now (dest .entry))) r (now (dest .exit)) ⌝ }
 {
-    if rules_moves::is_idle(Mover::FROM_TAPE, Data::RECOVER, d, m) {
-        return rules_moves::no_move(d, m, t);
+    if serve_moves::is_idle(Mover::FROM_TAPE, Data::RECOVER, d, m) {
+        return serve_moves::no_move(d, m, t);
     }
     let position = t.position;
     if tape_image::is_faulty(image, position) {
-        return rules_moves::halt_both(Data::CONNECT_ERROR, Mover::MEDIA_ERROR, d, m, t);
+        return serve_moves::halt_both(Data::CONNECT_ERROR, Mover::MEDIA_ERROR, d, m, t);
     }
     if m.left == 0 {
-        return rules_moves::no_move(d, m, t);
+        return serve_moves::no_move(d, m, t);
     }
     if dest.len() == 0 {
-        return rules_moves::no_move(d, m, t);
+        return serve_moves::no_move(d, m, t);
     }
     seek_back(d, m, t, image, dest)
 }

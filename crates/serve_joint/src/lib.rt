@@ -3,9 +3,9 @@ ghost use mathlib.Core.Path.{_≡_};
 ghost use Rattle.rules.specs.Joint.{joined, halted, dataConnect, moverConnect, atRest, dataAborted, dataAbort, moverAborted, moverAbort, moverClose, jointStep};
 ghost use Rattle.serve_joint.specs.Done.{outcomeOf};
 use rules::Ends;
-use rules::types::Data;
-use rules::types::Mover;
-use rules::types::Tape;
+use rules_parts::types::Data;
+use rules_parts::types::Mover;
+use rules_parts::types::Tape;
 use wire_replies::Reply;
 use wire_requests::JointRequest;
 

@@ -3,8 +3,8 @@ ghost use mathlib.Core.Path.{_≡_};
 ghost use Rattle.rules.specs.Judge.{first};
 ghost use Rattle.rules.specs.MoverService.{recordNumber, moverState, offsetWrong, joinTests, moverListen, moverContinue, moverStop, busy, elsewhere, setWindow, moverRead, setSize, moverStep};
 ghost use Rattle.serve_mover.specs.Done.{outcomeOf};
-use rules::types::Mover;
-use rules::types::Tape;
+use rules_parts::types::Mover;
+use rules_parts::types::Tape;
 use wire_replies::MoverView;
 use wire_replies::Reply;
 use wire_requests::MoverRequest;
@@ -31,8 +31,8 @@ fn get_state(m: Mover) -> MoverDone
     let view = MoverView {
         mode: m.mode,
         state: m.state,
-        pause: rules::told_in(Mover::PAUSED, m.state, m.pause),
-        halt: rules::told_in(Mover::HALTED, m.state, m.halt),
+        pause: rules_parts::told_in(Mover::PAUSED, m.state, m.pause),
+        halt: rules_parts::told_in(Mover::HALTED, m.state, m.halt),
         size: m.size,
         number: record_number(m.moved, m.size),
         moved: m.moved,

@@ -4,13 +4,13 @@ ghost use Prim.Native.Nat.{_+_, _≤_};
 ghost use lib.Dec.{ltb};
 ghost use Rattle.rules.specs.declared.Guard.the-variants as Guard;
 ghost use Rattle.rules.specs.Answer.{guarded};
-ghost use Rattle.rules.specs.Parts.{windowEnd};
+ghost use Rattle.rules_parts.specs.Parts.{windowEnd};
 ghost use Rattle.rules.specs.Relation.{dataWrong, numbersWrong, windowWrong, startWrong, holdWrong, strays, resumeWrong, placeWrong, originWrong, moverWrong, sameFlag, keeps};
 use rules::Guard;
-use rules::types::Data;
-use rules::types::Mover;
-use rules::types::Session;
-use rules::types::Tape;
+use rules_parts::types::Data;
+use rules_parts::types::Mover;
+use rules_parts::types::Session;
+use rules_parts::types::Tape;
 
 fn is_data_wrong(d: Data) -> bool
     ensures { λ r. ⌜ r ≡ dataWrong d ⌝ }

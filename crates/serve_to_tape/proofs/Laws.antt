@@ -10,10 +10,10 @@ use Rattle.tape_image.specs.Image.{faulty}
 use Rattle.tape_image.proofs.Laws.{placed}
 use Rattle.tape_writing.specs.Writing.{roomFor, FilledWrite}
 use Rattle.tape_ops.specs.Step.{Step, Told, keeping}
-use Rattle.rules.specs.declared.types.Data.{Data}
-use Rattle.rules.specs.declared.types.Mover.{Mover}
-use Rattle.rules.specs.declared.types.Tape.{Tape}
-use Rattle.rules.specs.Names.{toTapeMode, backupOperation}
+use Rattle.rules_parts.specs.declared.types.Data.{Data}
+use Rattle.rules_parts.specs.declared.types.Mover.{Mover}
+use Rattle.rules_parts.specs.declared.types.Tape.{Tape}
+use Rattle.rules_parts.specs.Names.{toTapeMode, backupOperation}
 use Rattle.rules.specs.Relation.{moverWrong}
 use Rattle.rules.proofs.Kept.{mover-kept}
 use Rattle.rules.proofs.Keeping.{active-holds}

@@ -3,9 +3,9 @@
 use Prim.Native.Nat.{ℕ, _≤_}
 use mathlib.Core.List.{List}
 use Rattle.tape_image.specs.Sound.{Placed}
-use Rattle.rules.specs.declared.types.Mover.{Mover}
-use Rattle.rules.specs.Names.{largestSize, top}
-use Rattle.rules.specs.Parts.{windowEnd}
+use Rattle.rules_parts.specs.declared.types.Mover.{Mover}
+use Rattle.rules_parts.specs.Names.{largestSize, top}
+use Rattle.rules_parts.specs.Parts.{windowEnd}
 
 pub record Fillable (m : Mover) (l : List ℕ) (p : ℕ) : Type 0 where
   pub small : m .size ≤ largestSize

@@ -5,10 +5,10 @@ ghost use Rattle.tape_ops.specs.Step.{Told};
 ghost use Rattle.rules.specs.Relation.{moverWrong};
 ghost use Rattle.rules_moves.specs.Moves.{streamEnds, scant, filling, toTape};
 ghost use Rattle.serve_to_tape.specs.Fillable.{Fillable};
-use rules::types::Data;
-use rules::types::Mover;
-use rules::types::Tape;
 use rules_moves::Move;
+use rules_parts::types::Data;
+use rules_parts::types::Mover;
+use rules_parts::types::Tape;
 
 // The stream has come to its end.
 fn is_ending(last: bool, n: usize) -> bool
@@ -40,15 +40,15 @@ fn fill_tape(d: Data, m: Mover, t: Tape, image: &mut [u8], stream: &[u8], last: 
     let part = xdr::lesser_len(stream.len(), size);
     let scant = is_scant(last, stream.len(), size);
     if m.moved == end {
-        return rules_moves::pause_at(Mover::END_OF_WINDOW, d, m, t);
+        return serve_moves::pause_at(Mover::END_OF_WINDOW, d, m, t);
     }
     if scant {
-        return rules_moves::no_move(d, m, t);
+        return serve_moves::no_move(d, m, t);
     }
     if !tape_writing::write_filled(image, t.position, &stream[..part], size) {
-        return rules_moves::pause_at(Mover::END_OF_MEDIUM, d, m, t);
+        return serve_moves::pause_at(Mover::END_OF_MEDIUM, d, m, t);
     }
-    rules_moves::take_record(part, d, m, t)
+    serve_moves::take_record(part, d, m, t)
 }
 
 // One move to tape.
@@ -56,16 +56,16 @@ pub fn to_tape(d: Data, m: Mover, t: Tape, image: &mut [u8], stream: &[u8], last
     requires { ⌜ moverWrong m t ≡ false ⌝ }
     ensures { λ r. ⌜ Told (toTape d m t (now (image .entry)) (now (stream .entry)) last) r (now (image .exit)) ⌝ }
 {
-    if rules_moves::is_idle(Mover::TO_TAPE, Data::BACKUP, d, m) {
-        return rules_moves::no_move(d, m, t);
+    if serve_moves::is_idle(Mover::TO_TAPE, Data::BACKUP, d, m) {
+        return serve_moves::no_move(d, m, t);
     }
     let faulty = tape_image::is_faulty(image, t.position);
     let ends = is_ending(last, stream.len());
     if faulty {
-        return rules_moves::halt_both(Data::CONNECT_ERROR, Mover::MEDIA_ERROR, d, m, t);
+        return serve_moves::halt_both(Data::CONNECT_ERROR, Mover::MEDIA_ERROR, d, m, t);
     }
     if ends {
-        return rules_moves::halt_both(Data::SUCCESSFUL, Mover::CONNECT_CLOSED, d, m, t);
+        return serve_moves::halt_both(Data::SUCCESSFUL, Mover::CONNECT_CLOSED, d, m, t);
     }
     fill_tape(d, m, t, image, stream, last)
 }

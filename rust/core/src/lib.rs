@@ -4,7 +4,7 @@
 pub mod codes;
 mod names;
 mod types {
-    include!("../../../crates/rules/src/types.rt");
+    include!("../../../crates/rules_parts/src/types.rt");
 }
 
 use std::fmt;

@@ -1,4 +1,4 @@
-//! States, modes, reasons and the first record size by the names that crates/rules gives them (`tests/names.rs` compares both), and in
+//! States, modes, reasons and the first record size by the names that crates/rules_parts gives them (`tests/names.rs` compares both), and in
 //! words.
 use crate::{Data, Mover};
 

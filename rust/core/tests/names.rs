@@ -18,7 +18,7 @@ fn here(named: &[(&str, u64)]) -> BTreeMap<String, u64> {
 
 #[test]
 fn names_are_those_of_the_crates() {
-    let session = "rules/src/lib.rt";
+    let session = "rules_parts/src/lib.rt";
     assert_eq!(here(Data::NAMED), constants(session, "impl Data {"));
     assert_eq!(here(Mover::NAMED), constants(session, "impl Mover {"));
     assert_eq!(here(codes::NAMED), constants("codes/src/lib.rt", "// Numbers"));

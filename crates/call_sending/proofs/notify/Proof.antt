@@ -7,7 +7,7 @@ use Rattle.call_sending.proofs.notify.Tie as tie
 use Rattle.call_sending.proofs.notify.Reads as reads
 use Rattle.call_sending.proofs.notify.Lts as lts
 use Rattle.wire_replies.proofs.write_notice.Reads as write-notice-reads
-use Rattle.rules.proofs.types.Session.after_message.Reads as types-Session-after-message-reads
+use Rattle.rules_parts.proofs.types.Session.after_message.Reads as types-Session-after-message-reads
 
 returns : tie.Need-returns
 returns c = (omega arith, λ a image l t. not-noticed _ _ _ a _ image l _ (c .if1 .taken) t)

@@ -5,7 +5,7 @@ use Rattle.call_sending.proofs.shut.Statement.{statement}
 use Rattle.call_sending.proofs.shut.Tie as tie
 use Rattle.call_sending.proofs.shut.Reads as reads
 use Rattle.call_sending.proofs.shut.Lts as lts
-use Rattle.rules.proofs.types.Session.shuts.Reads as shuts-reads
+use Rattle.rules_parts.proofs.types.Session.shuts.Reads as shuts-reads
 
 shuts-requires : tie.Need-shuts-requires
 shuts-requires c κs = search needs

@@ -7,11 +7,11 @@ use Rattle.serve_from_tape.proofs.from_tape.Statement.{statement}
 use Rattle.serve_from_tape.proofs.from_tape.Tie as tie
 use Rattle.serve_from_tape.proofs.from_tape.Reads as reads
 use Rattle.serve_from_tape.proofs.from_tape.Lts as lts
-use Rattle.rules_moves.proofs.is_idle.Reads as is-idle-reads
+use Rattle.serve_moves.proofs.is_idle.Reads as is-idle-reads
 use Rattle.serve_from_tape.proofs.seek_back.Reads as seek-back-reads
 use Rattle.tape_image.proofs.is_faulty.Reads as is-faulty-reads
-use Rattle.rules_moves.proofs.halt_both.Reads as halt-both-reads
-use Rattle.rules_moves.proofs.no_move.Reads as no-move-reads
+use Rattle.serve_moves.proofs.halt_both.Reads as halt-both-reads
+use Rattle.serve_moves.proofs.no_move.Reads as no-move-reads
 
 is-idle-requires : tie.Need-is-idle-requires
 is-idle-requires c κs = search needs

@@ -12,8 +12,8 @@ use Rattle.serve_from_tape.proofs.amount.Reads as amount-reads
 use Rattle.serve_from_tape.proofs.into_record.Reads as into-record-reads
 use Rattle.serve_from_tape.proofs.record_start.Reads as record-start-reads
 use Rattle.tape_image.proofs.entry_len.Reads as entry-len-reads
-use Rattle.rules_moves.proofs.halt_both.Reads as halt-both-reads
-use Rattle.rules_moves.proofs.hand_over.Reads as hand-over-reads
+use Rattle.serve_moves.proofs.halt_both.Reads as halt-both-reads
+use Rattle.serve_moves.proofs.hand_over.Reads as hand-over-reads
 use Rattle.xdr.proofs.copy_blocks.Reads as copy-blocks-reads
 
 cast-size : tie.Need-cast-size

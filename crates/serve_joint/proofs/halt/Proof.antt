@@ -3,8 +3,8 @@ use Rattle.serve_joint.proofs.halt.Statement.{statement}
 use Rattle.serve_joint.proofs.halt.Tie as tie
 use Rattle.serve_joint.proofs.halt.Reads as reads
 use Rattle.serve_joint.proofs.halt.Lts as lts
-use Rattle.rules.proofs.types.Data.halts.Reads as types-Data-halts-reads
-use Rattle.rules.proofs.types.Mover.halts.Reads as types-Mover-halts-reads
+use Rattle.rules_parts.proofs.types.Data.halts.Reads as types-Data-halts-reads
+use Rattle.rules_parts.proofs.types.Mover.halts.Reads as types-Mover-halts-reads
 
 halts-requires : tie.Need-halts-requires
 halts-requires c κs = search needs

@@ -3,8 +3,8 @@ use Rattle.serve_joint.proofs.join.Statement.{statement}
 use Rattle.serve_joint.proofs.join.Tie as tie
 use Rattle.serve_joint.proofs.join.Reads as reads
 use Rattle.serve_joint.proofs.join.Lts as lts
-use Rattle.rules.proofs.types.Data.goes.Reads as goes-reads
-use Rattle.rules.proofs.types.Mover.runs.Reads as runs-reads
+use Rattle.rules_parts.proofs.types.Data.goes.Reads as goes-reads
+use Rattle.rules_parts.proofs.types.Mover.runs.Reads as runs-reads
 
 goes-requires : tie.Need-goes-requires
 goes-requires c κs = search needs

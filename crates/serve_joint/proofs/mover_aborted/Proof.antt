@@ -6,8 +6,8 @@ use Rattle.serve_joint.proofs.mover_aborted.Tie as tie
 use Rattle.serve_joint.proofs.mover_aborted.Reads as reads
 use Rattle.serve_joint.proofs.mover_aborted.Lts as lts
 use Rattle.serve_joint.proofs.halt.Reads as halt-reads
-use Rattle.rules.proofs.types.Mover.halts.Reads as halts-reads
-use Rattle.rules.proofs.types.Mover.is_joined.Reads as is-joined-reads
+use Rattle.rules_parts.proofs.types.Mover.halts.Reads as halts-reads
+use Rattle.rules_parts.proofs.types.Mover.is_joined.Reads as is-joined-reads
 
 is-joined-requires : tie.Need-is-joined-requires
 is-joined-requires c κs = search needs

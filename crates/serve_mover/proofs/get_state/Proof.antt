@@ -6,7 +6,7 @@ use Rattle.serve_mover.proofs.get_state.Tie as tie
 use Rattle.serve_mover.proofs.get_state.Reads as reads
 use Rattle.serve_mover.proofs.get_state.Lts as lts
 use Rattle.serve_mover.proofs.record_number.Reads as record-number-reads
-use Rattle.rules.proofs.told_in.Reads as told-in-reads
+use Rattle.rules_parts.proofs.told_in.Reads as told-in-reads
 
 told-in-requires : tie.Need-told-in-requires
 told-in-requires c κs = search needs

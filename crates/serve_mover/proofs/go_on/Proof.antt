@@ -6,8 +6,8 @@ use Rattle.serve_mover.proofs.go_on.Statement.{statement}
 use Rattle.serve_mover.proofs.go_on.Tie as tie
 use Rattle.serve_mover.proofs.go_on.Reads as reads
 use Rattle.serve_mover.proofs.go_on.Lts as lts
-use Rattle.rules.proofs.types.Mover.is_unwritable.Reads as is-unwritable-reads
-use Rattle.rules.proofs.types.Mover.runs.Reads as runs-reads
+use Rattle.rules_parts.proofs.types.Mover.is_unwritable.Reads as is-unwritable-reads
+use Rattle.rules_parts.proofs.types.Mover.runs.Reads as runs-reads
 
 returns : tie.Need-returns
 unfolding moverContinue judge

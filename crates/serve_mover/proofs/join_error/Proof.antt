@@ -6,7 +6,7 @@ use Rattle.serve_mover.proofs.join_error.Tie as tie
 use Rattle.serve_mover.proofs.join_error.Reads as reads
 use Rattle.serve_mover.proofs.join_error.Lts as lts
 use Rattle.serve_mover.proofs.is_offset_wrong.Reads as is-offset-wrong-reads
-use Rattle.rules.proofs.types.Mover.is_unwritable.Reads as is-unwritable-reads
+use Rattle.rules_parts.proofs.types.Mover.is_unwritable.Reads as is-unwritable-reads
 
 returns : tie.Need-returns
 unfolding first

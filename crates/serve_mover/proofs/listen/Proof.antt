@@ -10,7 +10,7 @@ use Rattle.serve_mover.proofs.listen.Tie as tie
 use Rattle.serve_mover.proofs.listen.Reads as reads
 use Rattle.serve_mover.proofs.listen.Lts as lts
 use Rattle.serve_mover.proofs.join_error.Reads as join-error-reads
-use Rattle.rules.proofs.types.Mover.listens.Reads as listens-reads
+use Rattle.rules_parts.proofs.types.Mover.listens.Reads as listens-reads
 
 join-error-requires : tie.Need-join-error-requires
 join-error-requires c κs = search needs

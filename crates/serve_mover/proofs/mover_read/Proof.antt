@@ -6,8 +6,8 @@ use Rattle.serve_mover.proofs.mover_read.Statement.{statement}
 use Rattle.serve_mover.proofs.mover_read.Tie as tie
 use Rattle.serve_mover.proofs.mover_read.Reads as reads
 use Rattle.serve_mover.proofs.mover_read.Lts as lts
-use Rattle.rules.proofs.types.Mover.is_past_top.Reads as is-past-top-reads
-use Rattle.rules.proofs.types.Mover.seeks.Reads as seeks-reads
+use Rattle.rules_parts.proofs.types.Mover.is_past_top.Reads as is-past-top-reads
+use Rattle.rules_parts.proofs.types.Mover.seeks.Reads as seeks-reads
 
 returns : tie.Need-returns
 unfolding moverRead judge

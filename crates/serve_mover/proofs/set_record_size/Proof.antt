@@ -6,7 +6,7 @@ use Rattle.serve_mover.proofs.set_record_size.Statement.{statement}
 use Rattle.serve_mover.proofs.set_record_size.Tie as tie
 use Rattle.serve_mover.proofs.set_record_size.Reads as reads
 use Rattle.serve_mover.proofs.set_record_size.Lts as lts
-use Rattle.rules.proofs.types.Mover.sized.Reads as sized-reads
+use Rattle.rules_parts.proofs.types.Mover.sized.Reads as sized-reads
 
 returns : tie.Need-returns
 unfolding setSize judge

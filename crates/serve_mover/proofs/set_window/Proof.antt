@@ -8,8 +8,8 @@ use Rattle.serve_mover.proofs.set_window.Reads as reads
 use Rattle.serve_mover.proofs.set_window.Lts as lts
 use Rattle.serve_mover.proofs.is_busy.Reads as is-busy-reads
 use Rattle.serve_mover.proofs.is_elsewhere.Reads as is-elsewhere-reads
-use Rattle.rules.proofs.types.Mover.is_past_top.Reads as is-past-top-reads
-use Rattle.rules.proofs.types.Mover.windowed.Reads as windowed-reads
+use Rattle.rules_parts.proofs.types.Mover.is_past_top.Reads as is-past-top-reads
+use Rattle.rules_parts.proofs.types.Mover.windowed.Reads as windowed-reads
 
 is-busy-requires : tie.Need-is-busy-requires
 is-busy-requires c κs = search needs

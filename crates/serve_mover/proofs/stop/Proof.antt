@@ -6,7 +6,7 @@ use Rattle.serve_mover.proofs.stop.Statement.{statement}
 use Rattle.serve_mover.proofs.stop.Tie as tie
 use Rattle.serve_mover.proofs.stop.Reads as reads
 use Rattle.serve_mover.proofs.stop.Lts as lts
-use Rattle.rules.proofs.types.Mover.rests.Reads as rests-reads
+use Rattle.rules_parts.proofs.types.Mover.rests.Reads as rests-reads
 
 returns : tie.Need-returns
 unfolding moverStop judge

@@ -5,8 +5,8 @@ use Rattle.serve_relation.proofs.is_hold_wrong.Statement.{statement}
 use Rattle.serve_relation.proofs.is_hold_wrong.Tie as tie
 use Rattle.serve_relation.proofs.is_hold_wrong.Reads as reads
 use Rattle.serve_relation.proofs.is_hold_wrong.Lts as lts
-use Rattle.rules.proofs.types.Mover.is_unwritable.Reads as is-unwritable-reads
-use Rattle.rules.proofs.types.Mover.holds_tape.Reads as holds-tape-reads
+use Rattle.rules_parts.proofs.types.Mover.is_unwritable.Reads as is-unwritable-reads
+use Rattle.rules_parts.proofs.types.Mover.holds_tape.Reads as holds-tape-reads
 
 holds-tape-requires : tie.Need-holds-tape-requires
 holds-tape-requires c κs = search needs

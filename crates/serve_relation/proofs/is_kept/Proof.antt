@@ -6,8 +6,8 @@ use Rattle.serve_relation.proofs.is_kept.Statement.{statement}
 use Rattle.serve_relation.proofs.is_kept.Tie as tie
 use Rattle.serve_relation.proofs.is_kept.Reads as reads
 use Rattle.serve_relation.proofs.is_kept.Lts as lts
-use Rattle.rules.proofs.types.Data.is_joined.Reads as is-joined-reads
-use Rattle.rules.proofs.types.Mover.is_joined.Reads as is-joined2-reads
+use Rattle.rules_parts.proofs.types.Data.is_joined.Reads as is-joined-reads
+use Rattle.rules_parts.proofs.types.Mover.is_joined.Reads as is-joined2-reads
 use Rattle.serve_relation.proofs.is_data_wrong.Reads as is-data-wrong-reads
 use Rattle.serve_relation.proofs.is_mover_wrong.Reads as is-mover-wrong-reads
 use Rattle.serve_relation.proofs.same_flag.Reads as same-flag-reads

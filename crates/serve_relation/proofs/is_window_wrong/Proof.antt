@@ -5,7 +5,7 @@ use Rattle.serve_relation.proofs.is_window_wrong.Statement.{statement}
 use Rattle.serve_relation.proofs.is_window_wrong.Tie as tie
 use Rattle.serve_relation.proofs.is_window_wrong.Reads as reads
 use Rattle.serve_relation.proofs.is_window_wrong.Lts as lts
-use Rattle.rules.proofs.types.Mover.is_past_top.Reads as is-past-top-reads
+use Rattle.rules_parts.proofs.types.Mover.is_past_top.Reads as is-past-top-reads
 
 returns : tie.Need-returns
 unfolding windowWrong

@@ -9,7 +9,7 @@ use Rattle.serve_tape.proofs.close_tape.Statement.{statement}
 use Rattle.serve_tape.proofs.close_tape.Tie as tie
 use Rattle.serve_tape.proofs.close_tape.Reads as reads
 use Rattle.serve_tape.proofs.close_tape.Lts as lts
-use Rattle.rules.proofs.types.Mover.holds_tape.Reads as holds-tape-reads
+use Rattle.rules_parts.proofs.types.Mover.holds_tape.Reads as holds-tape-reads
 
 returns : tie.Need-returns
 unfolding tapeClose judge

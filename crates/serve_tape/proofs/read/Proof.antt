@@ -10,7 +10,7 @@ use Rattle.serve_tape.proofs.read.Tie as tie
 use Rattle.serve_tape.proofs.read.Reads as reads
 use Rattle.serve_tape.proofs.read.Lts as lts
 use Rattle.tape_ops.proofs.read.Reads as read-reads
-use Rattle.rules.proofs.types.Mover.holds_tape.Reads as holds-tape-reads
+use Rattle.rules_parts.proofs.types.Mover.holds_tape.Reads as holds-tape-reads
 use Rattle.serve_tape.proofs.is_refusal.Reads as is-refusal-reads
 use Rattle.serve_tape.proofs.moved_to.Reads as moved-to-reads
 

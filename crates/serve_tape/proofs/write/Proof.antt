@@ -13,7 +13,7 @@ use Rattle.serve_tape.proofs.write.Tie as tie
 use Rattle.serve_tape.proofs.write.Reads as reads
 use Rattle.serve_tape.proofs.write.Lts as lts
 use Rattle.tape_ops.proofs.write.Reads as write-reads
-use Rattle.rules.proofs.types.Mover.holds_tape.Reads as holds-tape-reads
+use Rattle.rules_parts.proofs.types.Mover.holds_tape.Reads as holds-tape-reads
 use Rattle.serve_tape.proofs.is_refusal.Reads as is-refusal-reads
 use Rattle.serve_tape.proofs.moved_to.Reads as moved-to-reads
 

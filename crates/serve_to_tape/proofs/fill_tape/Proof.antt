@@ -12,9 +12,9 @@ use Rattle.serve_to_tape.proofs.fill_tape.Tie as tie
 use Rattle.serve_to_tape.proofs.fill_tape.Reads as reads
 use Rattle.serve_to_tape.proofs.fill_tape.Lts as lts
 use Rattle.xdr.proofs.lesser_len.Reads as lesser-len-reads
-use Rattle.rules_moves.proofs.no_move.Reads as no-move-reads
-use Rattle.rules_moves.proofs.pause_at.Reads as pause-at-reads
-use Rattle.rules_moves.proofs.take_record.Reads as take-record-reads
+use Rattle.serve_moves.proofs.no_move.Reads as no-move-reads
+use Rattle.serve_moves.proofs.pause_at.Reads as pause-at-reads
+use Rattle.serve_moves.proofs.take_record.Reads as take-record-reads
 use Rattle.serve_to_tape.proofs.is_scant.Reads as is-scant-reads
 use Rattle.tape_writing.proofs.write_filled.Reads as write-filled-reads
 

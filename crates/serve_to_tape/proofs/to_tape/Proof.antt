@@ -8,11 +8,11 @@ use Rattle.serve_to_tape.proofs.to_tape.Tie as tie
 use Rattle.serve_to_tape.proofs.to_tape.Reads as reads
 use Rattle.serve_to_tape.proofs.to_tape.Lts as lts
 use Rattle.tape_image.proofs.is_faulty.Reads as is-faulty-reads
-use Rattle.rules_moves.proofs.halt_both.Reads as halt-both-reads
-use Rattle.rules_moves.proofs.no_move.Reads as no-move-reads
+use Rattle.serve_moves.proofs.halt_both.Reads as halt-both-reads
+use Rattle.serve_moves.proofs.no_move.Reads as no-move-reads
 use Rattle.serve_to_tape.proofs.fill_tape.Reads as fill-tape-reads
 use Rattle.serve_to_tape.proofs.is_ending.Reads as is-ending-reads
-use Rattle.rules_moves.proofs.is_idle.Reads as is-idle-reads
+use Rattle.serve_moves.proofs.is_idle.Reads as is-idle-reads
 
 is-idle-requires : tie.Need-is-idle-requires
 is-idle-requires c κs = search needs

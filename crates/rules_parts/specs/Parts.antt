@@ -1,0 +1,136 @@
+-- The states and codes of the session's parts, and the states that they begin with.
+use Prim.Native.Nat.{ℕ, _+_, _-_, _%_}
+use mathlib.Core.Bool.{Bool, true, false, not}
+use lib.Dec.{eqb, ltb}
+use Rattle.xdr.specs.Choose.{choose}
+use Rattle.rules_parts.specs.declared.types.Data.{Data}
+use Rattle.rules_parts.specs.declared.types.Mover.{Mover}
+use Rattle.rules_parts.specs.declared.types.Tape.{Tape}
+use Rattle.rules_parts.specs.declared.types.Changer.{Changer}
+use Rattle.rules_parts.specs.declared.types.Login.{Login}
+use Rattle.rules_parts.specs.declared.types.Session.{Session}
+use Rattle.rules_parts.specs.Names.{dataIdle, dataActive, dataHalted, dataConnected, moverIdle, moverListening, moverActive, moverPaused, moverHalted, toTapeMode, noMode, noOperation, firstSize, top}
+
+-- the data end at rest
+abbrev pub restData : Data
+restData = record { state = dataIdle; operation = noOperation; reason = 0; processed = 0 }
+
+-- the mover at rest, with its record size
+abbrev pub restMover : ℕ → Mover
+restMover size =
+    record { state = moverIdle; mode = noMode; pause = 0; halt = 0; size = size; offset = 0; length = 0; moved = 0; seek = 0; left = 0; origin = 0 }
+
+abbrev pub closedTape : Tape
+closedTape = record { opened = false; writable = false; position = 0 }
+
+abbrev pub closedChanger : Changer
+closedChanger = record { opened = false; pending = false }
+
+-- nobody has logged in
+abbrev pub noLogin : Login
+noLogin = record { authorized = false }
+
+-- a session with nothing in it yet but the first record size
+abbrev pub newSession : Bool → ℕ → Session
+newSession closed sequence =
+    record { closed = closed; first = true; login = noLogin; sequence = sequence; source = restData; mover = restMover firstSize; tape = closedTape; changer = closedChanger }
+
+-- ---- changes of the session: other parts; and a message more. "after 4,294,967,295 comes 0"
+abbrev pub withParts : Session → Login → Data → Mover → Tape → Changer → Session
+withParts s g d m t c = record { closed = s .closed; first = s .first; login = g; sequence = s .sequence; source = d; mover = m; tape = t; changer = c }
+
+abbrev pub afterMessage : Session → Bool → Session
+afterMessage s first =
+    record { closed = s .closed; first = first; login = s .login; sequence = (s .sequence + 1) % 4294967296; source = s .source; mover = s .mover; tape = s .tape; changer = s .changer }
+
+-- "Closing changes nothing else"
+abbrev pub shut : Session → Session
+shut s = record { closed = true; first = s .first; login = s .login; sequence = s .sequence; source = s .source; mover = s .mover; tape = s .tape; changer = s .changer }
+
+-- ---- changes of the data end
+abbrev pub dataTo : ℕ → Data → Data
+dataTo state d = record { state = state; operation = d .operation; reason = d .reason; processed = d .processed }
+
+abbrev pub dataStarts : ℕ → Data → Data
+dataStarts operation d = record { state = dataActive; operation = operation; reason = d .reason; processed = d .processed }
+
+abbrev pub dataHalts : ℕ → Data → Data
+dataHalts why d = record { state = dataHalted; operation = d .operation; reason = why; processed = d .processed }
+
+-- ---- changes of the mover
+abbrev pub moverListens : ℕ → Mover → Mover
+moverListens mode m =
+    record { state = moverListening; mode = mode; pause = m .pause; halt = m .halt; size = m .size; offset = m .offset; length = m .length; moved = m .moved; seek = m .seek; left = m .left; origin = m .origin }
+
+-- it becomes ACTIVE with the tape at a position, which "stands for the window's offset"
+abbrev pub moverRuns : ℕ → ℕ → Mover → Mover
+moverRuns mode position m =
+    record { state = moverActive; mode = mode; pause = 0; halt = m .halt; size = m .size; offset = m .offset; length = m .length; moved = m .moved; seek = m .seek; left = m .left; origin = position }
+
+-- "A pause voids the window."
+abbrev pub moverPauses : ℕ → Mover → Mover
+moverPauses why m =
+    record { state = moverPaused; mode = m .mode; pause = why; halt = m .halt; size = m .size; offset = 0; length = 0; moved = m .moved; seek = m .seek; left = m .left; origin = m .origin }
+
+abbrev pub moverHalts : ℕ → Mover → Mover
+moverHalts why m =
+    record { state = moverHalted; mode = m .mode; pause = 0; halt = why; size = m .size; offset = m .offset; length = m .length; moved = m .moved; seek = m .seek; left = m .left; origin = m .origin }
+
+abbrev pub moverWindow : ℕ → ℕ → Mover → Mover
+moverWindow offset length m =
+    record { state = m .state; mode = m .mode; pause = m .pause; halt = m .halt; size = m .size; offset = offset; length = length; moved = m .moved; seek = m .seek; left = m .left; origin = m .origin }
+
+-- "an accepted call voids the window, also with the same size"
+abbrev pub moverSize : ℕ → Mover → Mover
+moverSize size m =
+    record { state = m .state; mode = m .mode; pause = m .pause; halt = m .halt; size = size; offset = 0; length = 0; moved = m .moved; seek = m .seek; left = m .left; origin = m .origin }
+
+-- "It sets seek position and bytes left."
+abbrev pub moverSeeks : ℕ → ℕ → Mover → Mover
+moverSeeks seek left m =
+    record { state = m .state; mode = m .mode; pause = m .pause; halt = m .halt; size = m .size; offset = m .offset; length = m .length; moved = m .moved; seek = seek; left = left; origin = m .origin }
+
+-- ---- what moved bytes change. "Both are taken modulo 2^64"
+abbrev pub wrapped : ℕ → ℕ
+wrapped n = n % 18446744073709551616
+
+-- n bytes of the stream were processed
+abbrev pub dataFed : ℕ → Data → Data
+dataFed n d = record { state = d .state; operation = d .operation; reason = d .reason; processed = wrapped (d .processed + n) }
+
+-- "Bytes moved counts whole records to tape"
+abbrev pub moverRecords : Mover → Mover
+moverRecords m =
+    record { state = m .state; mode = m .mode; pause = m .pause; halt = m .halt; size = m .size; offset = m .offset; length = m .length; moved = wrapped (m .moved + m .size); seek = m .seek; left = m .left; origin = m .origin }
+
+-- "bytes handed over from tape": "handed over, added to seek position, taken off bytes left"
+abbrev pub moverHands : ℕ → Mover → Mover
+moverHands n m =
+    record { state = m .state; mode = m .mode; pause = m .pause; halt = m .halt; size = m .size; offset = m .offset; length = m .length; moved = wrapped (m .moved + n); seek = m .seek + n; left = m .left - n; origin = m .origin }
+
+-- where a window, or a part of the stream, ends; the end itself is outside
+abbrev pub windowEnd : ℕ → ℕ → ℕ
+windowEnd offset length = offset + length
+
+-- "offset + length above 2^64 - 1"
+unfoldable pub pastTop : ℕ → ℕ → Bool
+pastTop offset length = ltb top (windowEnd offset length)
+
+-- "reasons only in their state"
+unfoldable pub toldIn : ℕ → ℕ → ℕ → ℕ
+toldIn at state reason = choose (eqb state at) reason 0
+
+-- "Data is CONNECTED or ACTIVE exactly when the mover is ACTIVE or PAUSED; then they are joined."
+unfoldable pub dataJoined : ℕ → Bool
+dataJoined state = choose (eqb state dataActive) true (eqb state dataConnected)
+
+unfoldable pub moverJoined : ℕ → Bool
+moverJoined state = choose (eqb state moverActive) true (eqb state moverPaused)
+
+-- the mover holds the tape: LISTEN or ACTIVE
+unfoldable pub holdsTape : ℕ → Bool
+holdsTape state = choose (eqb state moverListening) true (eqb state moverActive)
+
+-- a mode that goes to tape, with a tape that is open read-only
+unfoldable pub unwritable : ℕ → Bool → Bool
+unwritable mode writable = choose (eqb mode toTapeMode) (not writable) false
