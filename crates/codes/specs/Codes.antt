@@ -98,10 +98,22 @@ senseBytes = 18
 abbrev pub mostListed : ℕ
 mostListed = 64
 
+-- "lists of up to 16 addresses"
+abbrev pub mostAddresses : ℕ
+mostAddresses = 16
+
+-- "a port above 65,535"
+abbrev pub mostPort : ℕ
+mostPort = 65535
+
 -- ---- what a client asks for
 -- "Address types other than LOCAL"
 abbrev pub localAddress : ℕ
 localAddress = 0
+
+-- "NDMP_ADDR_TCP", type 1
+abbrev pub tcpAddress : ℕ
+tcpAddress = 1
 
 -- "Auth type 1 (text)"
 abbrev pub textAuth : ℕ
@@ -127,5 +139,5 @@ pub record AsWritten : Type 0 where
   pub errors-are : errors ≡ 1 ∷ 3 ∷ 4 ∷ 5 ∷ 6 ∷ 7 ∷ 9 ∷ 12 ∷ 13 ∷ 15 ∷ 16 ∷ 18 ∷ 19 ∷ 23 ∷ 25 ∷ 26 ∷ []
   pub calls-are : shortOutput ∷ brokenSession ∷ [] ≡ 1001 ∷ 1002 ∷ []
   pub operations-are : mtioOperations ≡ 0 ∷ 1 ∷ 2 ∷ 3 ∷ 4 ∷ 5 ∷ 6 ∷ []
-  pub limits-are : largestMessage ∷ longestRecord ∷ senseBytes ∷ mostListed ∷ [] ≡ 36864 ∷ 32768 ∷ 18 ∷ 64 ∷ []
-  pub client-are : localAddress ∷ textAuth ∷ versionFour ∷ [] ≡ 0 ∷ 1 ∷ 4 ∷ []
+  pub limits-are : largestMessage ∷ longestRecord ∷ senseBytes ∷ mostListed ∷ mostAddresses ∷ mostPort ∷ [] ≡ 36864 ∷ 32768 ∷ 18 ∷ 64 ∷ 16 ∷ 65535 ∷ []
+  pub client-are : localAddress ∷ tcpAddress ∷ textAuth ∷ versionFour ∷ [] ≡ 0 ∷ 1 ∷ 1 ∷ 4 ∷ []

@@ -66,8 +66,15 @@ pub const SENSE_BYTES: u32 = 18;
 // The most pairs of an environment, and the most names of a recover.
 pub const MOST_LISTED: u32 = 64;
 
-// The address type LOCAL.
+// The most addresses of a list, and the highest port.
+pub const MOST_ADDRESSES: u32 = 16;
+
+pub const MOST_PORT: u32 = 65535;
+
+// The address types LOCAL and TCP.
 pub const LOCAL_ADDRESS: u32 = 0;
+
+pub const TCP_ADDRESS: u32 = 1;
 
 // The auth type of a login by text.
 pub const TEXT_AUTH: u32 = 1;

@@ -9,16 +9,18 @@ use lib.ListN.{length, take, drop, length-append}
 use lib.Dec.{eqb, leb}
 use borrow.Author.Tests.{le-leb, eq-eqb}
 use Rattle.xdr.specs.Choose.{choose}
+use Rattle.codes.specs.Codes.{mostPort}
 use Rattle.xdr.specs.Xdr as xdr
 use Rattle.xdr.proofs.Laws.{length-be32, length-be64}
 use Rattle.xdr_opaque.specs.Opaque.{opaqueAt}
 use Rattle.xdr_opaque.specs.Put.{opaque}
 use Rattle.xdr_opaque.proofs.Fields.{From, all-of, from-length, past, grouped, word-is, opaque-found, opaque-bytes, hyper-is}
-use Rattle.wire_layouts.specs.Layout.{Part, word, hyper, text, Field, one, many, tag, Item, four, eight, bytes, Value, value, itemBytes, valueBytes, writeAs, Piece}
-use Rattle.wire_layouts.specs.Layout.{piece, place, pieceOf, partAt, Got, got, cut, prepend, andPart, andGot, partsAt, timesAt, FieldGot, fieldGot, single, counted, fieldAt}
+use Rattle.wire_layouts.specs.Layout.{Part, Field, Item, four, eight, bytes, Value, value, itemBytes, valueBytes, writeAs, Piece}
+use Rattle.wire_layouts.specs.Layout.{piece, place, pieceOf, partAt, Got, got, cut, prepend, andPart, andGot, partsAt, timesAt, FieldGot, fieldGot, single, counted, listAt, itemsOf, elementAt}
+use Rattle.wire_layouts.specs.Layout.{fieldAt}
 use Rattle.wire_layouts.specs.Layout.{Read, whole, before, broken, andValue, andRead, readAs}
-use Rattle.wire_layouts.specs.Laws.{content, contents, PartFits, is-word, is-hyper, is-text, PartsFit, no-part, part-on, TimesFit, no-time, time-on, FieldFits, is-one}
-use Rattle.wire_layouts.specs.Laws.{is-many, is-tag, FieldsFit, no-field, field-on, FieldsRoundTrip}
+use Rattle.wire_layouts.specs.Laws.{content, contents, PartFits, is-word, is-hyper, is-text, is-port, PartsFit, no-part, part-on, TimesFit, no-time, time-on, ListFits, is-list}
+use Rattle.wire_layouts.specs.Laws.{ElementFits, is-element, FieldFits, is-one, is-many, is-lists, is-tag, FieldsFit, no-field, field-on, FieldsRoundTrip}
 use Rattle.wire_layouts.specs.declared.Text.{Text}
 
 abbrev itemsBytes : List (Item (List ℕ)) → List ℕ
@@ -65,6 +67,9 @@ module _ (b : List ℕ) where
       record { at-place = eight v; read = rw (le-leb (at + 8) (length b) n, ← hyper-is q v f h, length-be64); same = refl }
   part-back (is-text {s = s} h) at q f =
       record { at-place = bytes (place (at + 4) (length s)); read = rw (← opaque-found q s f h); same = rw (opaque-bytes q s f h) }
+  part-back (is-port {v = v} h) at q f =
+      let n : at + 4 ≤ length b = rw (from-length f, length-append, length-be32) (omega arith) in
+      record { at-place = four v; read = rw (le-leb (at + 4) (length b) n, ← word-is q v f (omega arith), le-leb v mostPort h, length-be32); same = refl }
 
   parts-back : {ps : List Part} {is : List (Item (List ℕ))} → PartsFit ps is → (at : ℕ) (q : List ℕ) → From b at (itemsBytes is ++ q) → GotBack at is (partsAt ps b at)
   unfolding partsAt andPart prepend flatMap
@@ -75,19 +80,52 @@ module _ (b : List ℕ) where
       let s = parts-back hs (at + length (itemBytes i)) q (past (itemBytes i) f₁) in
       record { places = r .at-place ∷ s .places; read = rw (r .read, s .read, length-append, ← add-assoc); same = cc (r .same, s .same) }
 
-  times-back : {ps : List Part} {n : ℕ} {is : List (Item (List ℕ))} → TimesFit ps n is → (at : ℕ) (q : List ℕ) → From b at (itemsBytes is ++ q) → GotBack at is (timesAt ps n b at)
-  unfolding timesAt andGot prepend flatMap
-  times-back no-time at q f = record { places = []; read = rw add-zero; same = refl }
-  times-back (time-on {is = is} {js = js} h hs) at q f =
-      let f₁ = grouped q (itemsBytes is) (itemsBytes js) (rw (bytes-append is js) at f) in
-      let r = parts-back h at (itemsBytes js ++ q) f₁ in
-      let s = times-back hs (at + length (itemsBytes is)) q (past (itemsBytes is) f₁) in
+  -- one behind another
+  and-back : (at : ℕ) (is js : List (Item (List ℕ))) {g : Got} (F : ℕ → Got) → GotBack at is g
+      → GotBack (at + length (itemsBytes is)) js (F (at + length (itemsBytes is))) → GotBack at (is ++ js) (andGot g F)
+  unfolding andGot prepend
+  and-back at is js F r s =
       record {
         places =
             r .places ++ s .places;
         read = rw (r .read, s .read, bytes-append is js, length-append, ← add-assoc);
         same = content-append b (r .places) (s .places) ∙ rw (r .same, s .same);
       }
+
+  -- what an element reads back wherever it stands
+  abbrev Back : (List (Item (List ℕ)) → Type 0) → (ℕ → Got) → Type 0
+  Back Fits element = (is : List (Item (List ℕ))) → Fits is → (at : ℕ) (q : List ℕ) → From b at (itemsBytes is ++ q) → GotBack at is (element at)
+
+  times-back : (Fits : List (Item (List ℕ)) → Type 0) (element : ℕ → Got) → Back Fits element → {n : ℕ} {is : List (Item (List ℕ))} → TimesFit Fits n is
+      → (at : ℕ) (q : List ℕ) → From b at (itemsBytes is ++ q) → GotBack at is (timesAt element n at)
+  unfolding timesAt flatMap
+  times-back Fits element each no-time at q f = record { places = []; read = rw add-zero; same = refl }
+  times-back Fits element each (time-on {n = n} {is = is} {js = js} h hs) at q f =
+      let f₁ = grouped q (itemsBytes is) (itemsBytes js) (rw (bytes-append is js) at f) in
+      and-back at is js (timesAt element n) (each is h at (itemsBytes js ++ q) f₁)
+      (times-back Fits element each hs (at + length (itemsBytes is)) q (past (itemsBytes is) f₁))
+
+  list-back : (most : ℕ) (Fits : List (Item (List ℕ)) → Type 0) (element : ℕ → Got) → Back Fits element → {v : Value (List ℕ)} → ListFits most Fits v
+      → (at : ℕ) (q : List ℕ) → From b at (valueBytes v ++ q) → FieldBack at v (listAt most element b at)
+  unfolding counted choose
+  list-back most Fits element each (is-list {n = n} {is = is} m h hs) at q f =
+      let f₁ = grouped q (xdr.be32 n) (itemsBytes is) f in
+      let k : at + 4 ≤ length b = rw (from-length f₁, length-append, length-be32) (omega arith) in
+      let e : n ≡ xdr.word b at = word-is (itemsBytes is ++ q) n f₁ (omega arith) in
+      let r = times-back Fits element each hs (at + 4) q (rw length-be32 at (past (xdr.be32 n) f₁)) in
+      record { places = value (four n) (r .places); read = rw (le-leb (at + 4) (length b) k, ← e, le-leb n most h, r .read, length-append, length-be32, ← add-assoc); same = cc (r .same) }
+
+  items-back : (at : ℕ) (v : Value (List ℕ)) {g : FieldGot} → FieldBack at v g → GotBack at (v .first ∷ v .others) (itemsOf g)
+  unfolding itemsOf flatMap
+  items-back at v r = record { places = r .places .first ∷ r .places .others; read = rw (r .read); same = cc (r .same) }
+
+  element-back : (ps : List Part) (inner : ℕ) (qs : List Part) → Back (ElementFits ps inner qs) (elementAt ps inner qs b)
+  unfolding elementAt flatMap
+  element-back ps inner qs _ (is-element {is = is} {v = v} h hs) at q f =
+      let f₁ = grouped q (itemsBytes is) (valueBytes v) (rw (bytes-append is (v .first ∷ v .others)) at f) in
+      and-back at is (v .first ∷ v .others) (λ (x : ℕ). itemsOf (listAt inner (partsAt qs b) b x)) (parts-back h at (valueBytes v ++ q) f₁)
+      (items-back (at + length (itemsBytes is)) v
+      (list-back inner (PartsFit qs) (partsAt qs b) (λ _ k. parts-back k) hs (at + length (itemsBytes is)) q (past (itemsBytes is) f₁)))
 
   one-back : (at : ℕ) (i : Item (List ℕ)) {r : Piece} → PartBack at i r → FieldBack at (value i []) (single r)
   unfolding single flatMap
@@ -97,12 +135,9 @@ module _ (b : List ℕ) where
   field-back : {f : Field} {v : Value (List ℕ)} → FieldFits f v → (at : ℕ) (q : List ℕ) → From b at (valueBytes v ++ q) → FieldBack at v (fieldAt f b at)
   unfolding fieldAt single counted choose flatMap
   field-back (is-one {i = i} h) at q f = one-back at i (part-back h at q (rw (← append-nil (itemBytes i)) f))
-  field-back (is-many {most = most} {n = n} {is = is} m h hs) at q f =
-      let f₁ = grouped q (xdr.be32 n) (itemsBytes is) f in
-      let k : at + 4 ≤ length b = rw (from-length f₁, length-append, length-be32) (omega arith) in
-      let e : n ≡ xdr.word b at = word-is (itemsBytes is ++ q) n f₁ (omega arith) in
-      let r = times-back hs (at + 4) q (rw length-be32 at (past (xdr.be32 n) f₁)) in
-      record { places = value (four n) (r .places); read = rw (le-leb (at + 4) (length b) k, ← e, le-leb n most h, r .read, length-append, length-be32, ← add-assoc); same = cc (r .same) }
+  field-back (is-many {most = most} {ps = ps} h) at q f = list-back most (PartsFit ps) (partsAt ps b) (λ _ k. parts-back k) h at q f
+  field-back (is-lists {most = most} {inner = inner} {ps = ps} {qs = qs} h) at q f =
+      list-back most (ElementFits ps inner qs) (elementAt ps inner qs b) (element-back ps inner qs) h at q f
   field-back (is-tag {k = k} h) at q f =
       let f₁ : From b at (xdr.be32 k ++ q) = rw (← append-nil (xdr.be32 k)) f in
       let n : at + 4 ≤ length b = rw (from-length f₁, length-append, length-be32) (omega arith) in

@@ -10,6 +10,7 @@ use lib.ListN.{length, drop, getD, drop-of-length-le}
 use lib.Seq.{drop-cons}
 use lib.Dec.{eqb, leb}
 use borrow.Author.Tests.{le-leb, lt-leb, leb-true, leb-false, eq-eqb, ne-eqb}
+use Rattle.codes.specs.Codes.{mostPort}
 use Rattle.xdr.specs.Choose.{choose}
 use Rattle.xdr.specs.Xdr as xdr
 use Rattle.xdr_opaque.specs.Opaque as o
@@ -19,10 +20,10 @@ use Rattle.xdr_opaque.specs.declared.Opaque.the-variants as Opaque
 use Rattle.wire_layouts.specs.declared.After.{After}
 use Rattle.wire_layouts.specs.declared.After.the-variants as After
 use Rattle.xdr_opaque.proofs.Laws.{word-within, word-missing}
-use Rattle.wire_layouts.specs.Layout.{Part, word, hyper, text, Field, one, many, tag, never, Item, four, eight, bytes, Value, value, place, Piece, piece, short, pieceOf}
-use Rattle.wire_layouts.specs.Layout.{partAt, Got, got, cut, prepend, andPart, andGot, partsAt, timesAt, FieldGot, fieldGot, stop, bad, single, counted, fieldAt, Read, whole}
+use Rattle.wire_layouts.specs.Layout.{Part, word, hyper, text, port, one, tag, never, Item, four, eight, bytes, Value, value, place, Piece, piece, short, pieceOf}
+use Rattle.wire_layouts.specs.Layout.{partAt, Got, got, cut, prepend, andPart, andGot, partsAt, timesAt, FieldGot, fieldGot, stop, bad, single, counted, listAt, itemsOf, elementAt, fieldAt, Read, whole}
 use Rattle.wire_layouts.specs.Layout.{before, broken, andValue, andRead, readAs}
-use Rattle.wire_layouts.specs.Scans.{fieldOf, partOf, past, forget, fieldSeen, emptyScan, put, puts, summed, scanned}
+use Rattle.wire_layouts.specs.Scans.{fieldOf, partOf, past, forget, fieldSeen, afterSeen, emptyScan, put, puts, summed, scanned}
 use Rattle.wire_layouts.specs.declared.Text.{Text}
 use Rattle.wire_layouts.specs.declared.Scan.{Scan}
 use Rattle.wire_layouts.specs.declared.Seen.{Seen}
@@ -70,18 +71,18 @@ module _ (l : List ℕ) (b : List ℕ) (i at : ℕ) where
   parts-none h = rw (drop-of-length-le l h)
 
 -- the elements that are left
-module _ (ps : List Part) (b : List ℕ) (at : ℕ) where
-  pub times-more : (n x : ℕ) → 0 < n → After.Next x ≡ forget (partsAt ps b at) → forget (timesAt ps n b at) ≡ forget (timesAt ps (n - 1) b x)
+module _ (element : ℕ → Got) (at : ℕ) where
+  pub times-more : (n x : ℕ) → 0 < n → After.Next x ≡ forget (element at) → forget (timesAt element n at) ≡ forget (timesAt element (n - 1) x)
   unfolding timesAt
   times-more zero x h e = absurd (not-suc-le-zero h)
-  times-more (suc n) x h e = let k : suc n - 1 ≡ n = omega arith in rw k (forget-got (partsAt ps b at) (timesAt ps n b) x e)
+  times-more (suc n) x h e = let k : suc n - 1 ≡ n = omega arith in rw k (forget-got (element at) (timesAt element n) x e)
 
-  pub times-short : (n : ℕ) → 0 < n → After.Short ≡ forget (partsAt ps b at) → After.Short ≡ forget (timesAt ps n b at)
+  pub times-short : (n : ℕ) → 0 < n → After.Short ≡ forget (element at) → After.Short ≡ forget (timesAt element n at)
   unfolding timesAt
   times-short zero h e = absurd (not-suc-le-zero h)
-  times-short (suc n) h e = forget-cut (partsAt ps b at) (timesAt ps n b) e
+  times-short (suc n) h e = forget-cut (element at) (timesAt element n) e
 
-  pub times-none : (n : ℕ) → n ≤ 0 → After.Next at ≡ forget (timesAt ps n b at)
+  pub times-none : (n : ℕ) → n ≤ 0 → After.Next at ≡ forget (timesAt element n at)
   unfolding timesAt forget
   times-none zero h = refl
   times-none (suc n) h = absurd (not-suc-le-zero h)
@@ -135,23 +136,23 @@ module _ (b : List ℕ) (at : ℕ) where
   misses-tag k e = rw (lt-leb (at + 4) (length b) (word-missing b at e))
 
   -- ---- a counted list
-  module _ (most : ℕ) (ps : List Part) where
-    pub misses-count : Word.Short ≡ o.wordAt b at → Seen.Bad ≡ fieldSeen (fieldAt (many most ps) b at)
-    unfolding fieldSeen fieldAt choose
+  module _ (most : ℕ) (element : ℕ → Got) where
+    pub misses-count : Word.Short ≡ o.wordAt b at → Seen.Bad ≡ fieldSeen (listAt most element b at)
+    unfolding fieldSeen choose
     misses-count e = rw (lt-leb (at + 4) (length b) (word-missing b at e))
 
-    pub too-many : (n : ℕ) → Word.Value n ≡ o.wordAt b at → most < n → Seen.Bad ≡ fieldSeen (fieldAt (many most ps) b at)
-    unfolding fieldSeen fieldAt choose
+    pub too-many : (n : ℕ) → Word.Value n ≡ o.wordAt b at → most < n → Seen.Bad ≡ fieldSeen (listAt most element b at)
+    unfolding fieldSeen choose
     too-many n e h = let w = word-within b at n e in rw (le-leb (at + 4) (length b) (w .0), ← w .1, lt-leb n most h)
 
     pub misses-list : (n : ℕ) → Word.Value n ≡ o.wordAt b at → n ≤ most
-        → After.Short ≡ forget (timesAt ps n b (at + 4)) → Seen.Bad ≡ fieldSeen (fieldAt (many most ps) b at)
-    unfolding fieldAt choose
-    misses-list n e h k = let w = word-within b at n e in rw (le-leb (at + 4) (length b) (w .0), ← w .1, le-leb n most h) (seen-cut n (timesAt ps n b (at + 4)) k)
+        → After.Short ≡ forget (timesAt element n (at + 4)) → Seen.Bad ≡ fieldSeen (listAt most element b at)
+    unfolding choose
+    misses-list n e h k = let w = word-within b at n e in rw (le-leb (at + 4) (length b) (w .0), ← w .1, le-leb n most h) (seen-cut n (timesAt element n (at + 4)) k)
 
-    pub sees-list : (n x : ℕ) → Word.Value n ≡ o.wordAt b at → n ≤ most → After.Next x ≡ forget (timesAt ps n b (at + 4)) → Seen.Word n x ≡ fieldSeen (fieldAt (many most ps) b at)
-    unfolding fieldAt choose
-    sees-list n x e h k = let w = word-within b at n e in rw (le-leb (at + 4) (length b) (w .0), ← w .1, le-leb n most h) (seen-counted n (timesAt ps n b (at + 4)) x k)
+    pub sees-list : (n x : ℕ) → Word.Value n ≡ o.wordAt b at → n ≤ most → After.Next x ≡ forget (timesAt element n (at + 4)) → Seen.Word n x ≡ fieldSeen (listAt most element b at)
+    unfolding choose
+    sees-list n x e h k = let w = word-within b at n e in rw (le-leb (at + 4) (length b) (w .0), ← w .1, le-leb n most h) (seen-counted n (timesAt element n (at + 4)) x k)
 
 -- a part that is passed over
 module _ (b : List ℕ) (at : ℕ) where
@@ -171,22 +172,55 @@ module _ (b : List ℕ) (at : ℕ) where
   unfolding past partAt choose
   short-hyper h = rw (lt-leb (at + 8) (length b) h)
 
-  pub passes-text : (c s n x : ℕ) → (c ≡ 119 → ⊥) → (c ≡ 104 → ⊥) → Opaque.At s n x ≡ o.opaqueAt b at → After.Next x ≡ past (partAt (partOf c) b at)
-  unfolding past partAt pieceOf
-  passes-text c s n x w h e = rw (ne-eqb c 119 w, ne-eqb c 104 h, ← e)
+  pub passes-port : (v : ℕ) → Word.Value v ≡ o.wordAt b at → v ≤ mostPort → After.Next (at + 4) ≡ past (partAt port b at)
+  unfolding past partAt choose
+  passes-port v e h = let w = word-within b at v e in rw (le-leb (at + 4) (length b) (w .0), ← w .1, le-leb v mostPort h)
 
-  pub short-text : (c : ℕ) → (c ≡ 119 → ⊥) → (c ≡ 104 → ⊥) → Opaque.Bad ≡ o.opaqueAt b at → After.Short ≡ past (partAt (partOf c) b at)
-  unfolding past partAt pieceOf
-  short-text c w h e = rw (ne-eqb c 119 w, ne-eqb c 104 h, ← e)
+  pub short-port : Word.Short ≡ o.wordAt b at → After.Short ≡ past (partAt port b at)
+  unfolding past partAt choose
+  short-port e = rw (lt-leb (at + 4) (length b) (word-missing b at e))
 
-other-letter : (c : ℕ) → (c ≡ 119 → ⊥) → (c ≡ 104 → ⊥) → (c ≡ 116 → ⊥) → (c ≡ 112 → ⊥) → (c ≡ 110 → ⊥) → (c ≡ 97 → ⊥) → (c ≡ 117 → ⊥)
-    → never ≡ fieldOf c
-other-letter c w h t p n a u = rw (ne-eqb c 119 w, ne-eqb c 104 h, ne-eqb c 116 t, ne-eqb c 112 p, ne-eqb c 110 n, ne-eqb c 97 a, ne-eqb c 117 u)
+  pub no-port : (v : ℕ) → Word.Value v ≡ o.wordAt b at → mostPort < v → After.Short ≡ past (partAt port b at)
+  unfolding past partAt choose
+  no-port v e h = let w = word-within b at v e in rw (le-leb (at + 4) (length b) (w .0), ← w .1, lt-leb v mostPort h)
 
-pub unknown : (c : ℕ) (b : List ℕ) (at : ℕ) → (c ≡ 119 → ⊥) → (c ≡ 104 → ⊥) → (c ≡ 116 → ⊥) → (c ≡ 112 → ⊥) → (c ≡ 110 → ⊥) → (c ≡ 97 → ⊥)
-    → (c ≡ 117 → ⊥) → Seen.Bad ≡ fieldSeen (fieldAt (fieldOf c) b at)
-unfolding fieldSeen fieldAt
-unknown c b at w h t p n a u = rw (← other-letter c w h t p n a u)
+  module _ (c : ℕ) (w : c ≡ 119 → ⊥) (h : c ≡ 104 → ⊥) (p : c ≡ 115 → ⊥) where
+    pub passes-text : (s n x : ℕ) → Opaque.At s n x ≡ o.opaqueAt b at → After.Next x ≡ past (partAt (partOf c) b at)
+    unfolding past partAt pieceOf
+    passes-text s n x e = rw (ne-eqb c 119 w, ne-eqb c 104 h, ne-eqb c 115 p, ← e)
+
+    pub short-text : Opaque.Bad ≡ o.opaqueAt b at → After.Short ≡ past (partAt (partOf c) b at)
+    unfolding past partAt pieceOf
+    short-text e = rw (ne-eqb c 119 w, ne-eqb c 104 h, ne-eqb c 115 p, ← e)
+
+-- ---- an address
+after-items : (g : FieldGot) → afterSeen (fieldSeen g) ≡ forget (itemsOf g)
+unfolding afterSeen fieldSeen forget itemsOf
+after-items (fieldGot (four v) is x) = refl
+after-items (fieldGot (eight v) is x) = refl
+after-items (fieldGot (bytes t) is x) = refl
+after-items (stop v) = refl
+after-items bad = refl
+
+module _ (ps : List Part) (inner : ℕ) (qs : List Part) (b : List ℕ) (at : ℕ) where
+  pub element-short : After.Short ≡ forget (partsAt ps b at) → After.Short ≡ forget (elementAt ps inner qs b at)
+  unfolding elementAt
+  element-short e = forget-cut (partsAt ps b at) (λ (x : ℕ). itemsOf (listAt inner (partsAt qs b) b x)) e
+
+  pub element-then : (x : ℕ) → After.Next x ≡ forget (partsAt ps b at) → afterSeen (fieldSeen (listAt inner (partsAt qs b) b x)) ≡ forget (elementAt ps inner qs b at)
+  unfolding elementAt
+  element-then x e =
+      after-items (listAt inner (partsAt qs b) b x) ∙ sym (forget-got (partsAt ps b at) (λ (y : ℕ). itemsOf (listAt inner (partsAt qs b) b y)) x e)
+
+-- ---- a letter that no field has
+module _ (c : ℕ) (w : c ≡ 119 → ⊥) (h : c ≡ 104 → ⊥) (t : c ≡ 116 → ⊥) (p : c ≡ 112 → ⊥) (n : c ≡ 110 → ⊥) (a : c ≡ 97 → ⊥) (u : c ≡ 117 → ⊥)
+    (i : c ≡ 105 → ⊥) (l : c ≡ 108 → ⊥) where
+  other-letter : never ≡ fieldOf c
+  other-letter = rw (ne-eqb c 119 w, ne-eqb c 104 h, ne-eqb c 116 t, ne-eqb c 112 p, ne-eqb c 110 n, ne-eqb c 97 a, ne-eqb c 117 u, ne-eqb c 105 i, ne-eqb c 108 l)
+
+  pub unknown : (b : List ℕ) (at : ℕ) → Seen.Bad ≡ fieldSeen (fieldAt (fieldOf c) b at)
+  unfolding fieldSeen fieldAt
+  unknown b at = rw (← other-letter)
 
 -- ---- the scan
 summed-first : (i : ℕ) (k : Scan) (v : Value Text) (r : Read) → summed i k (andValue v r) ≡ summed (suc i) (put i (v .first) k) r

@@ -9,6 +9,7 @@ use lib.Seq.{drop-cons, drop-drop, length-take-le}
 use lib.Dec.{eqb, leb}
 use borrow.Author.Tests.{leb-true, eqb-true}
 use Rattle.xdr.specs.Choose.{choose}
+use Rattle.codes.specs.Codes.{mostPort}
 use Rattle.xdr.specs.Xdr as xdr
 use Rattle.xdr.proofs.Tests.{by-test}
 use Rattle.xdr_opaque.specs.Opaque.{opaqueAt, between, filled, allZero}
@@ -16,9 +17,9 @@ use Rattle.xdr_opaque.specs.Put.{opaque, fill}
 use Rattle.xdr_opaque.specs.declared.Opaque.{Opaque}
 use Rattle.xdr_opaque.specs.declared.Opaque.the-variants as Opaque
 use Rattle.xdr_opaque.proofs.Laws.{Found, opaque-read, zero-is, filled-fill}
-use Rattle.wire_layouts.specs.Layout.{Part, word, hyper, text, Field, one, many, tag, never, Item, four, eight, bytes, Value, value, itemBytes, valueBytes, writeAs}
+use Rattle.wire_layouts.specs.Layout.{Part, word, hyper, text, port, Field, one, many, lists, tag, never, Item, four, eight, bytes, Value, value, itemBytes, valueBytes, writeAs}
 use Rattle.wire_layouts.specs.Layout.{Piece, piece, short, place, pieceOf, partAt, Got, got, cut, prepend, andPart, andGot, partsAt, timesAt, FieldGot, fieldGot, stop, bad}
-use Rattle.wire_layouts.specs.Layout.{single, counted, fieldAt, Read, whole, before, broken, andValue, andRead, readAs}
+use Rattle.wire_layouts.specs.Layout.{single, counted, listAt, itemsOf, elementAt, fieldAt, Read, whole, before, broken, andValue, andRead, readAs}
 use Rattle.wire_layouts.specs.Laws.{Bytes, content, contents, Spelled, FieldsOneSpelling}
 use Rattle.wire_layouts.specs.declared.Text.{Text}
 
@@ -125,6 +126,10 @@ module _ (b : List ℕ) where
     part-spelled word at = by-test (PieceSpelled at) (leb (at + 4) (length b)) _ _ (λ e. word-spelled b h at (leb-true _ _ e)) (λ e. tt)
     part-spelled hyper at = by-test (PieceSpelled at) (leb (at + 8) (length b)) _ _ (λ e. hyper-spelled b h at (leb-true _ _ e)) (λ e. tt)
     part-spelled text at = found-spelled at (opaqueAt b at) refl
+    part-spelled port at =
+        by-test (PieceSpelled at) (leb (at + 4) (length b)) _ _
+        (λ e. by-test (PieceSpelled at) (leb (xdr.word b at) mostPort) _ _ (λ _. word-spelled b h at (leb-true _ _ e)) (λ _. tt))
+        (λ e. tt)
 
   prepend-spelled : (at mid : ℕ) (is : List (Item Text)) (g : Got) → drop at b ≡ written is ++ drop mid b → GotSpelled mid g → GotSpelled at (prepend is g)
   unfolding GotSpelled prepend
@@ -151,6 +156,12 @@ module _ (b : List ℕ) where
   counted-spelled at n (got is x) e k = e ∙ rw k (sym (append-assoc (xdr.be32 n) (written is) (drop x b)))
   counted-spelled at n cut e k = tt
 
+  items-spelled : (at : ℕ) (g : FieldGot) → GivenSpelled at g → GotSpelled at (itemsOf g)
+  unfolding GotSpelled GivenSpelled itemsOf written flatMap
+  items-spelled at (fieldGot i is x) e = e
+  items-spelled at (stop v) e = tt
+  items-spelled at bad e = tt
+
   first-spelled : (at mid : ℕ) (i : Item Text) (is : List (Item Text)) (r : Read) → drop at b ≡ (itemBytes (content b i) ++ written is) ++ drop mid b → ReadSpelled mid r
       → ReadSpelled at (andValue (value i is) r)
   unfolding ReadSpelled andValue writeAs written flatMap
@@ -170,20 +181,33 @@ module _ (b : List ℕ) where
     parts-spelled [] at = refl
     parts-spelled (p ∷ ps) at = and-part-spelled at (partAt p b at) (partsAt ps b) (part-spelled h p at) (parts-spelled ps)
 
-    times-spelled : (ps : List Part) (n at : ℕ) → GotSpelled at (timesAt ps n b at)
-    unfolding GotSpelled timesAt written flatMap
-    times-spelled ps zero at = refl
-    times-spelled ps (suc n) at = and-got-spelled at (partsAt ps b at) (timesAt ps n b) (parts-spelled ps at) (times-spelled ps n)
+    -- lists of elements that are spelled wherever they stand
+    module _ (element : ℕ → Got) (each : (x : ℕ) → GotSpelled x (element x)) where
+      times-spelled : (n at : ℕ) → GotSpelled at (timesAt element n at)
+      unfolding GotSpelled timesAt written flatMap
+      times-spelled zero at = refl
+      times-spelled (suc n) at = and-got-spelled at (element at) (timesAt element n) (each at) (times-spelled n)
+
+      list-spelled : (most at : ℕ) → GivenSpelled at (listAt most element b at)
+      unfolding GivenSpelled
+      list-spelled most at =
+          by-test (GivenSpelled at) (leb (at + 4) (length b)) _ _
+          (λ e. by-test (GivenSpelled at) (leb (xdr.word b at) most) _ _
+          (λ k. counted-spelled at (xdr.word b at) (timesAt element (xdr.word b at) (at + 4)) (word-spelled b h at (leb-true _ _ e)) (times-spelled (xdr.word b at) (at + 4)))
+          (λ k. tt))
+          (λ e. tt)
+
+    element-spelled : (ps : List Part) (inner : ℕ) (qs : List Part) (at : ℕ) → GotSpelled at (elementAt ps inner qs b at)
+    unfolding elementAt
+    element-spelled ps inner qs at =
+        and-got-spelled at (partsAt ps b at) (λ (x : ℕ). itemsOf (listAt inner (partsAt qs b) b x)) (parts-spelled ps at)
+        (λ x. items-spelled x (listAt inner (partsAt qs b) b x) (list-spelled (partsAt qs b) (parts-spelled qs) inner x))
 
     field-spelled : (f : Field) (at : ℕ) → GivenSpelled at (fieldAt f b at)
     unfolding GivenSpelled fieldAt written flatMap
     field-spelled (one p) at = single-spelled at (partAt p b at) (part-spelled h p at)
-    field-spelled (many most ps) at =
-        by-test (GivenSpelled at) (leb (at + 4) (length b)) _ _
-        (λ e. by-test (GivenSpelled at) (leb (xdr.word b at) most) _ _
-        (λ k. counted-spelled at (xdr.word b at) (timesAt ps (xdr.word b at) b (at + 4)) (word-spelled b h at (leb-true _ _ e)) (times-spelled ps (xdr.word b at) (at + 4)))
-        (λ k. tt))
-        (λ e. tt)
+    field-spelled (many most ps) at = list-spelled (partsAt ps b) (parts-spelled ps) most at
+    field-spelled (lists most ps inner qs) at = list-spelled (elementAt ps inner qs b) (element-spelled ps inner qs) most at
     field-spelled (tag k) at =
         by-test (GivenSpelled at) (leb (at + 4) (length b)) _ _
         (λ e. by-test (GivenSpelled at) (eqb (xdr.word b at) k) _ _ (λ i. rw append-nil (word-spelled b h at (leb-true _ _ e))) (λ i. tt))

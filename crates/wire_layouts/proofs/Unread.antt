@@ -6,11 +6,12 @@ use mathlib.Core.Logic.{_⊎_, inl, inr}
 use lib.ListN.{length}
 use lib.Dec.{eqb, leb}
 use borrow.Author.Tests.{eqb-false}
+use Rattle.codes.specs.Codes.{mostPort}
 use Rattle.xdr.specs.Xdr as xdr
 use Rattle.xdr.proofs.Tests.{by-test}
 use Rattle.xdr_opaque.specs.Opaque.{opaqueAt}
-use Rattle.wire_layouts.specs.Layout.{Part, word, hyper, text, Field, one, many, tag, never, Item, Value, value, Piece, piece, short, pieceOf, partAt, Got, got, cut}
-use Rattle.wire_layouts.specs.Layout.{timesAt, FieldGot, fieldGot, stop, bad, single, counted}
+use Rattle.wire_layouts.specs.Layout.{Part, word, hyper, text, port, Field, one, many, lists, tag, never, Item, Value, value, Piece, piece, short, pieceOf, partAt, Got, got, cut}
+use Rattle.wire_layouts.specs.Layout.{partsAt, timesAt, FieldGot, fieldGot, stop, bad, single, counted, listAt, elementAt}
 use Rattle.wire_layouts.specs.Layout.{fieldAt, Read, whole, before, broken, andValue, andRead, readAs}
 use Rattle.wire_layouts.specs.Laws.{HasTag, Stops, UnreadRests}
 use Rattle.wire_layouts.specs.declared.Text.{Text}
@@ -78,11 +79,11 @@ module _ (b : List ℕ) where
   unfolding fieldAt
   one-on p at = single-on (partAt p b at)
 
-  many-on : (most : ℕ) (ps : List Part) (at : ℕ) → On (fieldAt (many most ps) b at)
-  unfolding fieldAt On
-  many-on most ps at =
+  list-on : (most : ℕ) (element : ℕ → Got) (at : ℕ) → On (listAt most element b at)
+  unfolding On
+  list-on most element at =
       by-test On (leb (at + 4) (length b)) _ _
-      (λ _. by-test On (leb (xdr.word b at) most) _ _ (λ _. counted-on (xdr.word b at) (timesAt ps (xdr.word b at) b (at + 4))) (λ _. tt))
+      (λ _. by-test On (leb (xdr.word b at) most) _ _ (λ _. counted-on (xdr.word b at) (timesAt element (xdr.word b at) (at + 4))) (λ _. tt))
       (λ _. tt)
 
   word-on : (at : ℕ) → OnAt (at + 4) (fieldAt (one word) b at)
@@ -93,12 +94,20 @@ module _ (b : List ℕ) where
   unfolding fieldAt OnAt partAt single
   hyper-on at = by-test (λ (r : Piece). OnAt (at + 8) (single r)) (leb (at + 8) (length b)) _ _ (λ _. refl) (λ _. tt)
 
+  port-on : (at : ℕ) → OnAt (at + 4) (fieldAt (one port) b at)
+  unfolding fieldAt OnAt partAt single
+  port-on at =
+      let P : Piece → Type 0 = λ r. OnAt (at + 4) (single r) in
+      by-test P (leb (at + 4) (length b)) _ _ (λ _. by-test P (leb (xdr.word b at) mostPort) _ _ (λ _. refl) (λ _. tt)) (λ _. tt)
+
   -- ---- all fields
   any-unread : (fs : List Field) (at : ℕ) → Unread (HasTag fs) (readAs fs b at)
   unfolding readAs Unread fieldAt andRead
   any-unread [] at = by-test (Unread ⊥) (eqb at (length b)) _ _ (λ _. tt) (λ _. tt)
   any-unread (one p ∷ fs) at = on-anywhere (HasTag fs) (fieldAt (one p) b at) (readAs fs b) (one-on p at) (any-unread fs)
-  any-unread (many most ps ∷ fs) at = on-anywhere (HasTag fs) (fieldAt (many most ps) b at) (readAs fs b) (many-on most ps at) (any-unread fs)
+  any-unread (many most ps ∷ fs) at = on-anywhere (HasTag fs) (fieldAt (many most ps) b at) (readAs fs b) (list-on most (partsAt ps b) at) (any-unread fs)
+  any-unread (lists most ps inner qs ∷ fs) at =
+      on-anywhere (HasTag fs) (fieldAt (lists most ps inner qs) b at) (readAs fs b) (list-on most (elementAt ps inner qs b) at) (any-unread fs)
   any-unread (tag k ∷ fs) at = any (readAs (tag k ∷ fs) b at)
   any-unread (never ∷ fs) at = tt
 
@@ -117,7 +126,9 @@ module _ (b : List ℕ) where
   read-unread (one word ∷ fs) at = on-at (Stops fs b (at + 4)) (at + 4) (fieldAt (one word) b at) (readAs fs b) (word-on at) (read-unread fs (at + 4))
   read-unread (one hyper ∷ fs) at = on-at (Stops fs b (at + 8)) (at + 8) (fieldAt (one hyper) b at) (readAs fs b) (hyper-on at) (read-unread fs (at + 8))
   read-unread (one text ∷ fs) at = on-anywhere (HasTag fs) (fieldAt (one text) b at) (readAs fs b) (one-on text at) (any-unread fs)
-  read-unread (many most ps ∷ fs) at = on-anywhere (HasTag fs) (fieldAt (many most ps) b at) (readAs fs b) (many-on most ps at) (any-unread fs)
+  read-unread (one port ∷ fs) at = on-at (Stops fs b (at + 4)) (at + 4) (fieldAt (one port) b at) (readAs fs b) (port-on at) (read-unread fs (at + 4))
+  read-unread (many most ps ∷ fs) at = any-unread (many most ps ∷ fs) at
+  read-unread (lists most ps inner qs ∷ fs) at = any-unread (lists most ps inner qs ∷ fs) at
   read-unread (tag k ∷ fs) at = tag-unread (Stops fs b (at + 4)) k at (readAs fs b) (read-unread fs (at + 4))
   read-unread (never ∷ fs) at = tt
 

@@ -7,14 +7,15 @@ use native.Mathlib.Omega.{arith}
 use lib.ListN.{length, getD, set, replicate, length-set}
 use lib.Dec.{eqb, leb}
 use Rattle.xdr.specs.Choose.{choose}
+use Rattle.codes.specs.Codes.{mostPort}
 use Rattle.xdr.specs.Xdr as xdr
 use Rattle.xdr.proofs.Tests.{by-test}
 use Rattle.xdr_opaque.specs.Opaque.{opaqueAt}
 use Rattle.xdr_opaque.specs.declared.Opaque.{Opaque}
 use Rattle.xdr_opaque.specs.declared.Opaque.the-variants as Opaque
 use Rattle.xdr_opaque.proofs.Laws.{opaque-within}
-use Rattle.wire_layouts.specs.Layout.{Part, word, hyper, text, Field, one, many, tag, never, Item, four, eight, bytes, Value, value, Piece, piece, short, pieceOf, partAt}
-use Rattle.wire_layouts.specs.Layout.{Got, got, cut, timesAt, FieldGot, fieldGot, stop, bad, single, counted, fieldAt, Read, whole, before, broken, andValue, andRead, readAs}
+use Rattle.wire_layouts.specs.Layout.{Part, word, hyper, text, port, Field, one, many, lists, tag, never, Item, four, eight, bytes, Value, value, Piece, piece, short, pieceOf, partAt}
+use Rattle.wire_layouts.specs.Layout.{Got, got, cut, partsAt, timesAt, FieldGot, fieldGot, stop, bad, single, counted, listAt, elementAt, fieldAt, Read, whole, before, broken, andValue, andRead, readAs}
 use Rattle.wire_layouts.specs.Scans.{emptyScan, put, puts, summed, scanned}
 use Rattle.wire_layouts.specs.declared.Text.{Text}
 use Rattle.wire_layouts.specs.declared.Scan.{Scan}
@@ -87,6 +88,7 @@ module _ (b : List ℕ) where
   part-in word at = by-test PieceIn (leb (at + 4) (length b)) _ _ (λ e. tt) (λ e. tt)
   part-in hyper at = by-test PieceIn (leb (at + 8) (length b)) _ _ (λ e. tt) (λ e. tt)
   part-in text at = found-in at (opaqueAt b at) refl
+  part-in port at = by-test PieceIn (leb (at + 4) (length b)) _ _ (λ e. by-test PieceIn (leb (xdr.word b at) mostPort) _ _ (λ k. tt) (λ k. tt)) (λ e. tt)
 
   single-in : (r : Piece) → PieceIn r → GivenIn (single r)
   unfolding PieceIn GivenIn single
@@ -98,12 +100,17 @@ module _ (b : List ℕ) where
   counted-in n (got is x) = tt
   counted-in n cut = tt
 
+  list-in : (most : ℕ) (element : ℕ → Got) (at : ℕ) → GivenIn (listAt most element b at)
+  unfolding GivenIn
+  list-in most element at =
+      by-test GivenIn (leb (at + 4) (length b)) _ _ (λ e. by-test GivenIn (leb (xdr.word b at) most) _ _
+      (λ k. counted-in (xdr.word b at) (timesAt element (xdr.word b at) (at + 4))) (λ k. tt)) (λ e. tt)
+
   field-in : (f : Field) (at : ℕ) → GivenIn (fieldAt f b at)
   unfolding GivenIn ItemIn fieldAt
   field-in (one p) at = single-in (partAt p b at) (part-in p at)
-  field-in (many most ps) at =
-      by-test GivenIn (leb (at + 4) (length b)) _ _ (λ e. by-test GivenIn (leb (xdr.word b at) most) _ _
-      (λ k. counted-in (xdr.word b at) (timesAt ps (xdr.word b at) b (at + 4))) (λ k. tt)) (λ e. tt)
+  field-in (many most ps) at = list-in most (partsAt ps b) at
+  field-in (lists most ps inner qs) at = list-in most (elementAt ps inner qs b) at
   field-in (tag k) at = by-test GivenIn (leb (at + 4) (length b)) _ _ (λ e. by-test GivenIn (eqb (xdr.word b at) k) _ _ (λ i. tt) (λ i. tt)) (λ e. tt)
   field-in never at = tt
 

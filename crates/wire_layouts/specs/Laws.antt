@@ -5,8 +5,9 @@ use mathlib.Core.Path.{_≡_}
 use mathlib.Core.List.{List, [], _∷_, _++_, map}
 use mathlib.Core.Logic.{_⊎_}
 use lib.ListN.{length, take, drop, getD}
+use Rattle.codes.specs.Codes.{mostPort}
 use Rattle.xdr.specs.Xdr as xdr
-use Rattle.wire_layouts.specs.Layout.{Part, word, hyper, text, Field, one, many, tag, never, Item, four, eight, bytes, Value, value, writeAs, whole, before, readAs}
+use Rattle.wire_layouts.specs.Layout.{Part, word, hyper, text, port, Field, one, many, lists, tag, never, Item, four, eight, bytes, Value, value, writeAs, whole, before, readAs}
 use Rattle.wire_layouts.specs.declared.Text.{Text}
 
 -- each byte of a body is below 256
@@ -27,18 +28,27 @@ pub data PartFits : Part → Item (List ℕ) → Type 0 where
   is-word : {v : ℕ} → v < 2 ^ 32 → PartFits word (four v)
   is-hyper : {v : ℕ} → v < 2 ^ 64 → PartFits hyper (eight v)
   is-text : {s : List ℕ} → length s < 2 ^ 32 → PartFits text (bytes s)
+  is-port : {v : ℕ} → v ≤ mostPort → PartFits port (four v)
 
 pub data PartsFit : List Part → List (Item (List ℕ)) → Type 0 where
   no-part : PartsFit [] []
   part-on : {p : Part} {i : Item (List ℕ)} {ps : List Part} {is : List (Item (List ℕ))} → PartFits p i → PartsFit ps is → PartsFit (p ∷ ps) (i ∷ is)
 
-pub data TimesFit (ps : List Part) : ℕ → List (Item (List ℕ)) → Type 0 where
-  no-time : TimesFit ps 0 []
-  time-on : {n : ℕ} {is js : List (Item (List ℕ))} → PartsFit ps is → TimesFit ps n js → TimesFit ps (suc n) (is ++ js)
+-- so many elements, each of which fits
+pub data TimesFit (Fits : List (Item (List ℕ)) → Type 0) : ℕ → List (Item (List ℕ)) → Type 0 where
+  no-time : TimesFit Fits 0 []
+  time-on : {n : ℕ} {is js : List (Item (List ℕ))} → Fits is → TimesFit Fits n js → TimesFit Fits (suc n) (is ++ js)
+
+pub data ListFits (most : ℕ) (Fits : List (Item (List ℕ)) → Type 0) : Value (List ℕ) → Type 0 where
+  is-list : {n : ℕ} {is : List (Item (List ℕ))} → most < 2 ^ 32 → n ≤ most → TimesFit Fits n is → ListFits most Fits (value (four n) is)
+
+pub data ElementFits (ps : List Part) (inner : ℕ) (qs : List Part) : List (Item (List ℕ)) → Type 0 where
+  is-element : {is : List (Item (List ℕ))} {v : Value (List ℕ)} → PartsFit ps is → ListFits inner (PartsFit qs) v → ElementFits ps inner qs (is ++ v .first ∷ v .others)
 
 pub data FieldFits : Field → Value (List ℕ) → Type 0 where
   is-one : {p : Part} {i : Item (List ℕ)} → PartFits p i → FieldFits (one p) (value i [])
-  is-many : {most n : ℕ} {ps : List Part} {is : List (Item (List ℕ))} → most < 2 ^ 32 → n ≤ most → TimesFit ps n is → FieldFits (many most ps) (value (four n) is)
+  is-many : {most : ℕ} {ps : List Part} {v : Value (List ℕ)} → ListFits most (PartsFit ps) v → FieldFits (many most ps) v
+  is-lists : {most inner : ℕ} {ps qs : List Part} {v : Value (List ℕ)} → ListFits most (ElementFits ps inner qs) v → FieldFits (lists most ps inner qs) v
   is-tag : {k : ℕ} → k < 2 ^ 32 → FieldFits (tag k) (value (four k) [])
 
 pub data FieldsFit : List Field → List (Value (List ℕ)) → Type 0 where
@@ -51,6 +61,7 @@ abbrev pub HasTag : List Field → Type 0
 HasTag [] = ⊥
 HasTag (one p ∷ fs) = HasTag fs
 HasTag (many most ps ∷ fs) = HasTag fs
+HasTag (lists most ps inner qs ∷ fs) = HasTag fs
 HasTag (tag k ∷ fs) = Unit
 HasTag (never ∷ fs) = HasTag fs
 
@@ -59,7 +70,9 @@ Stops [] b at = ⊥
 Stops (one word ∷ fs) b at = Stops fs b (at + 4)
 Stops (one hyper ∷ fs) b at = Stops fs b (at + 8)
 Stops (one text ∷ fs) b at = HasTag fs
+Stops (one port ∷ fs) b at = Stops fs b (at + 4)
 Stops (many most ps ∷ fs) b at = HasTag fs
+Stops (lists most ps inner qs ∷ fs) b at = HasTag fs
 Stops (tag k ∷ fs) b at = (xdr.word b at ≡ k → ⊥) ⊎ Stops fs b (at + 4)
 Stops (never ∷ fs) b at = ⊥
 

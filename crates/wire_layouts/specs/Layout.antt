@@ -3,6 +3,7 @@ use Prim.Native.Nat.{ℕ, zero, suc, _+_}
 use mathlib.Core.List.{List, [], _∷_, _++_, flatMap}
 use lib.ListN.{length}
 use lib.Dec.{eqb, leb}
+use Rattle.codes.specs.Codes.{mostPort}
 use Rattle.xdr.specs.Choose.{choose}
 use Rattle.xdr.specs.Xdr as xdr
 use Rattle.xdr_opaque.specs.Opaque.{opaqueAt}
@@ -11,17 +12,20 @@ use Rattle.xdr_opaque.specs.declared.Opaque.{Opaque}
 use Rattle.xdr_opaque.specs.declared.Opaque.the-variants as Opaque
 use Rattle.wire_layouts.specs.declared.Text.{Text}
 
--- ---- what a layout is made of
+-- ---- what a layout is made of: a port is an unsigned short, which takes a whole word
 pub data Part : Type 0 where
   word : Part
   hyper : Part
   text : Part
+  port : Part
 
--- a part; a counted list of at most so many elements, each of the same parts; a word behind which, where it is another than this, the
--- rest is not read; and what no body has
+-- a part; a counted list of at most so many elements, each of the same parts; one whose elements have behind their parts a counted list of
+-- their own, of at most so many elements of other parts; a word behind which, where it is another than this, the rest is not read; and
+-- what no body has
 pub data Field : Type 0 where
   one : Part → Field
   many : ℕ → List Part → Field
+  lists : ℕ → List Part → ℕ → List Part → Field
   tag : ℕ → Field
   never : Field
 
@@ -31,7 +35,7 @@ pub data Item (T : Type 0) : Type 0 where
   eight : ℕ → Item T
   bytes : T → Item T
 
--- a field: its first item (of a counted list the count), and the others
+-- a field: its first item (of a counted list the count), and the others, of lists in a list in the order of the body
 pub record Value (T : Type 0) : Type 0 where
   pub first : Item T
   pub others : List (Item T)
@@ -67,6 +71,10 @@ unfoldable pub partAt : Part → List ℕ → ℕ → Piece
 partAt word b at = choose (leb (at + 4) (length b)) (piece (four (xdr.word b at)) (at + 4)) short
 partAt hyper b at = choose (leb (at + 8) (length b)) (piece (eight (xdr.hyper b at)) (at + 8)) short
 partAt text b at = pieceOf (opaqueAt b at)
+partAt port b at =
+    choose (leb (at + 4) (length b))
+    (choose (leb (xdr.word b at) mostPort) (piece (four (xdr.word b at)) (at + 4)) short)
+    short
 
 pub data Got : Type 0 where
   got : List (Item Text) → ℕ → Got
@@ -88,9 +96,10 @@ unfoldable pub partsAt : List Part → List ℕ → ℕ → Got
 partsAt [] b at = got [] at
 partsAt (p ∷ ps) b at = andPart (partAt p b at) (partsAt ps b)
 
-unfoldable pub timesAt : List Part → ℕ → List ℕ → ℕ → Got
-timesAt ps zero b at = got [] at
-timesAt ps (suc n) b at = andGot (partsAt ps b at) (timesAt ps n b)
+-- so many elements, one behind another, as each is read
+unfoldable pub timesAt : (ℕ → Got) → ℕ → ℕ → Got
+timesAt element zero at = got [] at
+timesAt element (suc n) at = andGot (element at) (timesAt element n)
 
 pub data FieldGot : Type 0 where
   fieldGot : Item Text → List (Item Text) → ℕ → FieldGot
@@ -105,12 +114,27 @@ unfoldable pub counted : ℕ → Got → FieldGot
 counted n (got is x) = fieldGot (four n) is x
 counted n cut = bad
 
+-- a counted list of at most so many elements
+abbrev pub listAt : ℕ → (ℕ → Got) → List ℕ → ℕ → FieldGot
+listAt most element b at =
+    choose (leb (at + 4) (length b))
+    (choose (leb (xdr.word b at) most) (counted (xdr.word b at) (timesAt element (xdr.word b at) (at + 4))) bad)
+    bad
+
+-- the items of a field, in the order in which they were read
+unfoldable pub itemsOf : FieldGot → Got
+itemsOf (fieldGot i is x) = got (i ∷ is) x
+itemsOf (stop v) = cut
+itemsOf bad = cut
+
+-- an element with a list of its own: its parts, the count, and the items of that list
+unfoldable pub elementAt : List Part → ℕ → List Part → List ℕ → ℕ → Got
+elementAt ps inner qs b at = andGot (partsAt ps b at) (λ (x : ℕ). itemsOf (listAt inner (partsAt qs b) b x))
+
 unfoldable pub fieldAt : Field → List ℕ → ℕ → FieldGot
 fieldAt (one p) b at = single (partAt p b at)
-fieldAt (many most ps) b at =
-    choose (leb (at + 4) (length b))
-    (choose (leb (xdr.word b at) most) (counted (xdr.word b at) (timesAt ps (xdr.word b at) b (at + 4))) bad)
-    bad
+fieldAt (many most ps) b at = listAt most (partsAt ps b) b at
+fieldAt (lists most ps inner qs) b at = listAt most (elementAt ps inner qs b) b at
 fieldAt (tag k) b at =
     choose (leb (at + 4) (length b))
     (choose (eqb (xdr.word b at) k) (fieldGot (four (xdr.word b at)) [] (at + 4)) (stop (xdr.word b at)))

@@ -1,3 +1,5 @@
 pub mod Layout
 pub mod Laws
 pub mod Scans
+pub mod AddressLists
+pub mod AddressCases

@@ -4,11 +4,11 @@ use mathlib.Core.Bool.{Bool, true, false}
 use mathlib.Core.List.{List, [], _∷_, map}
 use lib.ListN.{set, replicate}
 use lib.Dec.{eqb}
-use Rattle.codes.specs.Codes.{mostListed, localAddress, textAuth}
+use Rattle.codes.specs.Codes.{mostListed, mostAddresses, localAddress, tcpAddress, textAuth}
 use Rattle.wire_layouts.specs.declared.After.{After}
 use Rattle.wire_layouts.specs.declared.After.the-variants as After
-use Rattle.wire_layouts.specs.Layout.{Part, word, hyper, text, Field, one, many, tag, never, Item, four, eight, bytes, Value, place, Piece, piece, short, Got, got, cut}
-use Rattle.wire_layouts.specs.Layout.{FieldGot, fieldGot, stop, bad, Read, whole, before, broken, readAs}
+use Rattle.wire_layouts.specs.Layout.{Part, word, hyper, text, port, Field, one, many, lists, tag, never, Item, four, eight, bytes, Value, place, Piece, piece, short, Got, got, cut}
+use Rattle.wire_layouts.specs.Layout.{FieldGot, fieldGot, stop, bad, elementAt, Read, whole, before, broken, readAs}
 use Rattle.wire_layouts.specs.declared.Text.{Text}
 use Rattle.wire_layouts.specs.declared.Scan.{Scan}
 use Rattle.wire_layouts.specs.declared.Seen.{Seen}
@@ -39,8 +39,11 @@ unfoldable pub scanned : List Field → List ℕ → Scan
 scanned fs b = summed 0 (emptyScan true) (readAs fs b 0)
 
 -- ---- the letters of the fields, as the code writes them
+abbrev pub pairParts : List Part
+pairParts = text ∷ text ∷ []
+
 abbrev pub pairs : Field
-pairs = many mostListed (text ∷ text ∷ [])
+pairs = many mostListed pairParts
 
 -- ndmp_name: four strings and two hypers
 abbrev pub nameParts : List Part
@@ -48,6 +51,18 @@ nameParts = text ∷ text ∷ text ∷ text ∷ hyper ∷ hyper ∷ []
 
 abbrev pub names : Field
 names = many mostListed nameParts
+
+-- ndmp_tcp_addr: a host and a port, and behind them the pairs of its environment
+abbrev pub addressParts : List Part
+addressParts = word ∷ port ∷ []
+
+-- "lists of up to 16 addresses, each with up to 64 environment pairs"
+abbrev pub addresses : Field
+addresses = lists mostAddresses addressParts mostListed pairParts
+
+-- one address
+abbrev pub addressAt : List ℕ → ℕ → Got
+addressAt b at = elementAt addressParts mostListed pairParts b at
 
 abbrev pub pick : Bool → Field → Field → Field
 pick true f g = f
@@ -61,7 +76,9 @@ fieldOf c =
     (pick (eqb c 112) pairs
     (pick (eqb c 110) names
     (pick (eqb c 97) (tag localAddress)
-    (pick (eqb c 117) (tag textAuth) never))))))
+    (pick (eqb c 117) (tag textAuth)
+    (pick (eqb c 105) (tag tcpAddress)
+    (pick (eqb c 108) addresses never))))))))
 
 -- the parts of an element, by their letters
 abbrev pub pickPart : Bool → Part → Part → Part
@@ -69,7 +86,7 @@ pickPart true p q = p
 pickPart false p q = q
 
 abbrev pub partOf : ℕ → Part
-partOf c = pickPart (eqb c 119) word (pickPart (eqb c 104) hyper text)
+partOf c = pickPart (eqb c 119) word (pickPart (eqb c 104) hyper (pickPart (eqb c 115) port text))
 
 -- passing over what was read: the offset after it
 unfoldable pub past : Piece → After
@@ -87,3 +104,11 @@ fieldSeen (fieldGot (eight v) is x) = Seen.Hyper v x
 fieldSeen (fieldGot (bytes t) is x) = Seen.Place (t .start) (t .len) x
 fieldSeen (stop v) = Seen.Stop v
 fieldSeen bad = Seen.Bad
+
+-- the offset after a field that was seen
+unfoldable pub afterSeen : Seen → After
+afterSeen (Seen.Word v x) = After.Next x
+afterSeen (Seen.Hyper v x) = After.Next x
+afterSeen (Seen.Place s n x) = After.Next x
+afterSeen (Seen.Stop v) = After.Short
+afterSeen Seen.Bad = After.Short

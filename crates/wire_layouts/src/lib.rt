@@ -4,10 +4,11 @@ ghost use mathlib.Core.List.{map};
 ghost use Prim.Native.Nat.{_≤_, _<_};
 ghost use lib.ListN.{length};
 ghost use mathlib.Core.Bool.{true, false};
-ghost use Rattle.codes.specs.Codes.{mostListed};
-ghost use Rattle.wire_layouts.specs.Layout.{word, hyper, text, one, many, tag, partAt, partsAt, timesAt, fieldAt};
+ghost use Rattle.wire_layouts.specs.Layout.{word, hyper, text, port, one, many, tag, partAt, partsAt, timesAt, fieldAt};
 ghost use Rattle.wire_layouts.specs.Laws.{FieldsRoundTrip, FieldsOneSpelling, UnreadRests};
-ghost use Rattle.wire_layouts.specs.Scans.{emptyScan, scanned, fieldOf, partOf, past, forget, fieldSeen};
+ghost use Rattle.wire_layouts.specs.Scans.{emptyScan, scanned, fieldOf, partOf, addressAt, addresses, past, forget, fieldSeen, afterSeen};
+ghost use Rattle.wire_layouts.specs.AddressLists.{emptyAddresses, countSeen, addressesAt, AddressesGiven};
+ghost use Rattle.wire_layouts.specs.AddressCases.{AddressCases};
 use xdr_opaque::Opaque;
 use xdr_opaque::Word;
 use xdr_opaque::opaque_at;
@@ -26,6 +27,13 @@ pub struct Scan {
     pub hypers: [u64; 5],
     pub starts: [usize; 5],
     pub lens: [usize; 5],
+}
+
+// The addresses of a list: a host and a port each, as many as count says.
+pub struct Addresses {
+    pub count: u32,
+    pub hosts: [u32; 16],
+    pub ports: [u32; 16],
 }
 
 // The offset after what was passed over, or that it is cut short.
@@ -90,6 +98,19 @@ fn one_text(body: &[u8], at: usize) -> Seen
     Seen::Place { start, len, next }
 }
 
+// Passes over a port, which is a word.
+fn port_at(body: &[u8], at: usize) -> After
+    ensures { λ r. ⌜ r ≡ past (partAt port (now (body .entry)) at) ⌝ }
+{
+    let Word::Value(v) = word_at(body, at) else {
+        return After::Short;
+    };
+    if codes::MOST_PORT < v {
+        return After::Short;
+    }
+    After::Next(at + 4)
+}
+
 // Passes over a part, by its letter.
 fn part_at(letter: u8, body: &[u8], at: usize) -> After
     ensures { λ r. ⌜ r ≡ past (partAt (partOf letter) (now (body .entry)) at) ⌝ }
@@ -110,6 +131,7 @@ fn part_at(letter: u8, body: &[u8], at: usize) -> After
             }
             After::Next(at + 8)
         }
+        b's' => port_at(body, at),
         _ => {
             let Opaque::At {
                 start: _,
@@ -142,7 +164,7 @@ fn parts_at(letters: &[u8], body: &[u8], at: usize) -> After
 
 // Passes over count elements.
 fn times_at(letters: &[u8], count: u32, body: &[u8], at: usize) -> After
-    ensures { λ r. ⌜ r ≡ forget (timesAt (map partOf (now (letters .entry))) count (now (body .entry)) at) ⌝ }
+    ensures { λ r. ⌜ r ≡ forget (timesAt (partsAt (map partOf (now (letters .entry))) (now (body .entry))) count at) ⌝ }
 {
     let mut pos = at;
     let mut left = count;
@@ -156,17 +178,76 @@ fn times_at(letters: &[u8], count: u32, body: &[u8], at: usize) -> After
     After::Next(pos)
 }
 
-// A counted list of at most so many elements as a start request may have.
-fn many_at(letters: &[u8], body: &[u8], at: usize) -> Seen
-    ensures { λ r. ⌜ r ≡ fieldSeen (fieldAt (many mostListed (map partOf (now (letters .entry)))) (now (body .entry)) at) ⌝ }
+// A counted list of at most so many elements.
+fn many_at(most: u32, letters: &[u8], body: &[u8], at: usize) -> Seen
+    ensures { λ r. ⌜ r ≡ fieldSeen (fieldAt (many most (map partOf (now (letters .entry)))) (now (body .entry)) at) ⌝ }
 {
     let Word::Value(count) = word_at(body, at) else {
         return Seen::Bad;
     };
-    if codes::MOST_LISTED < count {
+    if most < count {
         return Seen::Bad;
     }
     let After::Next(next) = times_at(letters, count, body, at + 4) else {
+        return Seen::Bad;
+    };
+    Seen::Word(count, next)
+}
+
+// The offset after a field.
+fn past_field(seen: Seen) -> After
+    ensures { λ r. ⌜ r ≡ afterSeen seen ⌝ }
+{
+    match seen {
+        Seen::Word(_, next) => After::Next(next),
+        Seen::Hyper(_, next) => After::Next(next),
+        Seen::Place {
+            start: _,
+            len: _,
+            next,
+        } => After::Next(next),
+        Seen::Stop(_) => After::Short,
+        Seen::Bad => After::Short,
+    }
+}
+
+// Passes over an address: its host and its port, then the pairs of its environment.
+fn address_at(body: &[u8], at: usize) -> After
+    ensures { λ r. ⌜ r ≡ forget (addressAt (now (body .entry)) at) ⌝ }
+{
+    let After::Next(next) = parts_at(b"ws", body, at) else {
+        return After::Short;
+    };
+    past_field(many_at(codes::MOST_LISTED, b"tt", body, next))
+}
+
+// Passes over count addresses.
+fn skip_addresses(count: u32, body: &[u8], at: usize) -> After
+    ensures { λ r. ⌜ r ≡ forget (timesAt (addressAt (now (body .entry))) count at) ⌝ }
+{
+    let mut pos = at;
+    let mut left = count;
+    while 0 < left {
+        let After::Next(next) = address_at(body, pos) else {
+            return After::Short;
+        };
+        pos = next;
+        left -= 1;
+    }
+    After::Next(pos)
+}
+
+// A list of addresses.
+fn address_list(body: &[u8], at: usize) -> Seen
+    ensures { λ r. ⌜ r ≡ fieldSeen (fieldAt addresses (now (body .entry)) at) ⌝ }
+{
+    let Word::Value(count) = word_at(body, at) else {
+        return Seen::Bad;
+    };
+    if codes::MOST_ADDRESSES < count {
+        return Seen::Bad;
+    }
+    let After::Next(next) = skip_addresses(count, body, at + 4) else {
         return Seen::Bad;
     };
     Seen::Word(count, next)
@@ -192,10 +273,12 @@ fn field_at(letter: u8, body: &[u8], at: usize) -> Seen
         b'w' => one_word(body, at),
         b'h' => one_hyper(body, at),
         b't' => one_text(body, at),
-        b'p' => many_at(b"tt", body, at),
-        b'n' => many_at(b"tttthh", body, at),
+        b'p' => many_at(codes::MOST_LISTED, b"tt", body, at),
+        b'n' => many_at(codes::MOST_LISTED, b"tttthh", body, at),
         b'a' => tagged(body, at, codes::LOCAL_ADDRESS),
         b'u' => tagged(body, at, codes::TEXT_AUTH),
+        b'i' => tagged(body, at, codes::TCP_ADDRESS),
+        b'l' => address_list(body, at),
         _ => Seen::Bad,
     }
 }
@@ -243,6 +326,67 @@ pub fn scan_body(layout: &[u8], body: &[u8]) -> Scan
     }
     k
 }
+
+// So many addresses, of which none is kept yet.
+fn no_addresses(count: u32) -> Addresses
+    ensures { λ r. ⌜ r ≡ emptyAddresses count ⌝ }
+{
+    Addresses {
+        count,
+        hosts: [0; 16],
+        ports: [0; 16],
+    }
+}
+
+// The count of a list.
+fn count_of(seen: Seen) -> u32
+    ensures { λ r. ⌜ r ≡ countSeen seen ⌝ }
+{
+    match seen {
+        Seen::Word(v, _) => v,
+        Seen::Hyper(_, _) => 0,
+        Seen::Place {
+            start: _,
+            len: _,
+            next: _,
+        } => 0,
+        Seen::Stop(_) => 0,
+        Seen::Bad => 0,
+    }
+}
+
+// The addresses of the list at an offset; none where it does not decode.
+pub fn addresses_at(body: &[u8], at: usize) -> Addresses
+    ensures { λ r. ⌜ r ≡ addressesAt (now (body .entry)) at ⌝ }
+{
+    let count = count_of(address_list(body, at));
+    // at + 4 could wrap
+    if count == 0 {
+        return no_addresses(0);
+    }
+    let mut k = no_addresses(count);
+    let mut pos = at + 4;
+    let mut i = 0;
+    while i < count as usize {
+        let After::Next(next) = address_at(body, pos) else {
+            return no_addresses(0);
+        };
+        k.hosts[i] = xdr::read_word(body, pos);
+        k.ports[i] = xdr::read_word(body, pos + 4);
+        pos = next;
+        i += 1;
+    }
+    k
+}
+
+// No work: their contracts are that these are the addresses that the decoder reads, and what lists written out by hand are read as.
+pub fn addresses_given()
+    ensures { λ r. ⌜ AddressesGiven ⌝ }
+{}
+
+pub fn address_cases()
+    ensures { λ r. ⌜ AddressCases ⌝ }
+{}
 
 // No work: their contracts are the laws of every layout.
 pub fn round_trip()

@@ -11,7 +11,7 @@ use Rattle.xdr.specs.Xdr.{be32, be64}
 use Rattle.xdr_opaque.specs.Put.{opaque, Each}
 use Rattle.wire_layouts.specs.Layout.{Part, word, hyper, text, Field, one, many, tag, Item, four, eight, bytes, Value, value, itemBytes, valueBytes, writeAs}
 use Rattle.wire_layouts.specs.Laws.{content, contents, PartFits, is-word, is-hyper, is-text, PartsFit, no-part, part-on, TimesFit, no-time, time-on, FieldFits, is-one}
-use Rattle.wire_layouts.specs.Laws.{is-many, is-tag, FieldsFit, no-field, field-on}
+use Rattle.wire_layouts.specs.Laws.{is-many, is-list, is-tag, FieldsFit, no-field, field-on}
 use Rattle.wire_layouts.specs.Scans.{emptyScan, put, puts, pairs, nameParts, names}
 use Rattle.wire_layouts.specs.declared.Scan.{Scan}
 use Rattle.wire_layouts.specs.declared.Text.{Text}
@@ -42,12 +42,12 @@ valueFor (nameList ns) = value (four (length ns)) (flatMap nameItems ns)
 valueFor (union k) = value (four k) []
 
 -- ---- the values fit
-pvals-fit : (ps : List Pval) → Each PvalFits ps → TimesFit (text ∷ text ∷ []) (length ps) (flatMap pvalItems ps)
+pvals-fit : (ps : List Pval) → Each PvalFits ps → TimesFit (PartsFit (text ∷ text ∷ [])) (length ps) (flatMap pvalItems ps)
 unfolding flatMap
 pvals-fit [] h = no-time
 pvals-fit (p ∷ ps) h = time-on (part-on (is-text (h .0 .0)) (part-on (is-text (h .0 .1)) no-part)) (pvals-fit ps (h .1))
 
-names-fit : (ns : List Name) → Each NameFits ns → TimesFit nameParts (length ns) (flatMap nameItems ns)
+names-fit : (ns : List Name) → Each NameFits ns → TimesFit (PartsFit nameParts) (length ns) (flatMap nameItems ns)
 unfolding flatMap
 names-fit [] h = no-time
 names-fit (n ∷ ns) ((o, d, m, e, v, w), h) =
@@ -62,8 +62,8 @@ arg-fits : (a : Arg) → ArgFits a → FieldFits (fieldFor a) (valueFor a)
 arg-fits (ulong v) h = is-one (is-word h)
 arg-fits (uquad v) h = is-one (is-hyper h)
 arg-fits (octets s) h = is-one (is-text h)
-arg-fits (pvals ps) h = is-many few (h .0) (pvals-fit ps (h .1))
-arg-fits (nameList ns) h = is-many few (h .0) (names-fit ns (h .1))
+arg-fits (pvals ps) h = is-many (is-list few (h .0) (pvals-fit ps (h .1)))
+arg-fits (nameList ns) h = is-many (is-list few (h .0) (names-fit ns (h .1)))
 arg-fits (union k) h = is-tag h
 
 pub args-fit : (xs : List Arg) → Each ArgFits xs → FieldsFit (map fieldFor xs) (map valueFor xs)

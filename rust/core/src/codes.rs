@@ -38,7 +38,10 @@ numbers! {
     LONGEST_RECORD: usize = 32768;
     SENSE_BYTES: u32 = 18;
     MOST_LISTED: u32 = 64;
+    MOST_ADDRESSES: u32 = 16;
+    MOST_PORT: u32 = 65535;
     LOCAL_ADDRESS: u32 = 0;
+    TCP_ADDRESS: u32 = 1;
     TEXT_AUTH: u32 = 1;
     VERSION_FOUR: u32 = 4;
 }

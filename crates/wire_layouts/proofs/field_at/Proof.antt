@@ -5,6 +5,7 @@ use Rattle.wire_layouts.proofs.field_at.Statement.{statement}
 use Rattle.wire_layouts.proofs.field_at.Tie as tie
 use Rattle.wire_layouts.proofs.field_at.Reads as reads
 use Rattle.wire_layouts.proofs.field_at.Lts as lts
+use Rattle.wire_layouts.proofs.address_list.Reads as address-list-reads
 use Rattle.wire_layouts.proofs.many_at.Reads as many-at-reads
 use Rattle.wire_layouts.proofs.one_hyper.Reads as one-hyper-reads
 use Rattle.wire_layouts.proofs.one_text.Reads as one-text-reads
@@ -38,6 +39,12 @@ tagged-requires c κs = search needs
 tagged-requires-2 : tie.Need-tagged-requires-2
 tagged-requires-2 c κs = search needs
 
+tagged-requires-3 : tie.Need-tagged-requires-3
+tagged-requires-3 c κs = search needs
+
+address-list-requires : tie.Need-address-list-requires
+address-list-requires c κs = search needs
+
 returns : tie.Need-returns
 returns c = rw (c .before .match .keys1) (c .one-word .ensures)
 
@@ -60,7 +67,16 @@ returns-7 : tie.Need-returns-7
 returns-7 c = rw (c .before .match .keys7) (c .tagged2 .ensures)
 
 returns-8 : tie.Need-returns-8
-returns-8 c = let r = c .match .rest in unknown _ _ _ (r .0 .0 .0 .0 .0 .0 .1) (r .0 .0 .0 .0 .0 .1) (r .0 .0 .0 .0 .1) (r .0 .0 .0 .1) (r .0 .0 .1) (r .0 .1) (r .1)
+returns-8 c = rw (c .before .match .keys8) (c .tagged3 .ensures)
+
+returns-9 : tie.Need-returns-9
+returns-9 c = rw (c .before .match .keys9) (c .address-list .ensures)
+
+returns-10 : tie.Need-returns-10
+returns-10 c =
+    let r = c .match .rest in
+    let q = r .0 .0 .0 .0 in
+    unknown _ (q .0 .0 .0 .0 .1) (q .0 .0 .0 .1) (q .0 .0 .1) (q .0 .1) (q .1) (r .0 .0 .0 .1) (r .0 .0 .1) (r .0 .1) (r .1) _ _
 
 pub field-at-spec : {M : Type 1} → statement M
 field-at-spec =
@@ -75,6 +91,8 @@ field-at-spec =
     many-at-requires-2
     tagged-requires
     tagged-requires-2
+    tagged-requires-3
+    address-list-requires
     returns
     returns-2
     returns-3
@@ -82,4 +100,6 @@ field-at-spec =
     returns-5
     returns-6
     returns-7
-    returns-8)
+    returns-8
+    returns-9
+    returns-10)

@@ -2,6 +2,7 @@
 use Rattle.xdr_opaque.proofs.Laws.{word-within}
 use native.Mathlib.Omega.{arith}
 use mathlib.Core.Path.{sym, _∙_}
+use Rattle.wire_layouts.specs.Layout.{fieldAt}
 use Rattle.wire_layouts.proofs.Cases.{misses-count, too-many, misses-list, sees-list}
 use borrow.Author.Needs.{needs}
 use Rattle.wire_layouts.proofs.many_at.Statement.{statement}
@@ -21,9 +22,11 @@ enum-told : tie.Need-enum-told
 enum-told c = search needs
 
 returns : tie.Need-returns
+unfolding fieldAt
 returns c = misses-count _ _ _ _ (sym (c .enum-told .given .1) ∙ c .before .before .word-at .ensures)
 
 returns-2 : tie.Need-returns-2
+unfolding fieldAt
 returns-2 c = too-many _ _ _ _ _ (sym (c .before .before .count .given .1) ∙ c .before .before .before .before .word-at .ensures) (omega arith)
 
 add-times-at : tie.Need-add-times-at
@@ -39,11 +42,13 @@ enum-told-2 : tie.Need-enum-told-2
 enum-told-2 c = search needs
 
 returns-3 : tie.Need-returns-3
+unfolding fieldAt
 returns-3 c =
     misses-list _ _ _ _ _ (sym (c .before .before .before .before .before .count .given .1) ∙ c .before .before .before .before .before .before .before .word-at .ensures)
     (omega arith) (sym (c .enum-told2 .given .1) ∙ c .before .before .times-at .ensures)
 
 returns-4 : tie.Need-returns-4
+unfolding fieldAt
 returns-4 c =
     sees-list _ _ _ _ _ _ (sym (c .before .before .before .before .before .before .count .given .1)
     ∙ c .before .before .before .before .before .before .before .before .word-at .ensures) (omega arith)

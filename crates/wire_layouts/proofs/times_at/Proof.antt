@@ -4,7 +4,7 @@ use mathlib.Core.Path.{_≡_, refl, sym, _∙_}
 use mathlib.Core.List.{map}
 use native.Mathlib.Omega.{arith}
 use borrow.Author.Needs.{needs}
-use Rattle.wire_layouts.specs.Layout.{timesAt}
+use Rattle.wire_layouts.specs.Layout.{partsAt, timesAt}
 use Rattle.wire_layouts.specs.Scans.{partOf, forget}
 use Rattle.wire_layouts.proofs.Cases.{times-more, times-short, times-none}
 use Rattle.wire_layouts.proofs.times_at.Statement.{statement}
@@ -14,7 +14,8 @@ use Rattle.wire_layouts.proofs.times_at.Lts as lts
 use Rattle.wire_layouts.proofs.parts_at.Reads as parts-at-reads
 
 abbrev Inv-loop : tie.InvT-loop
-Inv-loop letters count body at pos₀ left₀ pos left = forget (timesAt (map partOf letters) count body at) ≡ forget (timesAt (map partOf letters) left body pos)
+Inv-loop letters count body at pos₀ left₀ pos left =
+    forget (timesAt (partsAt (map partOf letters) body) count at) ≡ forget (timesAt (partsAt (map partOf letters) body) left pos)
 
 abbrev μ-loop : tie.MeasureT-loop
 μ-loop letters count body at pos₀ left₀ pos left = left
@@ -33,10 +34,9 @@ enum-told c = search needs
 
 returns : tie.Need-returns Inv-loop μ-loop
 returns c =
-    times-short (map partOf (now (c .before .before .before .before .before .before .before .args .letters)))
-    (now (c .before .before .before .before .before .before .before .args .body)) (c .before .before .before .before .loop .pos)
-    (c .before .before .before .before .loop .left) (omega arith) (sym (c .enum-told .given .1) ∙ c .before .before .parts-at .ensures) ∙ sym
-    (c .before .before .before .before .loop .inv)
+    let l = c .before .before .before .before in
+    let s = l .before .before .before .args in
+    times-short (partsAt (map partOf (now (s .letters))) (now (s .body))) (l .loop .pos) (l .loop .left) (omega arith) (sym (c .enum-told .given .1) ∙ c .before .before .parts-at .ensures) ∙ sym (l .loop .inv)
 
 sub-left : tie.Need-sub-left Inv-loop μ-loop
 sub-left c = search needs
@@ -46,15 +46,16 @@ loop-less c = search needs
 
 loop-again : tie.Need-loop-again Inv-loop μ-loop
 loop-again c =
-    c .before .before .before .before .before .loop .inv ∙ times-more (map partOf
-    (now (c .before .before .before .before .before .before .before .before .args .letters)))
-    (now (c .before .before .before .before .before .before .before .before .args .body)) (c .before .before .before .before .before .loop .pos)
-    (c .before .before .before .before .before .loop .left) _ (omega arith) (sym (c .before .next .given .1) ∙ c .before .before .before .parts-at .ensures)
+    let l = c .before .before .before .before .before in
+    let s = l .before .before .before .args in
+    l .loop .inv ∙ times-more (partsAt (map partOf (now (s .letters))) (now (s .body))) (l .loop .pos) (l .loop .left) _ (omega arith)
+    (sym (c .before .next .given .1) ∙ c .before .before .before .parts-at .ensures)
 
 returns-2 : tie.Need-returns-2 Inv-loop μ-loop
 returns-2 c =
-    times-none (map partOf (now (c .before .before .before .before .args .letters))) (now (c .before .before .before .before .args .body)) (c .before .loop .pos)
-    (c .before .loop .left) (omega arith) ∙ sym (c .before .loop .inv)
+    let l = c .before in
+    let s = l .before .before .before .args in
+    times-none (partsAt (map partOf (now (s .letters))) (now (s .body))) (l .loop .pos) (l .loop .left) (omega arith) ∙ sym (l .loop .inv)
 
 pub times-at-spec : {M : Type 1} → statement M
 times-at-spec =
