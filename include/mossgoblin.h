@@ -41,8 +41,9 @@ struct mossgoblin_data {
 #define MOSSGOBLIN_FIRST_SIZE 10240
 
 /* The mover. State: 0 IDLE, 1 LISTEN, 2 ACTIVE, 3 PAUSED, 4 HALTED. Mode: 0 to tape, 1 from tape, 2 none. Size is the record size, 1 to 32,768 in every session
- * that these calls give. A window of length 0 is none. Seek is the place on the stream that a mover read has come to, left the bytes that it has still to be
- * given, origin the tape's position when the mover last became ACTIVE. */
+ * that these calls give. A window of length 0 is none, and one of length 2^64 - 1 has no end: it goes up to place 2^64 - 1 on the stream, itself outside. Seek is
+ * the place on the stream that a mover read has come to, left the bytes that it has still to be given, origin the tape's position when the mover last became
+ * ACTIVE. */
 struct mossgoblin_mover {
     uint32_t state;
     uint32_t mode;
@@ -125,9 +126,9 @@ struct mossgoblin_answer mossgoblin_request(struct mossgoblin_session session, c
                                             uint32_t time, uint8_t *out, size_t out_len);
 
 /* One move to tape, in a backup: `stream` is what waits of the stream, `last` whether nothing will follow it. At most one record is written to the image, and `count` bytes
- * of the stream are taken from its front. At the window's end or where the tape is full the mover pauses; an empty last part, or a damaged image, halts both ends.
- * Otherwise nothing happens. A pause and a halt send their notices. It is lent no destination, and hands nothing over. In mode 1, and while the mover is not ACTIVE or
- * the data end not ACTIVE in a backup, it does nothing: count and len are 0, and session and image stay. */
+ * of the stream are taken from its front. At the window's end, where a whole record more would pass it, and where the tape is full the mover
+ * pauses; an empty last part, or a damaged image, halts both ends. Otherwise nothing happens. A pause and a halt send their notices. It is lent no destination, and hands
+ * nothing over. In mode 1, and while the mover is not ACTIVE or the data end not ACTIVE in a backup, it does nothing: count and len are 0, and session and image stay. */
 struct mossgoblin_moved mossgoblin_move_to_tape(struct mossgoblin_session session, uint8_t *image, size_t image_len, const uint8_t *stream,
                                                 size_t stream_len, bool last, uint32_t time, uint8_t *out, size_t out_len);
 

@@ -32,7 +32,8 @@ use Rattle.rules.specs.Joint.{joined, halted, dataConnect, moverConnect,
 use Rattle.rules.specs.Relation.{dataWrong, moverWrong, sameFlag, Legal, InWindow, MoverKept}
 use Rattle.rules.specs.Promises.{Keeps, JointKeeps, dataSide, partWrong, partSide}
 use Rattle.rules.proofs.JudgeLaws.{Clear, accepts, carried}
-use Rattle.rules.proofs.Kept.{mover-kept, kept-mover, past-top, writes}
+use Rattle.rules_parts.proofs.Ending.{past-top}
+use Rattle.rules.proofs.Kept.{mover-kept, kept-mover, legal-by, writes}
 
 module _ {A : Type 0} (wrong side : A → Bool) (p : A) where
   pub stays : Keeps wrong side p p
@@ -121,6 +122,7 @@ listen-kept m t mode s o w n z k =
 at-start : (size offset length moved : ℕ) → offset ≡ moved → Legal size offset length → InWindow size offset length moved
 at-start size offset length moved e l =
     let r : moved % size ≡ 0 = rw e at (l .offsets) in
+    let s = l .starts in
     record { some = l .some; from = omega arith; to = omega arith; records = r }
 
 -- to ACTIVE
@@ -281,7 +283,7 @@ module _ (m : Mover) (t : Tape) (l : List ℕ) where
       (λ g. let n : m .size ≡ 0 → ⊥ = isnt (g 1) in
       let s : 1 ≤ m .size = omega arith in
       window-kept m t offset length (g 0) (busy-free (m .state) (g 0))
-      (record { some = s; offsets = is (g 3); lengths = is (g 4); fits = past-top offset length (g 5) }) (g 6))
+      (legal-by (m .size) offset length s (is (g 3)) (g 4)) (g 5))
       (λ _. refl)
   mover-keeps (MoverRequest.Read offset length) =
       mover-judged _ _ (moverSeeks offset length m) (λ g. seek-kept m t offset length (past-top offset length (g 3))) (λ _. refl)

@@ -10,18 +10,16 @@ use Rattle.xdr.proofs.Tests.{by-test, when, unless, none-of, none, if-not, if-s
 use Rattle.rules_parts.specs.declared.types.Mover.{Mover}
 use Rattle.rules_parts.specs.declared.types.Tape.{Tape}
 use Rattle.rules_parts.specs.Names.{top}
-use Rattle.rules_parts.specs.Parts.{holdsTape, unwritable, pastTop}
+use Rattle.rules_parts.specs.Parts.{holdsTape, unwritable, windowEnd, lengthWrong}
 use Rattle.rules.specs.Relation.{numbersWrong, windowWrong, startWrong, holdWrong, strays, resumeWrong, placeWrong, originWrong, moverWrong, Legal, Held, InWindow, MoverKept}
-
-pub past-top : (a b : ℕ) → pastTop a b ≡ false → a + b ≤ top
-unfolding pastTop
-past-top a b h = ltb-false top (a + b) h
-
-pub no-past : (a b : ℕ) → a + b ≤ top → pastTop a b ≡ false
-unfolding pastTop
-no-past a b h = le-ltb top (a + b) h
+use Rattle.rules_parts.proofs.Ending.{past-top, no-past, LengthRight, length-right, right-length}
 
 -- ---- a window in force is a legal one
+pub legal-by : (size offset length : ℕ) → 1 ≤ size → offset % size ≡ 0 → lengthWrong size offset length ≡ false → Legal size offset length
+legal-by size offset length s o h =
+    let r = length-right size offset length h in
+    record { some = s; offsets = o; lengths = r .whole; starts = r .starts; fits = r .fits }
+
 module _ (size offset length : ℕ) where
   legal : windowWrong size offset length ≡ false → (length ≡ 0 → ⊥) → Legal size offset length
   unfolding windowWrong
@@ -29,15 +27,14 @@ module _ (size offset length : ℕ) where
       let a = unless (eqb length 0) _ h (ne-eqb length 0 some) in
       let b = none-of _ a in
       let c = none-of _ (b .1) in
-      let d = none-of _ (c .1) in
       let z : size ≡ 0 → ⊥ = isnt (b .0) in
       let s : 1 ≤ size = omega arith in
-      record { some = s; offsets = is (c .0); lengths = is (d .0); fits = past-top offset length (d .1) }
+      legal-by size offset length s (is (c .0)) (c .1)
 
-  not-wrong : Legal size offset length → choose (eqb size 0) true (choose (not (eqb (offset % size) 0)) true (choose (not (eqb (length % size) 0)) true (pastTop offset length))) ≡ false
+  not-wrong : Legal size offset length → choose (eqb size 0) true (choose (not (eqb (offset % size) 0)) true (lengthWrong size offset length)) ≡ false
   not-wrong l =
       let n : size ≡ 0 → ⊥ = λ z. (let s = l .some in omega arith) in
-      none (ne-eqb size 0 n) (none (eq-not (l .offsets)) (none (eq-not (l .lengths)) (no-past offset length (l .fits))))
+      none (ne-eqb size 0 n) (none (eq-not (l .offsets)) (right-length size offset length (record { whole = l .lengths; starts = l .starts; fits = l .fits })))
 
   no-window-wrong : ((length ≡ 0 → ⊥) → Legal size offset length) → windowWrong size offset length ≡ false
   unfolding windowWrong
@@ -53,14 +50,14 @@ module _ (size offset length moved : ℕ) where
       let b = none-of _ (a .1) in
       let n : size ≡ 0 → ⊥ = isnt (z .0) in
       let s : 1 ≤ size = omega arith in
-      record { some = s; from = ltb-false moved offset (a .0); to = ltb-false (offset + length) moved (b .0); records = is (b .1) }
+      record { some = s; from = ltb-false moved offset (a .0); to = ltb-false (windowEnd offset length) moved (b .0); records = is (b .1) }
 
   no-stray : InWindow size offset length moved → strays size offset length moved ≡ false
   unfolding strays
   no-stray w =
       let n : size ≡ 0 → ⊥ = λ z. (let s = w .some in omega arith) in
       none (ne-eqb size 0 n)
-      (none (le-ltb moved offset (w .from)) (none (le-ltb (offset + length) moved (w .to)) (eq-not (w .records))))
+      (none (le-ltb moved offset (w .from)) (none (le-ltb (windowEnd offset length) moved (w .to)) (eq-not (w .records))))
 
 -- ---- the tape is held
 pub writes : (mode : ℕ) (writable : Bool) → unwritable mode writable ≡ false → mode ≡ 0 → writable ≡ true

@@ -11,6 +11,7 @@ use Rattle.rules.specs.MoverService.{moverContinue, moverStop, moverRead
 use Rattle.rules.specs.Joint.{joined, dataConnect, moverConnect}
 use Rattle.rules.specs.Promises.{Stopped, Promises}
 use Rattle.rules.proofs.JudgeLaws.{accepts}
+use Rattle.rules.proofs.Endless.{endless-rules}
 use Rattle.rules.proofs.Kept.{mover-kept}
 use Rattle.rules.proofs.Keeping.{data-keeps, tape-keeps, mover-part-keeps, joint-keeps}
 
@@ -65,4 +66,5 @@ promises =
         source-connected = source-connected;
         mover-connected = mover-connected;
       };
+      endless = endless-rules;
     }

@@ -6,6 +6,7 @@ pub mod ScsiService
 pub mod Joint
 pub mod Connection
 pub mod Relation
+pub mod Endless
 pub mod Promises
 pub mod Answer
 pub mod Order

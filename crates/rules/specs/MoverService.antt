@@ -13,7 +13,7 @@ use Rattle.rules_parts.specs.declared.types.Mover.{Mover}
 use Rattle.rules_parts.specs.declared.types.Tape.{Tape}
 use Rattle.rules_parts.specs.Names.{moverIdle, moverActive, moverPaused, moverHalted, toTapeMode, fromTapeMode, largestSize}
 use Rattle.rules.specs.Judge.{Test, test, Outcome, accept, judge}
-use Rattle.rules_parts.specs.Parts.{restMover, moverListens, moverRuns, moverWindow, moverSize, moverSeeks, unwritable, pastTop, toldIn}
+use Rattle.rules_parts.specs.Parts.{restMover, moverListens, moverRuns, moverWindow, moverSize, moverSeeks, unwritable, pastTop, lengthWrong, toldIn}
 
 -- "record number is bytes moved divided by record size (0 if unset), modulo 2^32"
 unfoldable pub recordNumber : ℕ → ℕ → ℕ
@@ -85,7 +85,7 @@ unfoldable pub elsewhere : ℕ → ℕ → ℕ → ℕ → Bool
 elsewhere state mode moved offset = choose (eqb state moverPaused) (choose (eqb mode toTapeMode) (not (eqb offset moved)) false) false
 
 -- "Set window: IDLE or PAUSED. Record size 0: 26. 9: length 0, offset or length no multiple of the record size, offset + length above
--- 2^64 - 1, or PAUSED in mode 0 an offset other than bytes moved."
+-- 2^64 - 1, or PAUSED in mode 0 an offset other than bytes moved." 02 No. 1: of the length all ones "the offset must still be a multiple"
 unfoldable pub setWindow : Mover → ℕ → ℕ → Outcome Mover
 setWindow m offset length =
     judge
@@ -93,8 +93,7 @@ setWindow m offset length =
     ∷ test (eqb (m .size) 0) precondition
     ∷ test (eqb length 0) illegalArguments
     ∷ test (not (eqb (offset % m .size) 0)) illegalArguments
-    ∷ test (not (eqb (length % m .size) 0)) illegalArguments
-    ∷ test (pastTop offset length) illegalArguments
+    ∷ test (lengthWrong (m .size) offset length) illegalArguments
     ∷ test (elsewhere (m .state) (m .mode) (m .moved) offset) illegalArguments
     ∷ [])
     (accept Plain (moverWindow offset length m))

@@ -19,6 +19,7 @@ use Rattle.rules.specs.TapeService.{TapePart, tapeStep, moverPartStep}
 use Rattle.rules.specs.declared.Ends.{Ends}
 use Rattle.rules.specs.Joint.{dataConnect, moverConnect, jointStep}
 use Rattle.rules.specs.Relation.{dataWrong, moverWrong, sameFlag, Legal}
+use Rattle.rules.specs.Endless.{EndlessRules}
 
 -- a step keeps what its part owes by itself, and what the other parts see of it
 pub record Keeps {A : Type 0} (wrong side : A → Bool) (p : A) (next : A) : Type 0 where
@@ -58,7 +59,7 @@ pub record Stopped (m next : Mover) : Type 0 where
   pub reasons : (next .pause ≡ 0) × (next .halt ≡ 0)
 
 -- no window outlives a change of record size or a pause; stop keeps the record size and resets the rest; a window in force is a
--- multiple of the record size in offset and length, and ends at 2^64 - 1 at the most
+-- multiple of the record size in offset and, but for the length all ones, in length, and ends at 2^64 - 1 at the most
 pub record WindowRules : Type 0 where
   pub resized : (m : Mover) (size : ℕ) → Accepts (λ _ next. (next .length ≡ 0) × (next .offset ≡ 0) × (next .size ≡ size)) (setSize m size)
   pub paused : (why : ℕ) (m : Mover) → (moverPauses why m .length ≡ 0) × (moverPauses why m .offset ≡ 0)
@@ -80,3 +81,4 @@ pub record Promises : Type 0 where
   pub relation : RelationKept
   pub windows : WindowRules
   pub reads : ReadRules
+  pub endless : EndlessRules

@@ -8,8 +8,8 @@ use Rattle.rules_parts.specs.declared.types.Data.{Data}
 use Rattle.rules_parts.specs.declared.types.Mover.{Mover}
 use Rattle.rules_parts.specs.declared.types.Tape.{Tape}
 use Rattle.rules_parts.specs.declared.types.Session.{Session}
-use Rattle.rules_parts.specs.Names.{dataConnected, moverListening, moverActive, moverPaused, moverHalted, toTapeMode, largestSize, top}
-use Rattle.rules_parts.specs.Parts.{dataJoined, moverJoined, holdsTape, unwritable, pastTop, windowEnd}
+use Rattle.rules_parts.specs.Names.{dataConnected, moverListening, moverActive, moverPaused, moverHalted, toTapeMode, largestSize, top, endless}
+use Rattle.rules_parts.specs.Parts.{dataJoined, moverJoined, holdsTape, unwritable, pastTop, windowEnd, lengthWrong}
 
 -- ---- each is true where something is wrong
 unfoldable pub dataWrong : Data → Bool
@@ -28,8 +28,7 @@ windowWrong size offset length =
     choose (eqb length 0) false
     (choose (eqb size 0) true
     (choose (not (eqb (offset % size) 0)) true
-    (choose (not (eqb (length % size) 0)) true
-    (pastTop offset length))))
+    (lengthWrong size offset length)))
 
 -- before the first byte nothing has been moved: IDLE and LISTEN
 unfoldable pub startWrong : Mover → Bool
@@ -92,7 +91,8 @@ keeps s =
 pub record Legal (size offset length : ℕ) : Type 0 where
   pub some : 1 ≤ size
   pub offsets : offset % size ≡ 0
-  pub lengths : length % size ≡ 0
+  pub lengths : (length ≡ endless → ⊥) → length % size ≡ 0
+  pub starts : offset ≤ windowEnd offset length
   pub fits : windowEnd offset length ≤ top
 
 pub record Held (m : Mover) (t : Tape) : Type 0 where

@@ -32,6 +32,7 @@ use Rattle.rules.specs.Relation.{keeps, MoverKept}
 use Rattle.rules.specs.Answer.{Kept, Lent, Answered, answered, isClose, outcome, requestIn, Done, tapePart, withData, withTape, withChanger, withLogin, withEnds}
 use Rattle.rules.specs.Order.{Call}
 use Rattle.rules.proofs.JudgeLaws.{accepts, accepts-any, accepts-map, refusal-says, carried}
+use Rattle.rules_parts.proofs.Ending.{length-right}
 use Rattle.rules.proofs.Kept.{mover-kept}
 use Rattle.rules.proofs.Keeping.{clash, listen-holds}
 use Rattle.rules.proofs.Guarding.{by-guard}
@@ -136,8 +137,9 @@ module _ (size asked end given : ℕ) (m : Mover) (p : ℕ) (a : Along size aske
         origin = λ _. on-record size p given z (a .low) (a .high) ∙ sym o;
       }
 
-  window-along : (offset length : ℕ) → (m .state ≡ 2 → ⊥) → offset ≡ end → end ≡ given → Along size asked (windowEnd offset length) given (moverWindow offset length m) p
-  window-along offset length n e f =
+  window-along : (offset length : ℕ) → (m .state ≡ 2 → ⊥) → offset ≤ windowEnd offset length → offset ≡ end → end ≡ given
+      → Along size asked (windowEnd offset length) given (moverWindow offset length m) p
+  window-along offset length n s e f =
       record {
         sized = a .sized;
         seeks = a .seeks;
@@ -183,7 +185,8 @@ module _ (size asked end given : ℕ) (m : Mover) (t : Tape) (a : Along size ask
       (λ g _. let e : m .state ≡ 3 = is (g 1) in runs-along size asked end given m _ a (m .mode) t kept (isnt (g 3)) (λ z. omega arith) (λ z. omega arith))
   mover-along MoverRequest.Stop = accepts (MoverGoes Reset) _ _ _ (λ _ z. absurd z)
   mover-along (MoverRequest.Window offset length) =
-      accepts (MoverGoes (Window offset length)) _ _ _ (λ g z. window-along size asked end given m _ a offset length (not-active (m .state) (g 0)) (z .0) (z .1))
+      accepts (MoverGoes (Window offset length)) _ _ _
+      (λ g z. window-along size asked end given m _ a offset length (not-active (m .state) (g 0)) (length-right (m .size) offset length (g 4) .starts) (z .0) (z .1))
   mover-along (MoverRequest.Read offset length) =
       accepts (MoverGoes (Read offset length)) _ _ _ (λ g z. seeks-along size asked end given m _ a offset length (is (g 4)) z)
   mover-along (MoverRequest.Size n) = accepts (MoverGoes Reset) _ _ _ (λ _ z. absurd z)

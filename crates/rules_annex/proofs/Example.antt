@@ -21,11 +21,11 @@ use Rattle.rules.specs.DataService.{dump, dataStart, dataStop, dataStep}
 use Rattle.rules.specs.Joint.{dataConnect, jointStep}
 use Rattle.rules.specs.Judge.{judge, onto, isAccepted}
 use Rattle.rules.specs.MoverService.{offsetWrong, moverListen, moverContinue, moverStop, moverRead, busy, elsewhere, setWindow, setSize, moverStep}
-use Rattle.rules_parts.specs.Parts.{windowEnd, pastTop, dataJoined, moverJoined, holdsTape, unwritable}
+use Rattle.rules_parts.specs.Parts.{windowEnd, pastTop, lengthWrong, dataJoined, moverJoined, holdsTape, unwritable}
 use Rattle.rules.specs.Relation.{dataWrong, numbersWrong, windowWrong, startWrong, holdWrong, strays, resumeWrong, placeWrong, originWrong, moverWrong, sameFlag, keeps}
 use Rattle.rules.specs.TapeService.{tape0, tapeOpen, isRefusal, protects, tapeMtio, tapeWrite, deviceStep, tapeStep, moverPartStep}
 use Rattle.rules_moves.specs.Events.{movedToTape, movedFromTape}
-use Rattle.rules_moves.specs.Moves.{idle, streamEnds, scant, filling, toTape, outside, seekFrom, amount, reading, onFound, seeking, fromTape}
+use Rattle.rules_moves.specs.Moves.{idle, streamEnds, scant, windowUsed, filling, toTape, outside, seekFrom, amount, reading, onFound, seeking, fromTape}
 use Rattle.rules_moves.specs.Sequence.{Asked, step, runs, isHeard, moverAsked, dataAsked, jointAsked, asked, moveShown, seen}
 use Rattle.rules_moves.specs.Counts.{trace, recordsIn, sum}
 use Rattle.rules_annex.specs.RoundTrip.{padding, filledUp, handedOver, moverNote, note, noted, askedAfter, endAfter}
@@ -40,9 +40,9 @@ unfolding
     layout.counted layout.fieldAt layout.andValue layout.andRead layout.readAs put puts summed scanned decoded connectBody tapeBody dataBody moverBody jointBody
     opaques bodyBytes shapeOf headerError replyBytes guarded noticed outcome needsLogin isLocked verdict isUnread refusing settled isClose judged
     requested answered connectOpen matches clientAuth connectStep dump dataStart dataStop dataStep dataConnect jointStep judge onto isAccepted offsetWrong
-    moverListen moverContinue moverStop moverRead busy elsewhere setWindow setSize moverStep pastTop dataJoined moverJoined holdsTape unwritable dataWrong
+    moverListen moverContinue moverStop moverRead busy elsewhere setWindow setSize moverStep windowEnd pastTop lengthWrong dataJoined moverJoined holdsTape unwritable dataWrong
     numbersWrong windowWrong startWrong holdWrong strays resumeWrong placeWrong originWrong moverWrong sameFlag keeps tape0 tapeOpen isRefusal
-    protects tapeMtio tapeWrite deviceStep tapeStep moverPartStep movedToTape movedFromTape idle streamEnds scant filling toTape
+    protects tapeMtio tapeWrite deviceStep tapeStep moverPartStep movedToTape movedFromTape idle streamEnds scant windowUsed filling toTape
     outside seekFrom amount reading onFound seeking fromTape step runs isHeard moverAsked dataAsked jointAsked asked moveShown seen trace recordsIn sum
     padding filledUp handedOver moverNote note noted askedAfter endAfter call blank
     untouched asideRequest aside asides atSize lasts backs inTurn recovers

@@ -16,7 +16,8 @@ use Rattle.tape_image.specs.Image.{count, entryLen, entryBytes, faulty}
 use Rattle.rules_parts.specs.declared.types.Data.{Data}
 use Rattle.rules_parts.specs.declared.types.Mover.{Mover}
 use Rattle.rules_parts.specs.declared.types.Tape.{Tape}
-use Rattle.rules_parts.specs.Parts.{moverHands}
+use Rattle.rules_parts.specs.Names.{endless}
+use Rattle.rules_parts.specs.Parts.{moverHands, windowEnd}
 use Rattle.rules.specs.Relation.{keeps, MoverKept, Legal}
 use Rattle.rules.specs.Answer.{Kept, Lent, Answered}
 use Rattle.rules.proofs.Kept.{mover-kept}
@@ -27,7 +28,7 @@ use Rattle.rules_moves.specs.declared.Found.{Found}
 use Rattle.rules_moves.specs.Moves.{idle, outside, ordinal, inRecord, seekFrom, amount, Handing, reading, onFound, sought, seeking, fromTape}
 use Rattle.rules_moves.specs.Events.{Moving, announced, movedFromTape}
 use Rattle.rules_moves.specs.Sequence.{Event, Asked, ToTape, FromTape, Ended, Inserted, Renumbered, step}
-use Rattle.rules_moves.proofs.Moving.{times, whole-more, running}
+use Rattle.rules_moves.proofs.Moving.{before-end, running}
 use Rattle.rules_moves.proofs.Sequence.{Carries, announced-carries, stepped}
 use Rattle.rules_annex.specs.RoundTrip.{Recovers, handedOver, noted, Noted, Window, Read, Reset, Other, askedAfter}
 use Rattle.rules_annex.proofs.Calls.{aside-stays}
@@ -75,13 +76,6 @@ spot size origin offset seek n some o low high =
     spot-by size origin offset seek n ((seek - offset) / size) ((seek - offset) % size) (div-add-mod' (seek - offset) size)
     (mod-lt (seek - offset) {m = size} some) o low high
 
--- a record that begins before the window's end lies in the window
-inside-window : (size origin offset length i : ℕ) → origin * size ≡ offset → length % size ≡ 0 → i * size < offset + length → i * size + size ≤ offset + length
-inside-window size origin offset length i o z h =
-    let t = times length size z in
-    let le = whole-more size i origin (length / size) (omega arith) in
-    omega arith
-
 -- ---- bytes
 take-over : (n : ℕ) (x b : List ℕ) → length x ≡ n → take n (overlay 0 x b) ≡ x
 unfolding overlay
@@ -112,7 +106,7 @@ module _ (asked end : ℕ) (l bytes : List ℕ) (n : ℕ) (d : Data) (m : Mover)
   nothing : (m′ : Mover) (p′ : ℕ) → Along (m .size) asked end (m .seek) m′ p′ → Gives (m .size) asked end (m .seek) bytes 0 b m′ p′
   nothing m′ p′ c = record { handed = refl; along = rw (add-zero (m .seek)) c }
 
-  module _ (active : m .state ≡ 2) (left : 1 ≤ m .left) (room : 1 ≤ length b) (low : m .offset ≤ m .seek) (high : m .seek < m .offset + m .length) where
+  module _ (active : m .state ≡ 2) (left : 1 ≤ m .left) (room : 1 ≤ length b) (low : m .offset ≤ m .seek) (high : m .seek < windowEnd (m .offset) (m .length)) where
     legal : Legal (m .size) (m .offset) (m .length)
     legal = k .window (k .hold (active-holds (m .state) active) .window)
 
@@ -149,11 +143,15 @@ module _ (asked end : ℕ) (l bytes : List ℕ) (n : ℕ) (d : Data) (m : Mover)
         let p = place in
         let o = a .origin active in
         let w = a .window (k .hold (active-holds (m .state) active) .window) in
-        let f = inside-window (m .size) (m .origin) (m .offset) (m .length) (m .origin + ordinal m) o (legal .lengths) (omega arith) in
         let e = a .lefts in
         let tl = taken-left in
         let ts = taken-some in
         let tp = taken-part in
+        let whole = div-add-mod' (m .seek - m .offset) (m .size) in
+        let seeks = k .seeks in
+        let f =
+        before-end (m .size) (m .offset) (m .length) (m .seek) (ordinal m) (inRecord m) taken legal (p .part) whole tp low high (omega arith) (eqb (m .length) endless)
+        refl in
         let we = w .ends in
         let d = add-mul (m .origin + ordinal m) 1 (m .size) in
         record {

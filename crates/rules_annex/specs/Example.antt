@@ -1,5 +1,5 @@
 -- A computed instance of the premises: a stream of 10 bytes at record size 4, from the opening of the session on, over two windows there and two
--- windows back. Each request is a record as it stands on the wire.
+-- windows back, the second of each with no end. Each request is a record as it stands on the wire.
 use Prim.Native.Nat.{ℕ}
 use mathlib.Core.Bool.{Bool, true, false}
 use mathlib.Core.List.{List, [], _∷_, _++_}
@@ -10,7 +10,7 @@ use Rattle.xdr.specs.Xdr.{be32s, be64}
 use Rattle.xdr_opaque.specs.Put.{opaque}
 use Rattle.tape_image.specs.Image.{count, used}
 use Rattle.wire_frame.specs.Frame.{recordBytes}
-use Rattle.rules_parts.specs.Names.{toTapeMode, fromTapeMode, readWrite}
+use Rattle.rules_parts.specs.Names.{toTapeMode, fromTapeMode, readWrite, endless}
 use Rattle.rules.specs.Answer.{Kept, held}
 use Rattle.rules.specs.Order.{Call}
 use Rattle.rules.specs.Calls.{openedSession}
@@ -50,8 +50,8 @@ blank = be32s (1 ∷ 4 ∷ 0 ∷ 0 ∷ []) ++ replicate 48 0
 abbrev pub started : Kept
 started = held openedSession blank
 
--- ---- the backup: open, auth, tape open for writing, set record size 4; window (0, 8), listen, connect, start; two records, EOW; window (8, 4),
--- continue; a tape write, which is refused; the last two bytes; the end
+-- ---- the backup: open, auth, tape open for writing, set record size 4; window (0, 8), listen, connect, start; two records, EOW; from 8 on
+-- a window with no end, continue; a tape write, which is refused; the last two bytes; the end
 abbrev pub stream : List ℕ
 stream = 11 ∷ 12 ∷ 13 ∷ 14 ∷ 15 ∷ 16 ∷ 17 ∷ 18 ∷ 19 ∷ 20 ∷ []
 
@@ -69,7 +69,7 @@ backup =
     ∷ feeds (11 ∷ 12 ∷ 13 ∷ 14 ∷ 15 ∷ []) false
     ∷ feeds (15 ∷ 16 ∷ 17 ∷ 18 ∷ []) false
     ∷ feeds (19 ∷ 20 ∷ []) true
-    ∷ window 8 4
+    ∷ window 8 endless
     ∷ continue
     ∷ asks 0x304 (opaque (9 ∷ []))
     ∷ feeds (19 ∷ 20 ∷ []) true
@@ -83,7 +83,8 @@ rewind = call 0x303 (be32s (rewindTape ∷ 1 ∷ []))
 abbrev pub meanwhile : List Event
 meanwhile = asks 0x407 [] ∷ asks 0xA04 [] ∷ []
 
--- ---- the recover: window (0, 8), listen in mode 1, connect, start; a read of two bytes, and one of the other ten; SEEK; window (8, 4), continue
+-- ---- the recover: window (0, 8), listen in mode 1, connect, start; a read of two bytes, and one of the other ten; SEEK; from 8 on a window with no end,
+-- continue
 abbrev pub recover : List Event
 recover =
     window 0 8
@@ -97,7 +98,7 @@ recover =
     ∷ draws 3
     ∷ draws 3
     ∷ draws 3
-    ∷ window 8 4
+    ∷ window 8 endless
     ∷ continue
     ∷ draws 8
     ∷ draws 8

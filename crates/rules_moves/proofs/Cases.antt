@@ -23,7 +23,7 @@ use Rattle.rules.specs.Joint.{dataConnect, moverConnect, atRest, moverAborted, 
 use Rattle.rules.specs.Judge.{judge, onto}
 use Rattle.rules.specs.MoverService.{recordNumber, moverState, offsetWrong, moverListen, moverContinue, moverStop, busy, elsewhere}
 use Rattle.rules.specs.MoverService.{setWindow, moverRead, setSize, moverStep}
-use Rattle.rules_parts.specs.Parts.{pastTop, toldIn, dataJoined, moverJoined, holdsTape, unwritable}
+use Rattle.rules_parts.specs.Parts.{windowEnd, pastTop, lengthWrong, toldIn, dataJoined, moverJoined, holdsTape, unwritable}
 use Rattle.rules.specs.Relation.{dataWrong, numbersWrong, windowWrong, startWrong, holdWrong, strays, resumeWrong, placeWrong}
 use Rattle.rules.specs.Relation.{originWrong, moverWrong, sameFlag, keeps}
 use Rattle.rules.specs.TapeService.{tape0, tapeOpen, isRefusal, protects, tapeState, tapeMtio, deviceStep, tapeStep, moverPartStep}
@@ -32,9 +32,10 @@ use Rattle.rules_moves.specs.Events.{movedToTape, movedFromTape, methodE
 use Rattle.rules_moves.specs.Examples.{ExamplesHold}
 use Rattle.rules_moves.specs.RecoverCases.{RecoverCasesHold}
 use Rattle.rules_moves.specs.FirstSizeCases.{FirstSizeCasesHold}
-use Rattle.rules_moves.specs.Moves.{idle, streamEnds, scant, filling, toTape, outside, seekFrom, amount, reading, onFound, seeking, fromTape, methodEnd}
+use Rattle.rules_moves.specs.EndlessCases.{EndlessCasesHold}
+use Rattle.rules_moves.specs.Moves.{idle, streamEnds, scant, windowUsed, filling, toTape, outside, seekFrom, amount, reading, onFound, seeking, fromTape, methodEnd}
 
-pub cases-hold : ExamplesHold × RecoverCasesHold × FirstSizeCasesHold
+pub cases-hold : ExamplesHold × RecoverCasesHold × FirstSizeCasesHold × EndlessCasesHold
 unfolding
     choose allOf be32 be32s word be64 hyper overlay sameBytes allZero opaqueAt opaque
     entryBytes headerOk tableOk isSound faulty marksBefore recordsSince aheadOf passes positionAfter leftAfter stops walk spacing
@@ -44,9 +45,14 @@ unfolding
     replyBytes noticeNumber noticeWords noticeBytes guarded noticed outcome needsLogin isLocked verdict isUnread refusing settled
     isClose judged requested answered opening connectOpen matches clientAuth connectStep dump dataStart dataState dataStop
     dataStep dataConnect moverClose jointStep judge onto recordNumber moverState offsetWrong moverListen moverContinue moverStop
-    busy elsewhere setWindow moverRead setSize moverStep pastTop toldIn dataJoined moverJoined holdsTape unwritable dataWrong
+    busy elsewhere setWindow moverRead setSize moverStep windowEnd pastTop lengthWrong toldIn dataJoined moverJoined holdsTape unwritable dataWrong
     numbersWrong windowWrong startWrong holdWrong strays resumeWrong placeWrong originWrong moverWrong sameFlag keeps tape0
     tapeOpen isRefusal protects tapeState tapeMtio deviceStep tapeStep moverPartStep movedToTape movedFromTape methodEnded wordsBytes
-    wire wide runLine runCase notices expect streamed idle streamEnds scant filling toTape outside seekFrom amount reading onFound
+    wire wide runLine runCase notices expect streamed idle streamEnds scant windowUsed filling toTape outside seekFrom amount reading onFound
     seeking fromTape methodEnd moverConnect atRest moverAborted moverAbort
-cases-hold = (refl, refl, record { fresh = refl; handed-in = refl })
+cases-hold = (
+  refl,
+  refl,
+  record { fresh = refl; handed-in = refl },
+  record { cases = refl; legal = (refl, refl); record-more = refl; empty-part = refl; short-part = refl; stream-over = refl },
+)

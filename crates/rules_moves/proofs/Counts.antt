@@ -41,7 +41,7 @@ Moves MoverStopped = ⊥
 Moves DataStopped = ⊥
 Moves (Began position) = ⊥
 
-abbrev Writes : Seen → Type 0
+abbrev pub Writes : Seen → Type 0
 Writes (Wrote n k) = Unit {0}
 Writes Paused = Unit {0}
 Writes Nothing = Unit {0}
@@ -67,7 +67,7 @@ moves (Renumbered n) w i = tt
 moves (Asked c) w i = absurd i
 moves (Ended l ok) w i = absurd i
 
-writes : (e : Event) (w : Kept) → IsToTape e → Writes (seen e w)
+pub writes : (e : Event) (w : Kept) → IsToTape e → Writes (seen e w)
 unfolding seen
 writes (ToTape l stream last) w i = by-shown Writes _ _ _ _ tt tt tt
 writes (Inserted image) w i = tt

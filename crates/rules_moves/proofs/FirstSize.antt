@@ -245,7 +245,7 @@ module _ (m : Mover) (n : 1 ≤ m .size) where
           λ h _. sized h,
           (
             other q _ 9 (λ z. omega arith),
-            (other q _ 9 (λ z. omega arith), (other q _ 9 (λ z. omega arith), (other q _ 9 (λ z. omega arith), (other q _ 9 (λ z. omega arith), tt)))),
+            (other q _ 9 (λ z. omega arith), (other q _ 9 (λ z. omega arith), (other q _ 9 (λ z. omega arith), tt))),
           ),
         ),
       )

@@ -1,10 +1,11 @@
 -- `Asking` has what a request shows and leaves of the register, `Moving` what a move shows and leaves, `Sequence` what holds over any
--- sequence of calls, `Counts` what the counts are after it, `Modes` each call in the other's mode, `FirstSize` the record size from a fresh
--- session on, `Cases` the computed cases.
+-- sequence of calls, `Counts` what the counts are after it, `Endless` windows with no end, `Modes` each call in the other's mode, `FirstSize` the
+-- record size from a fresh session on, `Cases` the computed cases.
 pub mod Asking
 pub mod Moving
 pub mod Sequence
 pub mod Counts
+pub mod Endless
 pub mod Modes
 pub mod FirstSize
 pub mod Cases

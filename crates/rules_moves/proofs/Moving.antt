@@ -19,14 +19,16 @@ use Rattle.tape_ops.specs.Step.{Step, keeping}
 use Rattle.rules_parts.specs.declared.types.Data.{Data}
 use Rattle.rules_parts.specs.declared.types.Mover.{Mover}
 use Rattle.rules_parts.specs.declared.types.Tape.{Tape}
-use Rattle.rules_parts.specs.Parts.{wrapped, moverPauses, moverHalts, moverRecords, moverHands, dataJoined, moverJoined, holdsTape}
+use Rattle.rules_parts.specs.Names.{top, endless}
+use Rattle.rules_parts.specs.Parts.{wrapped, moverPauses, moverHalts, moverRecords, moverHands, dataJoined, moverJoined, holdsTape, windowEnd}
 use Rattle.rules.specs.TapeService.{movedTo}
 use Rattle.rules.specs.Relation.{dataWrong, moverWrong, sameFlag, Legal, Held, InWindow, MoverKept}
+use Rattle.rules_parts.proofs.Ending.{end-endless, end-other}
 use Rattle.rules.proofs.Kept.{mover-kept, kept-mover}
 use Rattle.rules.proofs.Keeping.{clash, active-holds, halts-kept}
 use Rattle.rules_moves.specs.declared.Move.{Move}
 use Rattle.rules_moves.specs.declared.Found.{Found}
-use Rattle.rules_moves.specs.Moves.{still, pauses, halts, takes, hands, idle, streamEnds, scant, writing, filling, toTape}
+use Rattle.rules_moves.specs.Moves.{still, pauses, halts, takes, hands, idle, streamEnds, scant, writing, windowUsed, filling, toTape}
 use Rattle.rules_moves.specs.Moves.{outside, ordinal, inRecord, seekFrom, amount, Handing, untouched, reading, onFound, sought, seeking, fromTape, methodEnd}
 use Rattle.rules_moves.specs.Sequence.{Seen, Wrote, Handed, Paused, Nothing, partsRegister, after, FitsRegister, moveShown, imageAfter, HandedFrom, destAfter, countOf}
 
@@ -135,15 +137,10 @@ whole-more s a b c h =
 pub times : (a s : ℕ) → a % s ≡ 0 → a / s * s ≡ a
 times a s h = let e = div-add-mod' a s in omega arith
 
-one-more : (s o n v : ℕ) → Legal s o n → InWindow s o n v → (v ≡ o + n → ⊥) → v + s ≤ o + n
-one-more s o n v w p h =
-    let a = times v s (p .records) in
-    let b = times o s (w .offsets) in
-    let e = times n s (w .lengths) in
-    let to = p .to in
-    let lt : v / s * s < o / s * s + n / s * s = omega (arith, h) in
-    let g = whole-more s (v / s) (o / s) (n / s) lt in
-    omega arith
+-- where the window is not used up, a whole record more fits
+one-more : (s o n v : ℕ) → windowUsed s o n v ≡ false → v + s ≤ windowEnd o n
+unfolding windowUsed
+one-more s o n v h = ltb-false (windowEnd o n) (v + s) (none-of _ h .1)
 
 -- where the part is not the empty last one, nor less than a record and not last, there is something to take
 pub some-taken : (last : Bool) (n size : ℕ) → streamEnds last n ≡ false → scant last n size ≡ false → 1 ≤ size → 1 ≤ least n size
@@ -186,7 +183,7 @@ module _ (d : Data) (m : Mover) (t : Tape) (l s : List ℕ) (k : PartsKept d m t
         sound = λ h. h;
       }
 
-  module _ (r : Running 0 1 d m) (n : ℕ) (some : 1 ≤ n) (part : n ≤ m .size) (room : m .moved + m .size ≤ m .offset + m .length) where
+  module _ (r : Running 0 1 d m) (n : ℕ) (some : 1 ≤ n) (part : n ≤ m .size) (room : m .moved + m .size ≤ windowEnd (m .offset) (m .length)) where
     held : Held m t
     held = facts d m t k .hold (active-holds (m .state) (r .active))
 
@@ -235,7 +232,7 @@ module _ (d : Data) (m : Mover) (t : Tape) (l s : List ℕ) (k : PartsKept d m t
       let z = facts d m t k .sizes in
       sound-holds _ (written-sound l (t .position) _ (placed l (t .position) f) (omega arith) (room-facts l (t .position) _ (rw e r)))
 
-  writes-to : (last : Bool) → idle 0 1 d m ≡ false → faulty l (t .position) ≡ false → streamEnds last (length s) ≡ false → (m .moved ≡ m .offset + m .length → ⊥)
+  writes-to : (last : Bool) → idle 0 1 d m ≡ false → faulty l (t .position) ≡ false → streamEnds last (length s) ≡ false → windowUsed (m .size) (m .offset) (m .length) (m .moved) ≡ false
       → scant last (length s) (m .size) ≡ false → roomFor l (t .position) (m .size) ≡ true → ToTurn d m t l s (writing d m t l s)
   unfolding imageAfter
   writes-to last i f z w c r =
@@ -245,8 +242,7 @@ module _ (d : Data) (m : Mover) (t : Tape) (l s : List ℕ) (k : PartsKept d m t
       let n = least (length s) (m .size) in
       let some : 1 ≤ n = some-taken last (length s) (m .size) z c (u .some) in
       let part : n ≤ m .size = least-right (length s) (m .size) in
-      let v = h .window (h .hold (active-holds (m .state) (g .active)) .window) in
-      let room : m .moved + m .size ≤ m .offset + m .length = one-more (m .size) (m .offset) (m .length) (m .moved) v u w in
+      let room = one-more (m .size) (m .offset) (m .length) (m .moved) w in
       record {
         turn = takes-turn g n some part room;
         image = rw (shown-moved m (Wrote (m .size) n) (moverRecords m) n some) refl;
@@ -265,7 +261,7 @@ module _ (d : Data) (m : Mover) (t : Tape) (l s : List ℕ) (k : PartsKept d m t
       (λ z. by-test P _ _ _ (λ _. pauses-to 5 (running 0 1 d m i .active))
       (λ w. by-test P _ _ _ (λ _. still-to)
       (λ c. by-test P _ _ _ (λ _. pauses-to 1 (running 0 1 d m i .active))
-      (λ r. writes-to last i f z (isnt w) c (yes r)))))))
+      (λ r. writes-to last i f z w c (yes r)))))))
 
 -- ---- from tape
 -- the walk passes records only: its target is so many entries after its start, and below the end
@@ -289,6 +285,16 @@ record-inside s q w n e h lt =
     let a = times n s e in
     let b : q * s < 0 * s + n / s * s = omega arith in
     let g = whole-more s q 0 (n / s) b in
+    omega arith
+
+-- what is handed over of a record lies before the window's end: of a window with no end because no more is asked for
+pub before-end : (s o n v q w k : ℕ) → Legal s o n → w < s → q * s + w ≡ v - o → w + k ≤ s → o ≤ v → v < windowEnd o n → v + k ≤ top → (b : Bool) → eqb n endless ≡ b
+    → v + k ≤ windowEnd o n
+before-end s o n v q w k l h e p low below asked true b = rw (end-endless o n (eqb-true n endless b)) asked
+before-end s o n v q w k l h e p low below asked false b =
+    let z = eqb-false n endless b in
+    let f = end-other o n z in
+    let g = record-inside s q w n (l .lengths z) h (omega arith) in
     omega arith
 
 -- what a move from tape comes to
@@ -315,7 +321,7 @@ module _ (d : Data) (m : Mover) (t : Tape) (l b : List ℕ) (k : PartsKept d m t
   pauses-from u why e =
       record { turn = pauses-turn d m _ u why e; dest-end = rw (shown-pause m (Handed 0) why e) refl; room = omega arith; source = λ z. absurd (z refl); kept = pauses-keep d m t k u why e }
 
-  module _ (r : Running 1 2 d m) (n i : ℕ) (some : 1 ≤ n) (asked : n ≤ m .left) (low : m .offset ≤ m .seek) (high : m .seek + n ≤ m .offset + m .length)
+  module _ (r : Running 1 2 d m) (n i : ℕ) (some : 1 ≤ n) (asked : n ≤ m .left) (low : m .offset ≤ m .seek) (high : m .seek + n ≤ windowEnd (m .offset) (m .length))
       (part : inRecord m + n ≤ m .size) (at : i ≡ m .origin + ordinal m) where
     hands-held : Held m t
     hands-held = facts d m t k .hold (active-holds (m .state) (r .active))
@@ -358,11 +364,10 @@ module _ (d : Data) (m : Mover) (t : Tape) (l b : List ℕ) (k : PartsKept d m t
       let w = f .window (f .hold (active-holds (m .state) (g .active)) .window) in
       let a = none-of _ inside in
       let low : m .offset ≤ m .seek = ltb-false _ _ (a .0) in
-      let below : m .seek < m .offset + m .length = ltb-true _ _ (yes (a .1)) in
+      let below : m .seek < windowEnd (m .offset) (m .length) = ltb-true _ _ (yes (a .1)) in
       let s1 = w .some in
       let lt : inRecord m < m .size = mod-lt (m .seek - m .offset) {m = m .size} (omega arith) in
       let whole = div-add-mod' (m .seek - m .offset) (m .size) in
-      let fit = record-inside (m .size) (ordinal m) (inRecord m) (m .length) (w .lengths) lt (omega arith) in
       let n = amount m (length b) in
       let inner = least (m .left) (m .size - inRecord m) in
       let some : 1 ≤ n = least-some inner (length b) (least-some (m .left) (m .size - inRecord m) (omega arith) (omega arith)) (omega arith) in
@@ -370,8 +375,10 @@ module _ (d : Data) (m : Mover) (t : Tape) (l b : List ℕ) (k : PartsKept d m t
       let n2 : inner ≤ m .left = least-left (m .left) (m .size - inRecord m) in
       let n3 : inner ≤ m .size - inRecord m = least-right (m .left) (m .size - inRecord m) in
       let n4 : n ≤ m .left = omega arith in
-      let high : m .seek + n ≤ m .offset + m .length = omega arith in
       let part : inRecord m + n ≤ m .size = omega arith in
+      let seeks = f .seeks in
+      let high =
+      before-end (m .size) (m .offset) (m .length) (m .seek) (ordinal m) (inRecord m) n w lt whole part low below (omega arith) (eqb (m .length) endless) refl in
       by-test (FromTurn d m t l b) (not (eqb (entryLen l i) (m .size))) _ _ (λ _. halts-from 4 5)
       (λ e. record {
         turn = hands-turn g n i some n4 low high part at;

@@ -3,9 +3,11 @@ pub mod Events
 pub mod Cases
 pub mod Examples
 pub mod RecoverCases
+pub mod EndlessCases
 pub mod Sequence
 pub mod Keeping
 pub mod Counts
+pub mod Endless
 pub mod Modes
 pub mod FirstSize
 pub mod FirstSizeCases

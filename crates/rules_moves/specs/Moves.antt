@@ -64,11 +64,15 @@ writing d m t l s =
       image = written l (t .position) (fillTo (take (least (length s) (m .size)) s) (m .size));
     }
 
+-- "bytes moved at the window's end"; 02 No. 1: "also where a whole record more would pass that end"
+unfoldable pub windowUsed : ℕ → ℕ → ℕ → ℕ → Bool
+windowUsed size offset length moved = choose (eqb moved (windowEnd offset length)) true (ltb (windowEnd offset length) (moved + size))
+
 -- rules (4) to (7): "(4) bytes moved at the window's end: PAUSED EOW 5; (5) less than a record and not last: nothing; (6) no room: PAUSED
 -- EOM 1; (7) one record is taken and written"
 unfoldable pub filling : Data → Mover → Tape → List ℕ → List ℕ → Bool → Step Move
 filling d m t l s last =
-    choose (eqb (m .moved) (windowEnd (m .offset) (m .length))) (keeping l (pauses endOfWindow d m t))
+    choose (windowUsed (m .size) (m .offset) (m .length) (m .moved)) (keeping l (pauses endOfWindow d m t))
     (choose (scant last (length s) (m .size)) (keeping l (still d m t))
     (choose (not (roomFor l (t .position) (m .size))) (keeping l (pauses endOfMedium d m t))
     (writing d m t l s)))

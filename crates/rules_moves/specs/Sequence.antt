@@ -244,7 +244,8 @@ FitsRegister r (Began position) = Unit {0}
 FitsRegister r Paused = Unit {0}
 FitsRegister r Nothing = Unit {0}
 
--- a window in force is one that set window accepts for the record size in force: its offset and length are multiples of it
+-- a window in force is one that set window accepts for the record size in force: its offset is a multiple of it, and so is its length unless
+-- that is all ones
 abbrev pub Legitimate : Register → Type 0
 Legitimate r = (r .length ≡ 0 → ⊥) → Legal (r .size) (r .offset) (r .length)
 

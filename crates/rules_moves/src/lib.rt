@@ -1,6 +1,8 @@
 // Moving bytes: what a move comes to, and what holds of moves. The definitions are in specs/; the code stands in the crates above.
 ghost use Rattle.rules_moves.specs.Examples.{ExamplesHold};
 ghost use Rattle.rules_moves.specs.RecoverCases.{RecoverCasesHold};
+ghost use Rattle.rules_moves.specs.EndlessCases.{EndlessCasesHold};
+ghost use Rattle.rules_moves.specs.Endless.{EndlessMoves};
 ghost use Rattle.rules_moves.specs.Sequence.{WindowHolds};
 ghost use Rattle.rules_moves.specs.Keeping.{MovesKeep};
 ghost use Rattle.rules_moves.specs.Counts.{CountsHold};
@@ -39,6 +41,16 @@ pub fn examples_hold()
 // No work: its contract is a second list of cases in one statement: recovers, and moves at marks, ends and faults.
 pub fn recover_cases_hold()
     ensures { λ r. ⌜ RecoverCasesHold ⌝ }
+{}
+
+// No work: its contract is a third list of cases in one statement: windows with no end.
+pub fn endless_cases_hold()
+    ensures { λ r. ⌜ EndlessCasesHold ⌝ }
+{}
+
+// No work: its contract is what rule (4) and the counts come to in windows with no end.
+pub fn endless_moves()
+    ensures { λ r. ⌜ EndlessMoves ⌝ }
 {}
 
 // No work: its contract is that no byte is moved outside the window in force, over any sequence of calls.

@@ -1,2 +1,3 @@
--- `Changing` has what a changed part is, by its one field that is computed.
+-- `Changing` has what a changed part is, by its one field that is computed; `Ending` where a window ends.
 pub mod Changing
+pub mod Ending

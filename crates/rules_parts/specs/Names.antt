@@ -116,6 +116,10 @@ longestCdb = 16
 abbrev pub top : ℕ
 top = 18446744073709551615
 
+-- 02 No. 1: "a window of length 18446744073709551615, all ones, meaning 'until I pause you'"
+abbrev pub endless : ℕ
+endless = 18446744073709551615
+
 -- ---- that the names stand for these numbers
 pub record NamesAre : Type 0 where
   -- IDLE, ACTIVE, HALTED, LISTEN, CONNECTED
@@ -132,4 +136,5 @@ pub record NamesAre : Type 0 where
   pub pauses : endOfMedium ∷ endOfFile ∷ seekOutside ∷ endOfWindow ∷ [] ≡ 1 ∷ 2 ∷ 3 ∷ 5 ∷ []
   -- no action, backup, recover
   pub operations : noOperation ∷ backupOperation ∷ recoverOperation ∷ [] ≡ 0 ∷ 1 ∷ 2 ∷ []
-  pub limits : leastRoom ∷ largestSize ∷ firstSize ∷ longestCdb ∷ top ∷ [] ≡ 36864 ∷ 32768 ∷ 10240 ∷ 16 ∷ 18446744073709551615 ∷ []
+  pub limits : leastRoom ∷ largestSize ∷ firstSize ∷ longestCdb ∷ top ∷ endless ∷ []
+      ≡ 36864 ∷ 32768 ∷ 10240 ∷ 16 ∷ 18446744073709551615 ∷ 18446744073709551615 ∷ []

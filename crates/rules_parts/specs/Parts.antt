@@ -9,7 +9,7 @@ use Rattle.rules_parts.specs.declared.types.Tape.{Tape}
 use Rattle.rules_parts.specs.declared.types.Changer.{Changer}
 use Rattle.rules_parts.specs.declared.types.Login.{Login}
 use Rattle.rules_parts.specs.declared.types.Session.{Session}
-use Rattle.rules_parts.specs.Names.{dataIdle, dataActive, dataHalted, dataConnected, moverIdle, moverListening, moverActive, moverPaused, moverHalted, toTapeMode, noMode, noOperation, firstSize, top}
+use Rattle.rules_parts.specs.Names.{dataIdle, dataActive, dataHalted, dataConnected, moverIdle, moverListening, moverActive, moverPaused, moverHalted, toTapeMode, noMode, noOperation, firstSize, top, endless}
 
 -- the data end at rest
 abbrev pub restData : Data
@@ -108,13 +108,22 @@ abbrev pub moverHands : ℕ → Mover → Mover
 moverHands n m =
     record { state = m .state; mode = m .mode; pause = m .pause; halt = m .halt; size = m .size; offset = m .offset; length = m .length; moved = wrapped (m .moved + n); seek = m .seek + n; left = m .left - n; origin = m .origin }
 
--- where a window, or a part of the stream, ends; the end itself is outside
-abbrev pub windowEnd : ℕ → ℕ → ℕ
-windowEnd offset length = offset + length
+-- where a window ends; the end itself is outside. 02 No. 1: all ones is "a window from the offset up to stream position 2^64 - 1, itself
+-- outside, whatever the record size"
+unfoldable pub windowEnd : ℕ → ℕ → ℕ
+windowEnd offset length = choose (eqb length endless) top (offset + length)
 
 -- "offset + length above 2^64 - 1"
 unfoldable pub pastTop : ℕ → ℕ → Bool
-pastTop offset length = ltb top (windowEnd offset length)
+pastTop offset length = ltb top (offset + length)
+
+-- "length no multiple of the record size, offset + length above 2^64 - 1"; 02 No. 1: "9 no longer tests this length or its sum". What is
+-- left of it there is that the offset is a position, as every hyper is
+unfoldable pub lengthWrong : ℕ → ℕ → ℕ → Bool
+lengthWrong size offset length =
+    choose (eqb length endless) (ltb top offset)
+    (choose (not (eqb (length % size) 0)) true
+    (pastTop offset length))
 
 -- "reasons only in their state"
 unfoldable pub toldIn : ℕ → ℕ → ℕ → ℕ

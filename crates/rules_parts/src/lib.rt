@@ -2,8 +2,8 @@
 // that takes the part and hands back the next. Below the definitions of requests, so that an edit of those does not prove this code again.
 ghost use mathlib.Core.Path.{_≡_};
 ghost use Prim.Native.Nat.{_+_, _≤_};
-ghost use Rattle.rules_parts.specs.Parts.{restData, dataTo, dataStarts, dataHalts, restMover, moverListens, moverRuns, moverPauses, moverHalts, moverWindow, moverSize, moverSeeks, dataFed, moverRecords, moverHands, newSession, withParts, afterMessage, shut, pastTop, toldIn, dataJoined, moverJoined, holdsTape, unwritable};
-ghost use Rattle.rules_parts.specs.Names.{NamesAre};
+ghost use Rattle.rules_parts.specs.Parts.{restData, dataTo, dataStarts, dataHalts, restMover, moverListens, moverRuns, moverPauses, moverHalts, moverWindow, moverSize, moverSeeks, dataFed, moverRecords, moverHands, newSession, withParts, afterMessage, shut, windowEnd, pastTop, lengthWrong, toldIn, dataJoined, moverJoined, holdsTape, unwritable};
+ghost use Rattle.rules_parts.specs.Names.{NamesAre, top};
 ghost use Rattle.rules_parts.specs.Holding.{PartsHold};
 
 pub mod types;
@@ -161,11 +161,42 @@ impl Mover {
     // The record size of a new session.
     pub const FIRST_SIZE: u32 = 10240;
 
+    // The last position of a stream, which no byte has.
+    pub const TOP: u64 = 18446744073709551615;
+
+    // The length of a window with no end.
+    pub const ENDLESS: u64 = 18446744073709551615;
+
     // Whether a part of the stream ends above 2^64 - 1. The sum itself would overflow.
     pub fn is_past_top(offset: u64, length: u64) -> bool
         ensures { λ r. ⌜ r ≡ pastTop offset length ⌝ }
     {
-        18446744073709551615 - offset < length
+        Mover::TOP - offset < length
+    }
+
+    // Whether a window with this length is one that set window refuses.
+    pub fn is_length_wrong(size: u32, offset: u64, length: u64) -> bool
+        requires { ⌜ 1 ≤ size ⌝ }
+        ensures { λ r. ⌜ r ≡ lengthWrong size offset length ⌝ }
+    {
+        if length == Mover::ENDLESS {
+            return false;
+        }
+        if length % size as u64 != 0 {
+            return true;
+        }
+        Mover::is_past_top(offset, length)
+    }
+
+    // Where a window ends.
+    pub fn window_end(offset: u64, length: u64) -> u64
+        requires { ⌜ windowEnd offset length ≤ top ⌝ }
+        ensures { λ r. ⌜ r ≡ windowEnd offset length ⌝ }
+    {
+        if length == Mover::ENDLESS {
+            return Mover::TOP;
+        }
+        offset + length
     }
 
     // Whether a mode goes to tape, and the tape cannot be written.

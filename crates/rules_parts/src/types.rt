@@ -10,8 +10,8 @@ pub struct Data {
     pub processed: u64,
 }
 
-// The mover. A window of length 0 is none; left is what a mover read has still to be given; origin is the tape's position when the
-// mover last became ACTIVE.
+// The mover. A window of length 0 is none, one of length 2^64 - 1 has no end; left is what a mover read has still to be given; origin is the
+// tape's position when the mover last became ACTIVE.
 #[repr(C)]
 pub struct Mover {
     pub state: u32,

@@ -21,10 +21,11 @@ fn is_outside(seek: u64, offset: u64, length: u64) -> bool
     requires { ⌜ windowEnd offset length ≤ top ⌝ }
     ensures { λ r. ⌜ r ≡ outside seek offset length ⌝ }
 {
+    let end = Mover::window_end(offset, length);
     if seek < offset {
         return true;
     }
-    if seek < offset + length {
+    if seek < end {
         return false;
     }
     true

@@ -162,10 +162,7 @@ fn set_window(m: Mover, offset: u64, length: u64) -> MoverDone
     if offset % m.size as u64 != 0 {
         return MoverDone::Refuse(codes::ILLEGAL_ARGUMENTS);
     }
-    if length % m.size as u64 != 0 {
-        return MoverDone::Refuse(codes::ILLEGAL_ARGUMENTS);
-    }
-    if Mover::is_past_top(offset, length) {
+    if Mover::is_length_wrong(m.size, offset, length) {
         return MoverDone::Refuse(codes::ILLEGAL_ARGUMENTS);
     }
     if is_elsewhere(m.state, m.mode, m.moved, offset) {

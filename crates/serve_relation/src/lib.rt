@@ -39,14 +39,10 @@ fn is_window_wrong(size: u32, offset: u64, length: u64) -> bool
     if size == 0 {
         return true;
     }
-    let unit = size as u64;
-    if offset % unit != 0 {
+    if offset % size as u64 != 0 {
         return true;
     }
-    if length % unit != 0 {
-        return true;
-    }
-    Mover::is_past_top(offset, length)
+    Mover::is_length_wrong(size, offset, length)
 }
 
 fn is_start_wrong(m: Mover) -> bool
@@ -78,10 +74,10 @@ fn is_beyond(offset: u64, length: u64, moved: u64) -> bool
     requires { ⌜ offset ≤ moved ⌝ }
     ensures { λ r. ⌜ r ≡ ltb (windowEnd offset length) moved ⌝ }
 {
-    if length < moved - offset {
-        return true;
+    if length == Mover::ENDLESS {
+        return false;
     }
-    false
+    length < moved - offset
 }
 
 fn has_strayed(size: u32, offset: u64, length: u64, moved: u64) -> bool

@@ -1,9 +1,12 @@
 // One move to tape, on the parts of a session: the rules are asked in the order of `toTape`, and the first that applies decides.
 ghost use mathlib.Core.Path.{_≡_};
 ghost use mathlib.Core.Bool.{false};
+ghost use Prim.Native.Nat.{_≤_};
 ghost use Rattle.tape_ops.specs.Step.{Told};
+ghost use Rattle.rules_parts.specs.Names.{top};
+ghost use Rattle.rules_parts.specs.Parts.{windowEnd};
 ghost use Rattle.rules.specs.Relation.{moverWrong};
-ghost use Rattle.rules_moves.specs.Moves.{streamEnds, scant, filling, toTape};
+ghost use Rattle.rules_moves.specs.Moves.{streamEnds, scant, windowUsed, filling, toTape};
 ghost use Rattle.serve_to_tape.specs.Fillable.{Fillable};
 use rules_moves::Move;
 use rules_parts::types::Data;
@@ -30,16 +33,27 @@ fn is_scant(last: bool, n: usize, size: usize) -> bool
     n < size
 }
 
+// The window is used up: its end is reached, or a whole record more would pass it.
+fn is_used(size: u32, offset: u64, length: u64, moved: u64) -> bool
+    requires { ⌜ (moved ≤ windowEnd offset length) × (windowEnd offset length ≤ top) ⌝ }
+    ensures { λ r. ⌜ r ≡ windowUsed size offset length moved ⌝ }
+{
+    let end = Mover::window_end(offset, length);
+    if moved == end {
+        return true;
+    }
+    end - moved < size as u64
+}
+
 // Rules (4) to (7), with the tape at a position of a sound image.
 fn fill_tape(d: Data, m: Mover, t: Tape, image: &mut [u8], stream: &[u8], last: bool) -> Move
     requires { ⌜ Fillable m (now image) (t .position) ⌝ }
     ensures { λ r. ⌜ Told (filling d m t (now (image .entry)) (now (stream .entry)) last) r (now (image .exit)) ⌝ }
 {
-    let end = m.offset + m.length;
     let size = m.size as usize;
     let part = xdr::lesser_len(stream.len(), size);
     let scant = is_scant(last, stream.len(), size);
-    if m.moved == end {
+    if is_used(m.size, m.offset, m.length, m.moved) {
         return serve_moves::pause_at(Mover::END_OF_WINDOW, d, m, t);
     }
     if scant {

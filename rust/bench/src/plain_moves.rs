@@ -28,17 +28,23 @@ enum News {
 
 // ---- the relation (docs/RELATION.md)
 
+/// Where the window ends; None where that is past 2^64 - 1.
+fn window_end(m: &Mover) -> Option<u64> {
+    if m.length == Mover::ENDLESS { Some(Mover::TOP) } else { m.offset.checked_add(m.length) }
+}
+
 fn window_is_right(m: &Mover) -> bool {
     let unit = m.size as u64;
-    m.length == 0
-        || unit != 0 && m.offset % unit == 0 && m.length % unit == 0 && m.offset.checked_add(m.length).is_some()
+    let whole = |n: u64| unit != 0 && n % unit == 0;
+    m.length == 0 || whole(m.offset) && (m.length == Mover::ENDLESS || whole(m.length)) && window_end(m).is_some()
 }
 
 fn place_is_right(m: &Mover) -> bool {
     match m.state {
         Mover::LISTEN => m.offset == 0,
         Mover::ACTIVE => {
-            m.size != 0 && m.offset <= m.moved && m.moved - m.offset <= m.length && m.moved % m.size as u64 == 0
+            let end = window_end(m).unwrap_or(Mover::TOP);
+            m.size != 0 && m.offset <= m.moved && m.moved <= end && m.moved % m.size as u64 == 0
         }
         Mover::PAUSED => m.length == 0 || m.offset == m.moved,
         _ => true,
@@ -91,10 +97,11 @@ fn to_tape(s: &mut Session, image: &mut [u8], stream: &[u8], last: bool) -> Step
     if stream.is_empty() && last {
         return halt(s, "3", Data::SUCCESSFUL, Mover::CONNECT_CLOSED);
     }
-    if m.moved == m.offset + m.length {
+    let size = m.size as usize;
+    let left = window_end(m).map_or(0, |end| end - m.moved);
+    if left == 0 || left < size as u64 {
         return pause(s, "4", Mover::END_OF_WINDOW);
     }
-    let size = m.size as usize;
     if stream.len() < size && !last {
         return nothing("5");
     }
@@ -170,7 +177,7 @@ fn from_tape(s: &mut Session, image: &[u8], dest: &mut [u8]) -> Step {
     if dest.is_empty() {
         return nothing("no room");
     }
-    if m.seek < m.offset || m.seek >= m.offset + m.length {
+    if m.seek < m.offset || window_end(m).is_none_or(|end| m.seek >= end) {
         return pause(s, "SEEK", Mover::SEEK);
     }
     match walk(image, m.origin, (m.seek - m.offset) / m.size as u64) {

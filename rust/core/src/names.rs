@@ -3,11 +3,12 @@
 use crate::{Data, Mover};
 
 macro_rules! numbers {
-    ($t:ident { $($name:ident = $n:literal),* $(,)? }) => {
+    ($t:ident { $($name:ident = $n:literal),* $(,)? $(; $($wide:ident = $m:literal),* $(,)?)? }) => {
         impl $t {
             $(pub const $name: u32 = $n;)*
+            $($(pub const $wide: u64 = $m;)*)?
             /// Each with its name.
-            pub const NAMED: &[(&str, u64)] = &[$((stringify!($name), $n)),*];
+            pub const NAMED: &[(&str, u64)] = &[$((stringify!($name), $n),)* $($((stringify!($wide), $m),)*)?];
         }
     };
 }
@@ -26,7 +27,8 @@ numbers! {
         TO_TAPE = 0, FROM_TAPE = 1, NO_MODE = 2,
         CONNECT_CLOSED = 1, ABORTED = 2, MEDIA_ERROR = 5,
         END_OF_MEDIUM = 1, END_OF_FILE = 2, SEEK = 3, END_OF_WINDOW = 5,
-        FIRST_SIZE = 10240,
+        FIRST_SIZE = 10240;
+        TOP = 18446744073709551615, ENDLESS = 18446744073709551615,
     }
 }
 

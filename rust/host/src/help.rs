@@ -68,8 +68,8 @@ The devices are `tape0` and `changer0`, the method is `dump`, addresses are LOCA
 A backup, seen from the client: connect open (version 4), client auth (text), tape open
 `tape0` for writing, mover set record size (10,240 where it is left out), mover set window,
 mover listen (mode 0), data connect, data start backup. At `mover paused` with reason 5 (end
-of window): set the next window and continue. At `data halted`: data stop, mover stop, tape
-close.
+of window): set the next window and continue; a window of length 2^64 - 1 has no end. At
+`data halted`: data stop, mover stop, tape close.
 A recover is the same with mode 1 and data start recover, from a rewound tape; the mover
 reads are made by the vault.
 

@@ -2,7 +2,7 @@
 use crate::commands::{counted, grouped};
 use crate::line::Shared;
 use crate::log::clock;
-use crate::progress::percent;
+use crate::progress::{percent, window};
 use crate::server::MOST_CONNECTIONS;
 use crate::watch::{All, Seen, Tape};
 use proved::{Data, Mover, Session};
@@ -101,27 +101,30 @@ fn window_told(all: &All) -> String {
         return "<p>No session has the tape.</p>".into();
     };
     let m = &seen.session.mover;
-    let Some(part) = percent(m) else {
+    if m.length == 0 {
         return format!("<p>Session {number} has the tape. No window is in force.</p>");
-    };
+    }
+    let part = percent(m);
     let verb = if m.mode == Mover::FROM_TAPE { "handed over" } else { "written" };
     let done = m.moved.saturating_sub(m.offset).min(m.length);
     let stream = seen
         .whole
         .map_or(String::new(), |n| format!(", {}% of the stream", part_of(seen.session.source.processed.min(n), n)));
     format!(
-        "<p class=window><b>Window {} + {}</b> is in force in session {number}: {} bytes {verb}, {part}%{stream}.</p>{}",
-        grouped(m.offset),
-        grouped(m.length),
+        "<p class=window><b>Window {}</b> is in force in session {number}: {} bytes {verb}{}{stream}.</p>{}",
+        window(m, grouped),
         grouped(done),
-        bar(part)
+        part.map_or(String::new(), |p| format!(", {p}%")),
+        part.map_or(String::new(), bar)
     )
 }
 
 fn row(number: usize, seen: &Seen) -> String {
     let (s, m) = (&seen.session, &seen.session.mover);
-    let window =
-        percent(m).map_or("none".into(), |part| format!("{} + {} {}", grouped(m.offset), grouped(m.length), bar(part)));
+    let window = match m.length {
+        0 => "none".into(),
+        _ => window(m, grouped) + &percent(m).map_or(String::new(), |part| format!(" {}", bar(part))),
+    };
     let tape = match (s.tape.opened, s.tape.writable) {
         (false, _) => "closed".into(),
         (true, false) => format!("open to read, at {}", s.tape.position),

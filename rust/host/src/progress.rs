@@ -18,10 +18,19 @@ pub struct Progress<'a> {
     shown: Instant,
 }
 
-/// The part of the window that is moved, in percent.
+/// The part of the window that is moved, in percent. Of a window with no end there is none.
 pub fn percent(m: &Mover) -> Option<u64> {
     let done = m.moved.checked_sub(m.offset)?.min(m.length);
-    (m.length > 0).then(|| (done as u128 * 100 / m.length as u128) as u64)
+    let ends = m.length > 0 && m.length != Mover::ENDLESS;
+    ends.then(|| (done as u128 * 100 / m.length as u128) as u64)
+}
+
+/// The window in words; numbers are written as the page or the log writes them.
+pub fn window(m: &Mover, number: impl Fn(u64) -> String) -> String {
+    match m.length {
+        Mover::ENDLESS => format!("from {} with no end", number(m.offset)),
+        length => format!("{} + {}", number(m.offset), number(length)),
+    }
 }
 
 /// Data's and mover's state, with the bytes moved, their rate where bytes moved, and the window.
@@ -41,7 +50,7 @@ fn told(s: &Session, rate: Option<f64>) -> String {
         text += &format!(" at {rate:.1} MB/s");
     }
     if s.mover.length > 0 {
-        text += &format!(", window {} + {}", s.mover.offset, s.mover.length);
+        text += &format!(", window {}", window(&s.mover, |n| n.to_string()));
     }
     text
 }
@@ -126,6 +135,7 @@ mod tests {
             (0, 0, 0, None),
             (8, 4, 2, None),
             (1, u64::MAX - 1, u64::MAX, Some(100)),
+            (0, Mover::ENDLESS, 4, None),
         ] {
             assert_eq!(percent(&active(offset, length, moved).mover), part);
         }
@@ -138,6 +148,9 @@ mod tests {
         assert_eq!(told(&s, Some(1.25)), text);
         assert_eq!(shown(&s, Some(1.25), None), format!("{text} at 25%"));
         assert_eq!(shown(&s, Some(1.25), Some(4096)), format!("{text} at 25%, 50% of the stream"));
+        let endless = active(1024, Mover::ENDLESS, 2048);
+        let text = "data ACTIVE, mover ACTIVE, 2048 bytes, window from 1024 with no end";
+        assert_eq!(shown(&endless, None, Some(4096)), format!("{text}, 50% of the stream"));
         let paused = active(0, 0, 2048);
         assert_eq!(shown(&paused, None, Some(0)), "data ACTIVE, mover ACTIVE, 2048 bytes");
     }

@@ -83,6 +83,30 @@ fn client_that_sets_no_record_size() {
 }
 
 #[test]
+fn window_with_no_end() {
+    let s = Scratch::new();
+    let (from, tape) = (s.folder("from"), s.path("tape"));
+    sample(&from);
+    fs::write(from.join("big"), noise(9, 3_000_000)).unwrap();
+    let to = s.folder("to");
+    let options = ["--new-cartridge", "8M", "--stream", from.to_str().unwrap(), "--restore-to", to.to_str().unwrap()];
+    let host = Host::start(&tape, &options);
+    let mut c = host.login();
+    // 10,240 does not divide it.
+    assert_eq!(c.backup(10_240, Mover::ENDLESS).unwrap(), ended(0, DONE));
+    let written = sound(&fs::read(&tape).unwrap()).unwrap();
+    assert!(written.0 > 300 && written.1 == written.0 * 10_240, "{written:?}");
+    assert_eq!(c.recover(10_240, Mover::ENDLESS).unwrap(), ended(0, DONE));
+    assert_eq!(tree(&from), tree(&to));
+    // Its bounds are those of the rules: the offset is a multiple, and get state gives the length as sent.
+    let refused = c.call(MOVER_SET_WINDOW, &quads(&[512, Mover::ENDLESS])).unwrap();
+    assert_eq!(refused.first(), codes::ILLEGAL_ARGUMENTS);
+    c.window(20_480, Mover::ENDLESS).unwrap();
+    let state = c.good(MOVER_GET_STATE, b"").unwrap();
+    assert_eq!((quad(&state, 52), quad(&state, 60)), (20_480, Mover::ENDLESS));
+}
+
+#[test]
 fn file_comes_back() {
     let s = Scratch::new();
     let (from, to, tape) = (s.path("from"), s.path("to"), s.path("tape"));

@@ -131,6 +131,11 @@ fn page_and_json_tell_the_window() {
     contains(&body, &["<rect class=b", "<line x1=", "session 1: connected from 127.0.0.1:"]);
 
     c.stop().unwrap();
+    c.window(1_024, Mover::ENDLESS).unwrap();
+    let body = get(&page, "/").1;
+    contains(&body, &["<b>Window from 1,024 with no end</b> is in force in session 1: 0 bytes written"]);
+    contains(&body, &["<td>from 1,024 with no end</td>"]);
+    contains(&get(&page, "/status.json").1, &["{\"offset\":1024,\"length\":18446744073709551615,\"percent\":null}"]);
     c.tape_close().unwrap();
     contains(&get(&page, "/").1, &["No session has the tape.", "7 records and 2 marks"]);
     drop(c);

@@ -44,8 +44,11 @@ fn numbers(message: u32) -> &'static [u32] {
 }
 
 /// Sizes and numbers at their limits.
-const EDGES: [&str; 8] = [
+const EDGES: [&str; 11] = [
     "window's end near 2^64",
+    "a window with no end",
+    "to tape in a window with no end",
+    "from tape in a window with no end",
     "to tape near 2^64",
     "from tape near 2^64",
     "to tape, record of 32,768",
@@ -98,6 +101,7 @@ pub fn wanted() -> Vec<String> {
         "(2) fault",
         "(3) end",
         "(4) EOW",
+        "(4) EOW before a record that would pass the end",
         "(5) waits",
         "(6) EOM",
         "(7) whole record",
@@ -214,8 +218,12 @@ impl Counts {
             _ => [false; 3],
         };
         let to = matches!(step, Step::To { .. });
+        let (endless, end) = (now.length == u64::MAX, now.offset as u128 + now.length as u128);
         for (what, reached) in [
-            ("window's end near 2^64", accepted(0xa05) && now.offset + now.length > near),
+            ("window's end near 2^64", accepted(0xa05) && !endless && end > near as u128),
+            ("a window with no end", accepted(0xa05) && endless),
+            ("to tape in a window with no end", to && count > 0 && endless),
+            ("from tape in a window with no end", matches!(step, Step::From { .. }) && count > 0 && endless),
             ("to tape near 2^64", to && moves[0]),
             ("from tape near 2^64", !to && moves[0]),
             ("to tape, record of 32,768", moves[1]),

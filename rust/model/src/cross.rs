@@ -56,7 +56,10 @@ fn bodies(message: u32) -> Vec<Vec<u8>> {
         0x409 | 0x40a => vec![words(&[0]), words(&[1, 5])],
         0xa01 | 0xa09 => [0, 1, 2].into_iter().flat_map(|mode| [words(&[mode, 0]), words(&[mode, 1])]).collect(),
         0xa05 => {
-            [(0, 4), (8, 8), (16, 4), (0, 0), (2, 4), (4, 2), (u64::MAX - 3, 4)].map(|(a, b)| quads(&[a, b])).to_vec()
+            let all = u64::MAX;
+            [(0, 4), (8, 8), (16, 4), (0, 0), (2, 4), (4, 2), (all - 3, 4), (8, all), (2, all), (all - 3, all)]
+                .map(|(a, b)| quads(&[a, b]))
+                .to_vec()
         }
         0xa06 => [(0, 4), (9, 1), (0, 0), (u64::MAX, 1)].map(|(a, b)| quads(&[a, b])).to_vec(),
         0xa08 => [0, 4, 32_768, 32_769].map(|n| words(&[n])).to_vec(),
@@ -140,8 +143,10 @@ fn rest(authorized: bool) -> Session {
     session(&s)
 }
 
-/// Sizes and windows: none, a size only, and windows that start at 0 and later.
-const WINDOWS: [(u32, u64, u64); 4] = [(0, 0, 0), (SIZE, 0, 0), (SIZE, 0, 8), (SIZE, 8, 8)];
+/// Sizes and windows: none, a size only, windows that start at 0 and later, and two with no end, one of them two records
+/// before 2^64.
+const WINDOWS: [(u32, u64, u64); 6] =
+    [(0, 0, 0), (SIZE, 0, 0), (SIZE, 0, 8), (SIZE, 8, 8), (SIZE, 8, u64::MAX), (SIZE, u64::MAX - 7, u64::MAX)];
 
 fn with_window(s: &mut Session, (size, offset, length): (u32, u64, u64)) {
     (s.mover.size, s.mover.offset, s.mover.length) = (size, offset, length);
@@ -232,7 +237,8 @@ pub fn all(mut each: impl FnMut(&[u8], &Session, &Step) -> bool) -> bool {
                             (data, operation, mover, mode);
                         with_window(&mut s, window);
                         for records in 0..3 {
-                            s.mover.moved += if records > 0 && mover >= 2 { SIZE as u64 } else { 0 };
+                            let more = if records > 0 && mover >= 2 { SIZE as u64 } else { 0 };
+                            s.mover.moved = s.mover.moved.wrapping_add(more);
                             if !to.iter().all(|step| each(image, &s, step)) {
                                 return false;
                             }

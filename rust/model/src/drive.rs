@@ -249,7 +249,7 @@ impl Driver {
             },
         };
         let most = (u64::MAX - offset) / size;
-        let length = records.min(most) * size;
+        let length = if self.r.percent(30) { u64::MAX } else { records.min(most) * size };
         // Now and then just off.
         match self.r.below(40) {
             0 => self.quads(0xa05, offset, length.wrapping_add(1)),
@@ -699,7 +699,7 @@ impl Driver {
                 let records = self.r.within(1, 4);
                 let start = u64::MAX / size - records - self.r.below(2).min(u64::MAX / size - records);
                 s.mover.offset = start * size;
-                s.mover.length = records * size;
+                s.mover.length = self.r.pick(&[records * size, u64::MAX]);
                 s.mover.moved = s.mover.offset + self.r.within(0, records) * size;
                 s.source.processed = u64::MAX - self.r.below(2 * size);
             }

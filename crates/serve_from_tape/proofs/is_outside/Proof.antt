@@ -6,18 +6,25 @@ use Rattle.serve_from_tape.proofs.is_outside.Statement.{statement}
 use Rattle.serve_from_tape.proofs.is_outside.Tie as tie
 use Rattle.serve_from_tape.proofs.is_outside.Reads as reads
 use Rattle.serve_from_tape.proofs.is_outside.Lts as lts
+use Rattle.rules_parts.proofs.types.Mover.window_end.Reads as window-end-reads
+
+window-end-requires : tie.Need-window-end-requires
+window-end-requires c κs = search needs
 
 returns : tie.Need-returns
 returns c = before-it _ _ _ (c .if1 .taken)
 
-add-if2 : tie.Need-add-if2
-add-if2 c = search needs
-
 returns-2 : tie.Need-returns-2
-returns-2 c = let a = c .before .before .args in in-it (a .seek) (a .offset) (a .length) (c .before .if1 .left) (omega arith)
+returns-2 c =
+    let a = c .before .before .before .args in
+    let e = c .before .before .window-end .ensures in
+    in-it (a .seek) (a .offset) (a .length) (c .before .if1 .left) (omega arith)
 
 returns-3 : tie.Need-returns-3
-returns-3 c = let a = c .before .before .args in after-it (a .seek) (a .offset) (a .length) (c .before .if1 .left) (omega arith)
+returns-3 c =
+    let a = c .before .before .before .args in
+    let e = c .before .before .window-end .ensures in
+    after-it (a .seek) (a .offset) (a .length) (c .before .if1 .left) (omega arith)
 
 pub is-outside-spec : {M : Type 1} → statement M
-is-outside-spec = tie.close (tie.spec returns add-if2 returns-2 returns-3)
+is-outside-spec = tie.close (tie.spec window-end-requires returns returns-2 returns-3)

@@ -8,7 +8,7 @@ use Rattle.serve_mover.proofs.set_window.Reads as reads
 use Rattle.serve_mover.proofs.set_window.Lts as lts
 use Rattle.serve_mover.proofs.is_busy.Reads as is-busy-reads
 use Rattle.serve_mover.proofs.is_elsewhere.Reads as is-elsewhere-reads
-use Rattle.rules_parts.proofs.types.Mover.is_past_top.Reads as is-past-top-reads
+use Rattle.rules_parts.proofs.types.Mover.is_length_wrong.Reads as is-length-wrong-reads
 use Rattle.rules_parts.proofs.types.Mover.windowed.Reads as windowed-reads
 
 is-busy-requires : tie.Need-is-busy-requires
@@ -36,36 +36,26 @@ returns-4 : tie.Need-returns-4
 unfolding setWindow judge
 returns-4 c = search picking depth 14
 
-cast-if5 : tie.Need-cast-if5
-cast-if5 c = search needs
-
-rem-if5 : tie.Need-rem-if5
-rem-if5 c = search needs
+is-length-wrong-requires : tie.Need-is-length-wrong-requires
+is-length-wrong-requires c κs = search needs
 
 returns-5 : tie.Need-returns-5
 unfolding setWindow judge
 returns-5 c = search picking depth 16
 
-is-past-top-requires : tie.Need-is-past-top-requires
-is-past-top-requires c κs = search needs
+is-elsewhere-requires : tie.Need-is-elsewhere-requires
+is-elsewhere-requires c κs = search needs
 
 returns-6 : tie.Need-returns-6
 unfolding setWindow judge
 returns-6 c = search picking depth 18
 
-is-elsewhere-requires : tie.Need-is-elsewhere-requires
-is-elsewhere-requires c κs = search needs
-
-returns-7 : tie.Need-returns-7
-unfolding setWindow judge
-returns-7 c = search picking depth 20
-
 windowed-requires : tie.Need-windowed-requires
 windowed-requires c κs = search needs
 
-returns-8 : tie.Need-returns-8
+returns-7 : tie.Need-returns-7
 unfolding setWindow judge
-returns-8 c = rw (c .windowed .ensures) (search picking depth 22)
+returns-7 c = rw (c .windowed .ensures) (search picking depth 20)
 
 pub set-window-spec : {M : Type 1} → statement M
 set-window-spec =
@@ -78,12 +68,9 @@ set-window-spec =
     cast-if4
     rem-if4
     returns-4
-    cast-if5
-    rem-if5
+    is-length-wrong-requires
     returns-5
-    is-past-top-requires
-    returns-6
     is-elsewhere-requires
-    returns-7
+    returns-6
     windowed-requires
-    returns-8)
+    returns-7)

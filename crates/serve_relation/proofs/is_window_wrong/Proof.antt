@@ -5,7 +5,7 @@ use Rattle.serve_relation.proofs.is_window_wrong.Statement.{statement}
 use Rattle.serve_relation.proofs.is_window_wrong.Tie as tie
 use Rattle.serve_relation.proofs.is_window_wrong.Reads as reads
 use Rattle.serve_relation.proofs.is_window_wrong.Lts as lts
-use Rattle.rules_parts.proofs.types.Mover.is_past_top.Reads as is-past-top-reads
+use Rattle.rules_parts.proofs.types.Mover.is_length_wrong.Reads as is-length-wrong-reads
 
 returns : tie.Need-returns
 unfolding windowWrong
@@ -22,21 +22,12 @@ returns-3 : tie.Need-returns-3
 unfolding windowWrong
 returns-3 c = search picking depth 12
 
-rem-if4 : tie.Need-rem-if4
-rem-if4 c = search needs
+is-length-wrong-requires : tie.Need-is-length-wrong-requires
+is-length-wrong-requires c κs = search needs
 
 returns-4 : tie.Need-returns-4
 unfolding windowWrong
-returns-4 c = search picking depth 12
-
-is-past-top-requires : tie.Need-is-past-top-requires
-is-past-top-requires c κs = search needs
-
-returns-5 : tie.Need-returns-5
-unfolding windowWrong
-returns-5 c = search picking depth 14
+returns-4 c = search picking depth 14
 
 pub is-window-wrong-spec : {M : Type 1} → statement M
-is-window-wrong-spec =
-    tie.close
-    (tie.spec returns returns-2 rem-if3 returns-3 rem-if4 returns-4 is-past-top-requires returns-5)
+is-window-wrong-spec = tie.close (tie.spec returns returns-2 rem-if3 returns-3 is-length-wrong-requires returns-4)

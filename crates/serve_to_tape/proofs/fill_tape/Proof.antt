@@ -16,10 +16,8 @@ use Rattle.serve_moves.proofs.no_move.Reads as no-move-reads
 use Rattle.serve_moves.proofs.pause_at.Reads as pause-at-reads
 use Rattle.serve_moves.proofs.take_record.Reads as take-record-reads
 use Rattle.serve_to_tape.proofs.is_scant.Reads as is-scant-reads
+use Rattle.serve_to_tape.proofs.is_used.Reads as is-used-reads
 use Rattle.tape_writing.proofs.write_filled.Reads as write-filled-reads
-
-add-end : tie.Need-add-end
-add-end c = search needs
 
 cast-size : tie.Need-cast-size
 cast-size c = search needs
@@ -29,6 +27,9 @@ lesser-len-requires c κs = search needs
 
 is-scant-requires : tie.Need-is-scant-requires
 is-scant-requires c κs = search needs
+
+is-used-requires : tie.Need-is-used-requires
+is-used-requires c κs = search needs
 
 pause-at-requires : tie.Need-pause-at-requires
 pause-at-requires c κs = search needs
@@ -74,10 +75,10 @@ pub fill-tape-spec : {M : Type 1} → statement M
 fill-tape-spec =
     tie.close
     (tie.spec
-    add-end
     cast-size
     lesser-len-requires
     is-scant-requires
+    is-used-requires
     pause-at-requires
     returns
     no-move-requires

@@ -36,8 +36,9 @@ fn random_mover(random: &mut Random, size: usize, position: usize) -> Mover {
     let other = random.below(5) as u32;
     let state = random.one(&[Mover::ACTIVE, Mover::ACTIVE, Mover::ACTIVE, Mover::ACTIVE, Mover::ACTIVE, other]);
     let offset = unit * random.one(&[0, 0, 1, 3, u64::MAX / unit - 3]);
-    let length = unit * random.one(&[1, 2, 2, 3]);
-    let place = random.one(&[0, 1, unit - 1, unit, 2 * unit, length - 1, length, length + 1, u64::MAX]);
+    let records = random.one(&[1, 2, 2, 3]);
+    let length = random.one(&[unit * records, unit * records, Mover::ENDLESS]);
+    let place = random.one(&[0, 1, unit - 1, unit, 2 * unit, length - 1, length, length.wrapping_add(1), u64::MAX]);
     let seek = offset.wrapping_add(place);
     Mover {
         state,
@@ -47,11 +48,7 @@ fn random_mover(random: &mut Random, size: usize, position: usize) -> Mover {
         size: size as u32,
         offset,
         length,
-        moved: if state < Mover::ACTIVE {
-            0
-        } else {
-            offset + unit * random.below(1 + (length / unit) as usize) as u64
-        },
+        moved: if state < Mover::ACTIVE { 0 } else { offset + unit * random.below(1 + records as usize) as u64 },
         seek,
         left: random.one(&[0, 1, 3, unit, 1000, u64::MAX - seek]),
         origin: random.below(1 + position.min(12)),

@@ -2,7 +2,7 @@
 
 use super::record::Notice;
 use super::refusals::{Outcome, refuse};
-use super::state::{BACKUP, Data, Mover, RECOVER, State, data, mover};
+use super::state::{BACKUP, Data, ENDLESS, Mover, RECOVER, State, data, mover};
 use super::xdr::Writer;
 
 fn done() -> Outcome {
@@ -193,13 +193,18 @@ pub fn mover_stop(s: &mut State) -> Outcome {
 
 /// "Set window: IDLE or PAUSED. Record size 0: 26. 9: length 0, offset or length no multiple of the record size, offset
 /// + length above 2^64 - 1, or PAUSED in mode 0 an offset other than bytes moved."
+///
+/// 02 No. 1, of the length all ones: "the offset must still be a multiple"; "9 no longer tests this length or its sum."
 pub fn set_window(s: &mut State, offset: u64, length: u64) -> Outcome {
     let m = &mut s.mover;
     refuse(!matches!(m.state, mover::IDLE | mover::PAUSED), 19)?;
     refuse(m.record_size == 0, 26)?;
     let size = m.record_size as u64;
-    refuse(length == 0 || offset % size != 0 || length % size != 0, 9)?;
-    refuse(offset.checked_add(length).is_none(), 9)?;
+    refuse(length == 0 || offset % size != 0, 9)?;
+    if length != ENDLESS {
+        refuse(length % size != 0, 9)?;
+        refuse(offset.checked_add(length).is_none(), 9)?;
+    }
     refuse(m.state == mover::PAUSED && m.mode == 0 && offset != m.moved, 9)?;
     m.window = (offset, length);
     done()

@@ -3,7 +3,7 @@
 use super::cartridge::Cartridge;
 use super::ends::{halt_data, halt_mover, pause};
 use super::record::Notice;
-use super::state::{BACKUP, RECOVER, State, data, mover};
+use super::state::{BACKUP, ENDLESS, RECOVER, State, data, mover};
 
 /// Bytes taken or handed over, what is sent, and which rule it was (for counting).
 pub struct Move {
@@ -43,12 +43,16 @@ pub fn to_tape(s: &mut State, image: &mut [u8], stream: &[u8], last: bool) -> Mo
         return halts(s, 1, 1, "(3) end");
     }
     // "(4) bytes moved at the window's end: PAUSED EOW 5"
-    let (offset, length) = s.mover.window;
-    if s.mover.moved == offset + length {
+    let size = s.mover.record_size as usize;
+    let (moved, end) = (s.mover.moved as u128, s.mover.window_end());
+    if moved == end {
         return one(pause(s, 5), "(4) EOW");
     }
+    // 02 No. 1: "also where a whole record more would pass that end"
+    if s.mover.window.1 == ENDLESS && moved + size as u128 > end {
+        return one(pause(s, 5), "(4) EOW before a record that would pass the end");
+    }
     // "(5) less than a record and not last: nothing"
-    let size = s.mover.record_size as usize;
     if stream.len() < size && !last {
         return nothing("(5) waits");
     }
@@ -88,11 +92,11 @@ pub fn from_tape(s: &mut State, image: &mut [u8], destination: &mut [u8]) -> Mov
         return nothing("no destination room");
     }
     // "seek position outside the window: PAUSED SEEK 3"
-    let (offset, length) = s.mover.window;
+    let offset = s.mover.window.0;
     if s.mover.seek < offset {
         return one(pause(s, 3), "SEEK before the window");
     }
-    if s.mover.seek >= offset + length {
+    if s.mover.seek as u128 >= s.mover.window_end() {
         return one(pause(s, 3), "SEEK after the window");
     }
     // "The tape position when the mover became ACTIVE stands for the window's offset. Walking from there (each record

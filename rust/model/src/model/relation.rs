@@ -1,7 +1,7 @@
 //! "1002 if the session breaks a relation listed in docs/": the lines of docs/RELATION.md. Gives the number of the
 //! first broken line.
 
-use super::state::{State, data, mover};
+use super::state::{ENDLESS, State, data, mover};
 
 pub fn broken(s: &State) -> Option<u32> {
     let m = &s.mover;
@@ -18,9 +18,13 @@ pub fn broken(s: &State) -> Option<u32> {
     if m.state > 4 || size > 32_768 || m.seek as u128 + m.left as u128 > top {
         return Some(2);
     }
-    // a window in force (length not 0): record size not 0, offset and length its multiples, the end at most 2^64 - 1
-    if in_force && (size == 0 || offset % size != 0 || length % size != 0 || offset as u128 + length as u128 > top) {
-        return Some(3);
+    // a window in force (length not 0): record size not 0, offset its multiple; but for the length all ones, length its
+    // multiple too, and the end at most 2^64 - 1
+    if in_force {
+        let legal = length == ENDLESS || size != 0 && length % size == 0 && m.window_end() <= top;
+        if size == 0 || offset % size != 0 || !legal {
+            return Some(3);
+        }
     }
     // IDLE and LISTEN: nothing has been moved
     if matches!(m.state, mover::IDLE | mover::LISTEN) && m.moved != 0 {
@@ -37,7 +41,7 @@ pub fn broken(s: &State) -> Option<u32> {
     if m.mode == 0 {
         let right = match m.state {
             mover::LISTEN => offset == 0,
-            mover::ACTIVE => m.moved % size == 0 && offset <= m.moved && m.moved <= offset + length,
+            mover::ACTIVE => m.moved % size == 0 && offset <= m.moved && m.moved as u128 <= m.window_end(),
             mover::PAUSED => !in_force || m.moved == offset,
             _ => true,
         };

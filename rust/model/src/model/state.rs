@@ -82,7 +82,19 @@ impl Data {
     }
 }
 
+/// 02 No. 1: the length that means "until I pause you".
+pub const ENDLESS: u64 = 18446744073709551615;
+
 impl Mover {
+    /// The position that the window ends before. 02 No. 1: a window of all ones goes "from the offset up to stream
+    /// position 2^64 - 1, itself outside".
+    pub fn window_end(&self) -> u128 {
+        match self.window {
+            (_, ENDLESS) => u64::MAX as u128,
+            (offset, length) => offset as u128 + length as u128,
+        }
+    }
+
     pub fn at_rest(record_size: u32) -> Mover {
         Mover {
             state: mover::IDLE,
