@@ -106,6 +106,10 @@ mostAddresses = 16
 abbrev pub mostPort : ℕ
 mostPort = 65535
 
+-- "a lent one that does not decode or is above 16,384 bytes"
+abbrev pub mostLent : ℕ
+mostLent = 16384
+
 -- ---- what a client asks for
 -- "Address types other than LOCAL"
 abbrev pub localAddress : ℕ
@@ -139,5 +143,5 @@ pub record AsWritten : Type 0 where
   pub errors-are : errors ≡ 1 ∷ 3 ∷ 4 ∷ 5 ∷ 6 ∷ 7 ∷ 9 ∷ 12 ∷ 13 ∷ 15 ∷ 16 ∷ 18 ∷ 19 ∷ 23 ∷ 25 ∷ 26 ∷ []
   pub calls-are : shortOutput ∷ brokenSession ∷ [] ≡ 1001 ∷ 1002 ∷ []
   pub operations-are : mtioOperations ≡ 0 ∷ 1 ∷ 2 ∷ 3 ∷ 4 ∷ 5 ∷ 6 ∷ []
-  pub limits-are : largestMessage ∷ longestRecord ∷ senseBytes ∷ mostListed ∷ mostAddresses ∷ mostPort ∷ [] ≡ 36864 ∷ 32768 ∷ 18 ∷ 64 ∷ 16 ∷ 65535 ∷ []
+  pub limits-are : largestMessage ∷ longestRecord ∷ senseBytes ∷ mostListed ∷ mostAddresses ∷ mostPort ∷ mostLent ∷ [] ≡ 36864 ∷ 32768 ∷ 18 ∷ 64 ∷ 16 ∷ 65535 ∷ 16384 ∷ []
   pub client-are : localAddress ∷ tcpAddress ∷ textAuth ∷ versionFour ∷ [] ≡ 0 ∷ 1 ∷ 1 ∷ 4 ∷ []

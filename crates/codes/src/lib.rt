@@ -71,6 +71,9 @@ pub const MOST_ADDRESSES: u32 = 16;
 
 pub const MOST_PORT: u32 = 65535;
 
+// The most bytes of the list that is lent to a listen by TCP.
+pub const MOST_LENT: usize = 16384;
+
 // The address types LOCAL and TCP.
 pub const LOCAL_ADDRESS: u32 = 0;
 

@@ -23,10 +23,10 @@ use Rattle.wire_layouts.specs.Laws.{content, contents, PartFits, is-word
 use Rattle.wire_layouts.specs.Laws.{ElementFits, is-element, FieldFits, is-one, is-many, is-lists, is-tag, FieldsFit, no-field, field-on, FieldsRoundTrip}
 use Rattle.wire_layouts.specs.declared.Text.{Text}
 
-abbrev itemsBytes : List (Item (List ℕ)) → List ℕ
+abbrev pub itemsBytes : List (Item (List ℕ)) → List ℕ
 itemsBytes is = flatMap itemBytes is
 
-bytes-append : (is js : List (Item (List ℕ))) → itemsBytes (is ++ js) ≡ itemsBytes is ++ itemsBytes js
+pub bytes-append : (is js : List (Item (List ℕ))) → itemsBytes (is ++ js) ≡ itemsBytes is ++ itemsBytes js
 unfolding flatMap
 bytes-append [] js = refl
 bytes-append (i ∷ is) js = ap (λ (r : List ℕ). itemBytes i ++ r) (bytes-append is js) ∙ sym (append-assoc (itemBytes i) (itemsBytes is) (itemsBytes js))

@@ -5,10 +5,11 @@ use mathlib.Core.Bool.{Bool, true, false}
 use mathlib.Core.Path.{_≡_}
 use mathlib.Core.List.{List, [], _∷_, _++_, map}
 use lib.ListN.{take, replicate}
+use Rattle.xdr.specs.Xdr.{be32}
 use Rattle.wire_layouts.specs.Layout.{four, bytes, place, Value, value, writeAs, FieldGot, fieldGot, bad, fieldAt}
 use Rattle.wire_layouts.specs.Laws.{FieldsFit}
 use Rattle.wire_layouts.specs.Scans.{noItems, scanned, addresses, fieldOf, fieldSeen}
-use Rattle.wire_layouts.specs.AddressLists.{addressesAt}
+use Rattle.wire_layouts.specs.AddressLists.{addressesAt, isTcp, lendable}
 use Rattle.wire_layouts.specs.declared.Seen.the-variants as Seen
 
 -- ---- the bytes: a word below 256, a text of one byte, and n times the same
@@ -51,6 +52,10 @@ withPairs n = small 1 ++ near ++ small n ++ times n (small 0 ++ small 0)
 abbrev pub withPort : List ℕ → List ℕ
 withPort p = small 1 ++ (10 ∷ 0 ∷ 0 ∷ 1 ∷ []) ++ p ++ small 0
 
+-- one address with one pair: no name, and a value of n zeros, which the word says
+abbrev pub longest : ℕ → List ℕ
+longest n = small 1 ++ near ++ small 1 ++ small 0 ++ be32 n ++ replicate n 0
+
 abbrev pub readList : List ℕ → FieldGot
 readList b = fieldAt addresses b 0
 
@@ -82,4 +87,15 @@ pub record AddressCases : Type 0 where
   pub given-two : addressesAt (small 1 ++ two) 4
       ≡ record { count = 2; hosts = 167772161 ∷ 3232235777 ∷ replicate 14 0; ports = 10000 ∷ 65535 ∷ replicate 14 0 }
   pub given-sixteen : addressesAt (plain 16) 0 ≡ record { count = 16; hosts = replicate 16 167772161; ports = replicate 16 10000 }
+  -- lists that a listen is lent: the longest is 16,384 bytes, one address with a pair whose value fills it
+  pub lent-two : lendable two ≡ true
+  pub lent-empty : lendable (small 0) ≡ false
+  pub lent-nothing : lendable [] ≡ false
+  pub lent-left-over : lendable (two ++ (0 ∷ [])) ≡ false
+  pub lent-seventeen : lendable (plain 17) ≡ false
+  pub lent-longest : lendable (longest 16360) ≡ true
+  pub lent-too-long : lendable (longest 16364) ≡ false
+  pub type-tcp : isTcp (small 7 ++ small 1) 4 ≡ true
+  pub type-local : isTcp (small 1 ++ small 0) 4 ≡ false
+  pub type-cut : isTcp (0 ∷ 0 ∷ 0 ∷ []) 0 ≡ false
   pub given-none : addressesAt (plain 17) 0 ≡ record { count = 0; hosts = replicate 16 0; ports = replicate 16 0 }

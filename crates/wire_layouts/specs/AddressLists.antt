@@ -1,13 +1,17 @@
 -- The addresses of a list, as the host is given them: read where the decoder reads them.
 use Prim.Native.Nat.{ℕ, zero, suc, _+_, _-_, _*_}
 use mathlib.Core.Path.{_≡_}
+use mathlib.Core.Bool.{Bool, false, not}
 use mathlib.Core.List.{List, [], _∷_, _++_}
-use lib.ListN.{length, set, replicate}
-use Rattle.codes.specs.Codes.{mostAddresses}
+use lib.Dec.{eqb, leb, ltb}
+use lib.ListN.{length, getD, set, replicate}
+use Rattle.codes.specs.Codes.{tcpAddress, mostAddresses, mostLent}
+use Rattle.xdr.specs.Choose.{choose}
 use Rattle.xdr.specs.Xdr as xdr
 use Rattle.wire_layouts.specs.Layout.{Item, four, Got, got, cut, fieldGot, bad, fieldAt}
-use Rattle.wire_layouts.specs.Scans.{addresses, addressAt, fieldSeen}
+use Rattle.wire_layouts.specs.Scans.{scanned, addresses, addressAt, fieldSeen}
 use Rattle.wire_layouts.specs.declared.Text.{Text}
+use Rattle.wire_layouts.specs.declared.Scan.{Scan}
 use Rattle.wire_layouts.specs.declared.Seen.{Seen}
 use Rattle.wire_layouts.specs.declared.Seen.the-variants as Seen
 use Rattle.wire_layouts.specs.declared.Addresses.{Addresses}
@@ -45,6 +49,19 @@ listed b at n = addressesFrom n 0 b (at + 4) (emptyAddresses n)
 
 unfoldable pub addressesAt : List ℕ → ℕ → Addresses
 addressesAt b at = listed b at (countSeen (fieldSeen (fieldAt addresses b at)))
+
+-- ---- the type of an address, and the list that a listen is lent
+-- whether the word at an offset is there, and is the type TCP
+unfoldable pub isTcp : List ℕ → ℕ → Bool
+isTcp b at = choose (leb (at + 4) (length b)) (eqb (xdr.word b at) tcpAddress) false
+
+-- a list that decoded, of one address or more
+abbrev pub someListed : Scan → Bool
+someListed k = choose (k .ok) (not (eqb (getD (k .words) 0 0) 0)) false
+
+-- "9 for an empty list, and for a lent one that does not decode or is above 16,384 bytes"
+unfoldable pub lendable : List ℕ → Bool
+lendable l = choose (ltb mostLent (length l)) false (someListed (scanned (addresses ∷ []) l))
 
 -- ---- they are what the decoder reads: of the items of a list, the first two of each element, behind which stand the count of its pairs
 -- and two texts a pair

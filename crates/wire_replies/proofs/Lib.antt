@@ -1,4 +1,4 @@
--- `Laws` has bodies and records by their writes, and how long they are; `RoundTrip` that what is sent is read back, `Numbers` where its number
+-- `Laws` has how long bodies and records are; `RoundTrip` that what is sent is read back, `Numbers` where its number
 -- stands and what else a refusal has.
 pub mod Laws
 pub mod RoundTrip

@@ -1,12 +1,12 @@
 -- What is sent is read back. Assumes nothing.
 use Prim.{tt}
 use Prim.Native.Nat.{ℕ, zero, suc, _+_, _*_, _^_, _≤_, _<_}
-use mathlib.Core.Path.{_≡_, sym, ap, _∙_}
+use mathlib.Core.Path.{_≡_, refl, sym, ap, _∙_}
 use mathlib.Core.List.{List, [], _∷_, _++_, append-assoc, append-nil}
 use native.Mathlib.Omega.{arith}
 use native.Mathlib.Nat.{not-suc-le-zero, add-zero}
-use lib.ListN.{length, length-append}
-use lib.Seq.{drop-append-seam, drop-at}
+use lib.ListN.{length, take, drop, length-append}
+use lib.Seq.{drop-append-seam, take-at, drop-at}
 use Rattle.codes.specs.Codes.{largestMessage}
 use Rattle.xdr.specs.Xdr.{be32, be32s, word}
 use Rattle.xdr.proofs.Laws.{length-be32, length-be32s, word-be32, word-drop}
@@ -53,9 +53,12 @@ texts-at p (t ∷ ts) tail h k =
 body-at : (b : Body) → Words32 (b .words) → Texts32 (b .texts) → Words32 (b .tail) → BodyAt (bodyBytes b) b
 unfolding bodyBytes
 body-at b h j k =
+    let front : List ℕ = be32s (b .words) ++ b .raw in
+    let e : length front ≡ 4 * length (b .words) + length (b .raw) = simp (length-append, length-be32s) in
     record {
-      words = λ i n. words-at [] (b .words) (opaques (b .texts) ++ be32s (b .tail)) h i n;
-      rest = rw (← length-be32s (b .words)) (texts-at (be32s (b .words)) (b .texts) (b .tail) j k);
+      words = λ i n. words-at [] (b .words) (b .raw ++ (opaques (b .texts) ++ be32s (b .tail))) h i n;
+      raw = rw (drop-at (be32s (b .words)) _ _ (length-be32s (b .words))) (take-at (b .raw) _ _ refl);
+      rest = rw (← e, ← append-assoc (be32s (b .words)) (b .raw) _) (texts-at front (b .texts) (b .tail) j k);
     }
 
 -- ---- a record

@@ -4,3 +4,4 @@ pub mod Writers
 pub mod RoundTrip
 pub mod Refusals
 pub mod Numbers
+pub mod Addresses

@@ -8,7 +8,7 @@ use Rattle.xdr.specs.Choose.{choose}
 use Rattle.xdr.specs.Xdr.{word, be32}
 use Rattle.wire_frame.specs.Messages.{rowOf}
 use Rattle.wire_replies.specs.declared.Reply.{Reply}
-use Rattle.wire_replies.specs.declared.Reply.the-variants.{Header, Refused, Plain, Listening, ConnectionTypes, ServerInfo, ScsiState, Cdb}
+use Rattle.wire_replies.specs.declared.Reply.the-variants.{Header, Refused, Plain, Listening, ListeningTcp, ConnectionTypes, ServerInfo, ScsiState, Cdb}
 use Rattle.wire_replies.specs.declared.Reply.the-variants.{Sense, Check, TapeState, Mtio, Wrote, Read, DataState, MoverState}
 use Rattle.wire_replies.specs.Replies.{numberOf, replyBytes}
 use Rattle.wire_replies.specs.Refusals.{Blank, blank, blanks}
@@ -19,6 +19,7 @@ placeOf (Header e) = 0
 placeOf (Refused b e a) = b
 placeOf Plain = 0
 placeOf Listening = 0
+placeOf ListeningTcp = 0
 placeOf ConnectionTypes = 0
 placeOf (ServerInfo known) = 0
 placeOf ScsiState = 0

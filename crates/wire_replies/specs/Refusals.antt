@@ -4,6 +4,7 @@ use mathlib.Core.Bool.{false}
 use mathlib.Core.Path.{_≡_}
 use mathlib.Core.List.{List, [], _∷_, map}
 use lib.ListN.{length}
+use Rattle.codes.specs.Codes.{localAddress}
 use Rattle.wire_frame.specs.Messages.{Line, is, table, rowOf}
 use Rattle.wire_replies.specs.declared.DataView.{DataView}
 use Rattle.wire_replies.specs.declared.MoverView.{MoverView}
@@ -12,7 +13,7 @@ use Rattle.wire_replies.specs.declared.Reply.the-variants.{Plain, Listen
 use Rattle.wire_replies.specs.Replies.{bodyBytes, shapeOf}
 
 abbrev noData : DataView
-noData = record { operation = 0; state = 0; reason = 0; processed = 0 }
+noData = record { operation = 0; state = 0; reason = 0; address = localAddress; processed = 0 }
 
 abbrev noMover : MoverView
 noMover =
@@ -22,6 +23,7 @@ noMover =
       pause = 0;
       halt = 0;
       size = 0;
+      address = localAddress;
       number = 0;
       moved = 0;
       seek = 0;
@@ -40,7 +42,7 @@ blanks =
     blank 0x900 Plain 0
     ∷ blank 0x901 Plain 0
     ∷ blank 0x902 Plain 0
-    ∷ blank 0x102 ConnectionTypes 1
+    ∷ blank 0x102 ConnectionTypes 2
     ∷ blank 0x108 (ServerInfo false) 1
     ∷ blank 0x200 Plain 0
     ∷ blank 0x201 Plain 0

@@ -3,7 +3,8 @@ use Prim.Native.Nat.{ℕ, _+_, _*_, _/_, _%_}
 use mathlib.Core.Bool.{Bool, true, false}
 use mathlib.Core.List.{List, [], _∷_, _++_}
 use lib.ListN.{length, take, drop, replicate}
-use Rattle.codes.specs.Codes.{localAddress, versionFour}
+use lib.Dec.{eqb}
+use Rattle.codes.specs.Codes.{localAddress, tcpAddress, versionFour}
 use Rattle.xdr.specs.Choose.{choose}
 use Rattle.xdr.specs.Xdr.{be32s}
 use Rattle.xdr_opaque.specs.Put.{opaque}
@@ -11,25 +12,27 @@ use Rattle.wire_frame.specs.Frame.{recordBytes}
 use Rattle.wire_replies.specs.declared.DataView.{DataView}
 use Rattle.wire_replies.specs.declared.MoverView.{MoverView}
 use Rattle.wire_replies.specs.declared.Reply.{Reply}
-use Rattle.wire_replies.specs.declared.Reply.the-variants.{Header, Refused, Plain, Listening, ConnectionTypes, ServerInfo, ScsiState, Cdb, Sense, Check, TapeState, Mtio, Wrote, Read, DataState, MoverState}
+use Rattle.wire_replies.specs.declared.Reply.the-variants.{Header, Refused, Plain, Listening, ListeningTcp, ConnectionTypes, ServerInfo, ScsiState, Cdb, Sense, Check, TapeState, Mtio, Wrote, Read, DataState, MoverState}
 use Rattle.wire_replies.specs.declared.Notice.{Notice}
 use Rattle.wire_replies.specs.declared.Notice.the-variants.{DataHalted, Connected, MoverHalted, MoverPaused}
 
--- a body: words, then texts (opaque data or strings, each with its length and fill), then words
+-- a body: words, then bytes as they were lent, then texts (opaque data or strings, each with its length and fill), then
+-- words
 pub record Body : Type 0 where
   pub words : List ℕ
+  pub raw : List ℕ
   pub texts : List (List ℕ)
   pub tail : List ℕ
 
 abbrev pub wordsOnly : List ℕ → Body
-wordsOnly ws = record { words = ws; texts = []; tail = [] }
+wordsOnly ws = record { words = ws; raw = []; texts = []; tail = [] }
 
 unfoldable pub opaques : List (List ℕ) → List ℕ
 opaques [] = []
 opaques (t ∷ ts) = opaque t ++ opaques ts
 
 unfoldable pub bodyBytes : Body → List ℕ
-bodyBytes b = be32s (b .words) ++ (opaques (b .texts) ++ be32s (b .tail))
+bodyBytes b = be32s (b .words) ++ (b .raw ++ (opaques (b .texts) ++ be32s (b .tail)))
 
 -- a hyper as its two words
 abbrev pub high : ℕ → ℕ
@@ -48,56 +51,65 @@ unfoldable pub serverTexts : Bool → List (List ℕ)
 serverTexts true = (0x76 ∷ 0x61 ∷ 0x75 ∷ 0x6C ∷ 0x74 ∷ []) ∷ (0x74 ∷ 0x61 ∷ 0x70 ∷ 0x65 ∷ []) ∷ (0x31 ∷ []) ∷ []
 serverTexts false = [] ∷ [] ∷ [] ∷ []
 
--- The body of each reply, in 004's order. "other reply fields are zero or empty"; what is not kept is zero. An address is the one
--- word 0 (LOCAL). Of a read, the bytes lie in the image.
+-- "get state gives the type, until stop, with no addresses": an address of type LOCAL is that word, one of type TCP that
+-- word and an empty list
+unfoldable pub addressWords : ℕ → List ℕ
+addressWords address = choose (eqb address tcpAddress) (tcpAddress ∷ 0 ∷ []) (localAddress ∷ [])
+
+-- The body of each reply, in 004's order. "other reply fields are zero or empty"; what is not kept is zero. What is shown
+-- of lent bytes lies in `shown`: of a read in the image, and of a listen by TCP it is the list.
 unfoldable pub shapeOf : Reply → List ℕ → Body
-shapeOf (Header e) image = wordsOnly []
-shapeOf (Refused b e a) image = wordsOnly (replicate b 0 ++ (e ∷ replicate a 0))
-shapeOf Plain image = wordsOnly (0 ∷ [])
-shapeOf Listening image = wordsOnly (0 ∷ localAddress ∷ [])
--- "Connection types: LOCAL 0": a list of one type
-shapeOf ConnectionTypes image = wordsOnly (0 ∷ 1 ∷ localAddress ∷ [])
+shapeOf (Header e) shown = wordsOnly []
+shapeOf (Refused b e a) shown = wordsOnly (replicate b 0 ++ (e ∷ replicate a 0))
+shapeOf Plain shown = wordsOnly (0 ∷ [])
+shapeOf Listening shown = wordsOnly (0 ∷ localAddress ∷ [])
+-- "A listen by TCP answers the XDR list that the host lends with its call": error, type, and those bytes
+shapeOf ListeningTcp shown = record { words = 0 ∷ tcpAddress ∷ []; raw = shown; texts = []; tail = [] }
+-- "Connection types lists 0 and 1"
+shapeOf ConnectionTypes shown = wordsOnly (0 ∷ 2 ∷ localAddress ∷ tcpAddress ∷ [])
 -- "its auth list is type 1"
-shapeOf (ServerInfo known) image = record { words = 0 ∷ []; texts = serverTexts known; tail = 1 ∷ 1 ∷ [] }
-shapeOf ScsiState image = wordsOnly (0 ∷ 0 ∷ 0 ∷ 0 ∷ [])
+shapeOf (ServerInfo known) shown = record { words = 0 ∷ []; raw = []; texts = serverTexts known; tail = 1 ∷ 1 ∷ [] }
+shapeOf ScsiState shown = wordsOnly (0 ∷ 0 ∷ 0 ∷ 0 ∷ [])
 -- execute CDB: error, status, data-out length, data in, extended sense
-shapeOf Cdb image = record { words = 0 ∷ 0 ∷ 0 ∷ []; texts = [] ∷ [] ∷ []; tail = [] }
-shapeOf (Sense n pending) image = record { words = 0 ∷ 0 ∷ 0 ∷ []; texts = take n (sense pending) ∷ [] ∷ []; tail = [] }
-shapeOf Check image = record { words = 0 ∷ 2 ∷ 0 ∷ []; texts = [] ∷ sense true ∷ []; tail = [] }
+shapeOf Cdb shown = record { words = 0 ∷ 0 ∷ 0 ∷ []; raw = []; texts = [] ∷ [] ∷ []; tail = [] }
+shapeOf (Sense n pending) shown = record { words = 0 ∷ 0 ∷ 0 ∷ []; raw = []; texts = take n (sense pending) ∷ [] ∷ []; tail = [] }
+shapeOf Check shown = record { words = 0 ∷ 2 ∷ 0 ∷ []; raw = []; texts = [] ∷ sense true ∷ []; tail = [] }
 -- unsupported, error, flags, file, soft errors, block size, block, total space, space remaining
-shapeOf (TapeState file block) image = wordsOnly (0 ∷ 0 ∷ 0 ∷ file ∷ 0 ∷ 0 ∷ block ∷ 0 ∷ 0 ∷ 0 ∷ 0 ∷ [])
-shapeOf (Mtio e residue) image = wordsOnly (e ∷ residue ∷ [])
-shapeOf (Wrote e count) image = wordsOnly (e ∷ count ∷ [])
-shapeOf (Read e start len) image = record { words = e ∷ []; texts = take len (drop start image) ∷ []; tail = [] }
--- unsupported ("DATA's two estimates are marked unsupported"), error, operation, state, reason, processed, estimated bytes and time,
--- address, read offset and length
-shapeOf (DataState v) image =
+shapeOf (TapeState file block) shown = wordsOnly (0 ∷ 0 ∷ 0 ∷ file ∷ 0 ∷ 0 ∷ block ∷ 0 ∷ 0 ∷ 0 ∷ 0 ∷ [])
+shapeOf (Mtio e residue) shown = wordsOnly (e ∷ residue ∷ [])
+shapeOf (Wrote e count) shown = wordsOnly (e ∷ count ∷ [])
+shapeOf (Read e start len) shown = record { words = e ∷ []; raw = []; texts = take len (drop start shown) ∷ []; tail = [] }
+-- unsupported ("DATA's two estimates are marked unsupported"), error, operation, state, reason, processed, estimated
+-- bytes and time, address, read offset and length
+shapeOf (DataState v) shown =
     wordsOnly
-    (3 ∷ 0 ∷ v .operation ∷ v .state ∷ v .reason ∷ high (v .processed) ∷ low (v .processed) ∷ 0 ∷ 0 ∷ 0 ∷ 0 ∷ 0 ∷ 0 ∷ 0 ∷ 0 ∷ [])
+    (3 ∷ 0 ∷ v .operation ∷ v .state ∷ v .reason ∷ high (v .processed) ∷ low (v .processed) ∷ 0 ∷ 0 ∷ 0
+    ∷ (addressWords (v .address) ++ (0 ∷ 0 ∷ 0 ∷ 0 ∷ [])))
 -- error, mode, state, pause and halt reason, record size and number, moved, seek position, bytes left, window, address
-shapeOf (MoverState v) image =
+shapeOf (MoverState v) shown =
     wordsOnly
     (0 ∷ v .mode ∷ v .state ∷ v .pause ∷ v .halt ∷ v .size ∷ v .number ∷ high (v .moved) ∷ low (v .moved) ∷ high (v .seek) ∷ low (v .seek)
-    ∷ high (v .left) ∷ low (v .left) ∷ high (v .offset) ∷ low (v .offset) ∷ high (v .length) ∷ low (v .length) ∷ 0 ∷ [])
+    ∷ high (v .left) ∷ low (v .left) ∷ high (v .offset) ∷ low (v .offset) ∷ high (v .length) ∷ low (v .length) ∷ addressWords (v .address))
 
--- the one reply that shows bytes of the image
-unfoldable pub isRead : Reply → Bool
-isRead (Header e) = false
-isRead (Refused b e a) = false
-isRead Plain = false
-isRead Listening = false
-isRead ConnectionTypes = false
-isRead (ServerInfo known) = false
-isRead ScsiState = false
-isRead Cdb = false
-isRead (Sense n pending) = false
-isRead Check = false
-isRead (TapeState file block) = false
-isRead (Mtio e residue) = false
-isRead (Wrote e count) = false
-isRead (Read e start len) = true
-isRead (DataState v) = false
-isRead (MoverState v) = false
+-- the replies that show lent bytes
+unfoldable pub isShowing : Reply → Bool
+isShowing (Header e) = false
+isShowing (Refused b e a) = false
+isShowing Plain = false
+isShowing Listening = false
+isShowing ListeningTcp = true
+isShowing ConnectionTypes = false
+isShowing (ServerInfo known) = false
+isShowing ScsiState = false
+isShowing Cdb = false
+isShowing (Sense n pending) = false
+isShowing Check = false
+isShowing (TapeState file block) = false
+isShowing (Mtio e residue) = false
+isShowing (Wrote e count) = false
+isShowing (Read e start len) = true
+isShowing (DataState v) = false
+isShowing (MoverState v) = false
 
 -- paper 01's number of each reply: 0 where the request is accepted, 12 and 13 where the tape says so
 unfoldable pub numberOf : Reply → ℕ
@@ -105,6 +117,7 @@ numberOf (Header e) = e
 numberOf (Refused b e a) = e
 numberOf Plain = 0
 numberOf Listening = 0
+numberOf ListeningTcp = 0
 numberOf ConnectionTypes = 0
 numberOf (ServerInfo known) = 0
 numberOf ScsiState = 0
@@ -124,6 +137,7 @@ headerError (Header e) = e
 headerError (Refused b e a) = 0
 headerError Plain = 0
 headerError Listening = 0
+headerError ListeningTcp = 0
 headerError ConnectionTypes = 0
 headerError (ServerInfo known) = 0
 headerError ScsiState = 0

@@ -38,10 +38,11 @@ unfoldable pub TextsAt : List ℕ → ℕ → List (List ℕ) → List ℕ → T
 TextsAt l at [] tail = WordsAt l at tail
 TextsAt l at (t ∷ ts) tail = TextAt l at t (at + length (opaque t)) × TextsAt l (at + length (opaque t)) ts tail
 
--- a body as it is read from its front: its words, then its texts, then the words after them
+-- a body as it is read from its front: its words, then its lent bytes, then its texts, then the words after them
 pub record BodyAt (l : List ℕ) (b : Body) : Type 0 where
   pub words : WordsAt l 0 (b .words)
-  pub rest : TextsAt l (4 * length (b .words)) (b .texts) (b .tail)
+  pub raw : take (length (b .raw)) (drop (4 * length (b .words)) l) ≡ b .raw
+  pub rest : TextsAt l (4 * length (b .words) + length (b .raw)) (b .texts) (b .tail)
 
 -- a record as it is read: its frame is whole, its six header words are these, and what follows byte 28 is this
 pub record RecordAt (l : List ℕ) (sequence time kind message echo error : ℕ) (body : List ℕ) : Type 0 where

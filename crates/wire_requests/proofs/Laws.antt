@@ -1,19 +1,11 @@
--- A request by what a scan kept, and a message by its layout. Assumes nothing.
+-- A message by its layout. Assumes nothing.
 use Prim.Native.Nat.{ℕ}
 use mathlib.Core.Path.{_≡_, refl}
 use mathlib.Core.List.{List}
-use Rattle.xdr.specs.Choose.{choose}
 use Rattle.wire_frame.specs.declared.Message.{Message}
 use Rattle.wire_frame.specs.declared.Message.the-variants as Message
-use Rattle.wire_layouts.specs.declared.Scan.{Scan}
 use Rattle.wire_requests.specs.Bodies.{readBy, connectBody, configBody, scsiBody, tapeBody, dataBody, moverBody, jointBody, decoded}
 use Rattle.wire_requests.specs.RoundTrip.{Known}
-use Rattle.wire_requests.specs.declared.Request.{Request}
-use Rattle.wire_requests.specs.declared.Request.the-variants.{Bad}
-
--- what was made of a scan's result k is what is made of the scan s
-pub of-scan : (f : Scan → Request) {k s : Scan} {r : Request} → k ≡ s → r ≡ choose (k .ok) (f k) Bad → r ≡ choose (s .ok) (f s) Bad
-of-scan f {r = r} e h = rw e at h
 
 -- every message that is handled is read by its layout
 pub by-layout : (m : Message) (b : List ℕ) → Known m → decoded m b ≡ readBy m b

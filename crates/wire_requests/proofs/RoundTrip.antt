@@ -1,12 +1,13 @@
 -- Each body of `Sent` is read as the request that it says, and a body whose rest is not read as the words before it. Assumes nothing.
 use Prim.Native.Nat.{ℕ, _+_, _^_, _≤_, _<_}
-use mathlib.Core.Bool.{true}
+use mathlib.Core.Bool.{Bool, true, false}
 use mathlib.Core.Path.{_≡_, refl, sym, ap, _∙_}
-use mathlib.Core.List.{List, [], _∷_, _++_, map}
+use mathlib.Core.List.{List, [], _∷_, _++_, map, flatMap}
 use native.Mathlib.Omega.{arith}
+use lib.Dec.{eqb}
 use lib.ListN.{length, length-append}
 use borrow.Author.Tests.{le-leb, ne-eqb}
-use Rattle.codes.specs.Codes.{localAddress, textAuth}
+use Rattle.codes.specs.Codes.{localAddress, tcpAddress, textAuth}
 use Rattle.xdr.specs.Choose.{choose}
 use Rattle.xdr.specs.Xdr.{be32}
 use Rattle.xdr.proofs.Laws.{length-be32}
@@ -24,45 +25,76 @@ use Rattle.wire_frame.specs.declared.Message.the-variants as Message
 use Rattle.wire_layouts.specs.Layout.{word, text, Field, one, tag, four, Value, value, writeAs, partAt, single, fieldAt, whole, before, andValue, andRead, readAs}
 use Rattle.wire_layouts.specs.Laws.{FieldsFit}
 use Rattle.wire_layouts.specs.Scans.{emptyScan, put, puts, summed, scanned}
+use Rattle.wire_layouts.specs.AddressLists.{isTcp}
 use Rattle.wire_layouts.specs.declared.Scan.{Scan}
 use Rattle.wire_layouts.specs.declared.Text.{Text}
 use Rattle.wire_layouts.proofs.Back.{round-trip}
 use Rattle.wire_layouts.proofs.Within.{whole-kept}
-use Rattle.wire_requests.specs.Bodies.{layoutOf, requestOf, readBy, decoded}
+use Rattle.wire_layouts.proofs.AddressTypes.{type-written}
+use Rattle.wire_requests.specs.Bodies.{listenFields, connectFields, layoutOf, requestOf, readBy, decoded}
 use Rattle.wire_requests.specs.Within.{bytesAt}
-use Rattle.wire_requests.specs.Sent.{Sent, argsOf, sentBytes, SentFits, AtPlace, Means}
+use Rattle.wire_requests.specs.Sent.{Addr, local, tcp, Arg, ulong, tcpAddrs, union, argBytes, Sent, argsOf, sentBytes, SentFits, AtPlace, Means}
 use Rattle.wire_requests.specs.Sent.{connect-open, client-auth, connect-close, connection-type, server-info, scsi-open, scsi-close, scsi-state, scsi-reset, execute-cdb}
 use Rattle.wire_requests.specs.Sent.{tape-open, tape-close, tape-state, tape-mtio, tape-write, tape-read, data-state, start-backup, start-recover, data-stop, data-listen}
 use Rattle.wire_requests.specs.Sent.{mover-state, mover-listen, mover-continue, mover-stop, set-window, mover-read, set-record-size}
 use Rattle.wire_requests.specs.Sent.{data-abort, data-connect, mover-abort, mover-close, mover-connect}
-use Rattle.wire_requests.specs.RoundTrip.{Known, OtherThan, RequestsBack}
+use Rattle.wire_requests.specs.RoundTrip.{Known, OtherThan, OtherType, RequestsBack}
 use Rattle.wire_requests.specs.declared.ConnectRequest.the-variants as ConnectRequest
 use Rattle.wire_requests.specs.declared.Request.{Request}
 use Rattle.wire_requests.specs.declared.Request.the-variants.{Connect, Bad}
 use Rattle.wire_requests.proofs.Laws.{by-layout}
 use Rattle.wire_requests.proofs.Sent.{fieldFor, valueFor, args-fit, args-written, AnyPlaces, of-places}
 
-read-whole : (m : Message) (b : List ℕ) (ws : List (Value Text)) → readAs (layoutOf m) b 0 ≡ whole ws
+read-whole : (m : Message) (b : List ℕ) (ws : List (Value Text)) → readAs (layoutOf m b) b 0 ≡ whole ws
     → readBy m b ≡ requestOf m (puts 0 ws (emptyScan true))
-read-whole m b ws e = let k = whole-kept (layoutOf m) b ws e in sym (pick-if Bad (k .1) refl) ∙ ap (requestOf m) (k .0)
+read-whole m b ws e = let k = whole-kept (layoutOf m b) b ws e in sym (pick-if Bad (k .1) refl) ∙ ap (requestOf m) (k .0)
 
 -- ---- each body of `Sent`, written by its layout, is read back
-read-any : (m : Message) → Known m → (vs : List (Value (List ℕ))) → FieldsFit (layoutOf m) vs → (P : Request → Type 0)
+read-any : (m : Message) → Known m → (vs : List (Value (List ℕ))) → FieldsFit (layoutOf m (writeAs vs)) vs → (P : Request → Type 0)
     → AnyPlaces (writeAs vs) vs 0 (emptyScan true) (λ k. P (requestOf m k)) → P (decoded m (writeAs vs))
 read-any m h vs f P a =
     let b = writeAs vs in
-    let r = round-trip (layoutOf m) vs f in
+    let r = round-trip (layoutOf m b) vs f in
     let e : decoded m b ≡ requestOf m (puts 0 (r .places) (emptyScan true)) = by-layout m b h ∙ read-whole m b (r .places) (r .reads) in
     rw e (of-places b (r .places) 0 (emptyScan true) (λ k. P (requestOf m k)) (rw (r .same) a))
 
-by-args : {m : Message} (s : Sent m) → Known m → map fieldFor (argsOf s) ≡ layoutOf m → SentFits s
+by-args : {m : Message} (s : Sent m) → Known m → map fieldFor (argsOf s) ≡ layoutOf m (sentBytes s) → SentFits s
     → AnyPlaces (sentBytes s) (map valueFor (argsOf s)) 0 (emptyScan true) (λ k. Means s (sentBytes s) (requestOf m k))
     → Means s (sentBytes s) (decoded m (sentBytes s))
 unfolding sentBytes
 by-args {m} s h l f a =
     let e = args-written (argsOf s) in
-    let g : FieldsFit (layoutOf m) (map valueFor (argsOf s)) = rw l at (args-fit (argsOf s) f) in
+    let g : FieldsFit (layoutOf m (writeAs (map valueFor (argsOf s)))) (map valueFor (argsOf s)) = rw (e, ← l) (args-fit (argsOf s) f) in
     rw (← e) (read-any m h (map valueFor (argsOf s)) g (Means s (writeAs (map valueFor (argsOf s)))) (rw e a))
+
+-- the type of an address that is the first field, or stands behind a word: it says which layout is read
+first-type : {m : Message} (s : Sent m) (v : ℕ) (xs : List Arg) → argsOf s ≡ union v ∷ xs → v < 2 ^ 32 → isTcp (sentBytes s) 0 ≡ eqb v tcpAddress
+unfolding sentBytes flatMap
+first-type s v xs e h = rw e (type-written (flatMap argBytes xs) v (all-of (be32 v ++ flatMap argBytes xs)) h)
+
+behind-word : (w : ℕ) (q : List ℕ) → From (be32 w ++ q) 4 q
+behind-word w q = rw length-be32 at (past (be32 w) (all-of (be32 w ++ q)))
+
+second-type : {m : Message} (s : Sent m) (w v : ℕ) (xs : List Arg) → argsOf s ≡ ulong w ∷ union v ∷ xs → v < 2 ^ 32 → isTcp (sentBytes s) 4 ≡ eqb v tcpAddress
+unfolding sentBytes flatMap
+second-type s w v xs e h = rw e (type-written (flatMap argBytes xs) v (behind-word w (be32 v ++ flatMap argBytes xs)) h)
+
+data-listen-row : (byTcp : Bool) → map fieldFor (argsOf (data-listen byTcp)) ≡ listenFields (isTcp (sentBytes (data-listen byTcp)) 0)
+data-listen-row true = sym (ap listenFields (first-type (data-listen true) tcpAddress [] refl (omega arith)))
+data-listen-row false = sym (ap listenFields (first-type (data-listen false) localAddress [] refl (omega arith)))
+
+mover-listen-row : (mode : ℕ) (byTcp : Bool) → map fieldFor (argsOf (mover-listen mode byTcp)) ≡ one word ∷ listenFields (isTcp (sentBytes (mover-listen mode byTcp)) 4)
+mover-listen-row mode true = sym (ap (λ (t : Bool). one word ∷ listenFields t) (second-type (mover-listen mode true) mode tcpAddress [] refl (omega arith)))
+mover-listen-row mode false = sym (ap (λ (t : Bool). one word ∷ listenFields t) (second-type (mover-listen mode false) mode localAddress [] refl (omega arith)))
+
+data-connect-row : (addr : Addr) → map fieldFor (argsOf (data-connect addr)) ≡ connectFields (isTcp (sentBytes (data-connect addr)) 0)
+data-connect-row local = sym (ap connectFields (first-type (data-connect local) localAddress [] refl (omega arith)))
+data-connect-row (tcp addrs) = sym (ap connectFields (first-type (data-connect (tcp addrs)) tcpAddress (tcpAddrs addrs ∷ []) refl (omega arith)))
+
+mover-connect-row : (mode : ℕ) (addr : Addr) → map fieldFor (argsOf (mover-connect mode addr)) ≡ one word ∷ connectFields (isTcp (sentBytes (mover-connect mode addr)) 4)
+mover-connect-row mode local = sym (ap (λ (t : Bool). one word ∷ connectFields t) (second-type (mover-connect mode local) mode localAddress [] refl (omega arith)))
+mover-connect-row mode (tcp addrs) =
+    sym (ap (λ (t : Bool). one word ∷ connectFields t) (second-type (mover-connect mode (tcp addrs)) mode tcpAddress (tcpAddrs addrs ∷ []) refl (omega arith)))
 
 at-place : {b s : List ℕ} {P : Text → Type 0} (t : Text) → bytesAt b t ≡ s → P t → AtPlace b s P
 at-place t e p = record { stands = t; holds = e; so = p }
@@ -89,19 +121,21 @@ sent-back data-state f = by-args data-state tt refl f refl
 sent-back (start-backup butype env) f = by-args (start-backup butype env) tt refl f (λ t e. at-place t e refl)
 sent-back (start-recover env list butype) f = by-args (start-recover env list butype) tt refl f (λ t e. at-place t e refl)
 sent-back data-stop f = by-args data-stop tt refl f refl
-sent-back data-listen f = by-args data-listen tt refl f refl
+sent-back (data-listen byTcp) f = by-args (data-listen byTcp) tt (data-listen-row byTcp) f refl
 sent-back mover-state f = by-args mover-state tt refl f refl
-sent-back (mover-listen mode) f = by-args (mover-listen mode) tt refl f refl
+sent-back (mover-listen mode byTcp) f = by-args (mover-listen mode byTcp) tt (mover-listen-row mode byTcp) f refl
 sent-back mover-continue f = by-args mover-continue tt refl f refl
 sent-back mover-stop f = by-args mover-stop tt refl f refl
 sent-back (set-window offset len) f = by-args (set-window offset len) tt refl f refl
 sent-back (mover-read offset len) f = by-args (mover-read offset len) tt refl f refl
 sent-back (set-record-size len) f = by-args (set-record-size len) tt refl f refl
 sent-back data-abort f = by-args data-abort tt refl f refl
-sent-back data-connect f = by-args data-connect tt refl f refl
+sent-back (data-connect local) f = by-args (data-connect local) tt (data-connect-row local) f refl
+sent-back (data-connect (tcp addrs)) f = by-args (data-connect (tcp addrs)) tt (data-connect-row (tcp addrs)) f refl
 sent-back mover-abort f = by-args mover-abort tt refl f refl
 sent-back mover-close f = by-args mover-close tt refl f refl
-sent-back (mover-connect mode) f = by-args (mover-connect mode) tt refl f refl
+sent-back (mover-connect mode local) f = by-args (mover-connect mode local) tt (mover-connect-row mode local) f refl
+sent-back (mover-connect mode (tcp addrs)) f = by-args (mover-connect mode (tcp addrs)) tt (mover-connect-row mode (tcp addrs)) f refl
 
 -- no message is left out
 every : (m : Message) → Known m → Sent m
@@ -125,19 +159,19 @@ every (Message.Data DataKind.State) h = data-state
 every (Message.Data DataKind.Backup) h = start-backup [] []
 every (Message.Data DataKind.Recover) h = start-recover [] [] []
 every (Message.Data DataKind.Stop) h = data-stop
-every (Message.Data DataKind.Listen) h = data-listen
+every (Message.Data DataKind.Listen) h = data-listen false
 every (Message.Mover MoverKind.State) h = mover-state
-every (Message.Mover MoverKind.Listen) h = mover-listen 0
+every (Message.Mover MoverKind.Listen) h = mover-listen 0 false
 every (Message.Mover MoverKind.Continue) h = mover-continue
 every (Message.Mover MoverKind.Stop) h = mover-stop
 every (Message.Mover MoverKind.Window) h = set-window 0 0
 every (Message.Mover MoverKind.Read) h = mover-read 0 0
 every (Message.Mover MoverKind.Size) h = set-record-size 0
 every (Message.Joint JointKind.DataAbort) h = data-abort
-every (Message.Joint JointKind.DataConnect) h = data-connect
+every (Message.Joint JointKind.DataConnect) h = data-connect local
 every (Message.Joint JointKind.MoverAbort) h = mover-abort
 every (Message.Joint JointKind.MoverClose) h = mover-close
-every (Message.Joint JointKind.MoverConnect) h = mover-connect 0
+every (Message.Joint JointKind.MoverConnect) h = mover-connect 0 local
 every Message.Unknown h = absurd h
 
 -- ---- a word that is another type than the tag's: the rest is not read
@@ -158,36 +192,49 @@ passes v fs b q f h =
 
 -- a request whose rest was not read, by the words before it
 read-before : (m : Message) → Known m → (b : List ℕ) (ws : List (Value Text)) → puts 0 ws (emptyScan true) .ok ≡ true
-    → readAs (layoutOf m) b 0 ≡ before ws → decoded m b ≡ requestOf m (puts 0 ws (emptyScan true))
+    → readAs (layoutOf m b) b 0 ≡ before ws → decoded m b ≡ requestOf m (puts 0 ws (emptyScan true))
 unfolding scanned summed
 read-before m h b ws o e =
-    let k : scanned (layoutOf m) b ≡ puts 0 ws (emptyScan true) = rw e in
+    let k : scanned (layoutOf m b) b ≡ puts 0 ws (emptyScan true) = rw e in
     by-layout m b h ∙ (sym (pick-if Bad (ap (λ (s : Scan). s .ok) k ∙ o) refl) ∙ ap (requestOf m) k)
 
-other-first : (m : Message) → Known m → (k : ℕ) (fs : List Field) → layoutOf m ≡ tag k ∷ fs → (v : ℕ) (rest : List ℕ) → OtherThan k v
+other-first : (m : Message) → Known m → (k : ℕ) (fs : List Field) (v : ℕ) (rest : List ℕ) → layoutOf m (be32 v ++ rest) ≡ tag k ∷ fs → OtherThan k v
     → decoded m (be32 v ++ rest) ≡ requestOf m (put 0 (four v) (emptyScan true))
 unfolding puts put
-other-first m h k fs l v rest o =
+other-first m h k fs v rest l o =
     let b = be32 v ++ rest in
     read-before m h b (value (four v) [] ∷ []) refl (rw l (stops k v fs b rest 0 (all-of b) o))
 
-other-second : (m : Message) → Known m → (k : ℕ) (fs : List Field) → layoutOf m ≡ one word ∷ tag k ∷ fs
-    → (w v : ℕ) (rest : List ℕ) → w < 2 ^ 32 → OtherThan k v
+other-second : (m : Message) → Known m → (k : ℕ) (fs : List Field) (w v : ℕ) (rest : List ℕ)
+    → layoutOf m (be32 w ++ (be32 v ++ rest)) ≡ one word ∷ tag k ∷ fs → w < 2 ^ 32 → OtherThan k v
     → decoded m (be32 w ++ (be32 v ++ rest)) ≡ requestOf m (put 1 (four v) (put 0 (four w) (emptyScan true)))
 unfolding puts put andValue
-other-second m h k fs l w v rest u o =
+other-second m h k fs w v rest l u o =
     let q = be32 v ++ rest in
     let b = be32 w ++ q in
-    let f : From b 4 q = rw length-be32 at (past (be32 w) (all-of b)) in
-    let e = passes w (tag k ∷ fs) b q (all-of b) u ∙ ap (andValue (value (four w) [])) (stops k v fs b rest 4 f o) in
+    let e = passes w (tag k ∷ fs) b q (all-of b) u ∙ ap (andValue (value (four w) [])) (stops k v fs b rest 4 (behind-word w q) o) in
     read-before m h b (value (four w) [] ∷ value (four v) [] ∷ []) refl (rw l e)
 
 other-auth : (v : ℕ) (rest : List ℕ) → OtherThan textAuth v
     → decoded (Message.Connect ConnectKind.Auth) (be32 v ++ rest) ≡ Connect ConnectRequest.OtherAuth
 unfolding put
 other-auth v rest o =
-    other-first (Message.Connect ConnectKind.Auth) tt textAuth (one text ∷ one text ∷ []) refl v rest o
+    other-first (Message.Connect ConnectKind.Auth) tt textAuth (one text ∷ one text ∷ []) v rest refl o
     ∙ ap Connect (sym (pick-else _ (ne-eqb v textAuth (o .1)) refl))
+
+-- an address of another type is read by LOCAL's layout, and stops it
+address-first : (m : Message) → Known m → ((b : List ℕ) → isTcp b 0 ≡ false → layoutOf m b ≡ tag localAddress ∷ [])
+    → (v : ℕ) (rest : List ℕ) → OtherType v → decoded m (be32 v ++ rest) ≡ requestOf m (put 0 (four v) (emptyScan true))
+address-first m h l v rest ((k, n), t) =
+    let b = be32 v ++ rest in
+    other-first m h localAddress [] v rest (l b (type-written rest v (all-of b) k ∙ ne-eqb v tcpAddress t)) (k, n)
+
+address-second : (m : Message) → Known m → ((b : List ℕ) → isTcp b 4 ≡ false → layoutOf m b ≡ one word ∷ tag localAddress ∷ [])
+    → (w v : ℕ) (rest : List ℕ) → w < 2 ^ 32 → OtherType v
+    → decoded m (be32 w ++ (be32 v ++ rest)) ≡ requestOf m (put 1 (four v) (put 0 (four w) (emptyScan true)))
+address-second m h l w v rest u ((k, n), t) =
+    let q = be32 v ++ rest in
+    other-second m h localAddress [] w v rest (l (be32 w ++ q) (type-written rest v (behind-word w q) k ∙ ne-eqb v tcpAddress t)) u (k, n)
 
 pub requests-back : RequestsBack
 unfolding put
@@ -196,8 +243,8 @@ requests-back =
       every = every;
       sent = sent-back;
       other-auth = other-auth;
-      other-data-listen = other-first (Message.Data DataKind.Listen) tt localAddress [] refl;
-      other-mover-listen = other-second (Message.Mover MoverKind.Listen) tt localAddress [] refl;
-      other-data-connect = other-first (Message.Joint JointKind.DataConnect) tt localAddress [] refl;
-      other-mover-connect = other-second (Message.Joint JointKind.MoverConnect) tt localAddress [] refl;
+      other-data-listen = address-first (Message.Data DataKind.Listen) tt (λ b e. ap listenFields e);
+      other-mover-listen = address-second (Message.Mover MoverKind.Listen) tt (λ b e. ap (λ (t : Bool). one word ∷ listenFields t) e);
+      other-data-connect = address-first (Message.Joint JointKind.DataConnect) tt (λ b e. ap connectFields e);
+      other-mover-connect = address-second (Message.Joint JointKind.MoverConnect) tt (λ b e. ap (λ (t : Bool). one word ∷ connectFields t) e);
     }

@@ -67,7 +67,7 @@ bad b = tt
 
 by-layout : (b : List ℕ) (m : Message) → textsWithin b (readBy m b)
 by-layout b m =
-    by-test (textsWithin b) (scanned (layoutOf m) b .ok) _ _ (λ e. of-kept b m (scanned (layoutOf m) b) (texts-in (layoutOf m) b)) (λ e. bad b)
+    by-test (textsWithin b) (scanned (layoutOf m b) b .ok) _ _ (λ e. of-kept b m (scanned (layoutOf m b) b) (texts-in (layoutOf m b) b)) (λ e. bad b)
 
 unknown : (b : List ℕ) → textsWithin b (decoded Message.Unknown b)
 unfolding decoded textsWithin

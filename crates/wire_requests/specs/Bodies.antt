@@ -1,13 +1,15 @@
 -- The bodies of requests (004, Appendix C): the layout of each, and the request that its fields are, or Bad, which is error 18. A text is
 -- its place in the body.
 use Prim.Native.Nat.{ℕ}
+use mathlib.Core.Bool.{Bool, true, false}
 use mathlib.Core.List.{List, [], _∷_}
 use lib.Dec.{eqb}
 use lib.ListN.{getD}
 use Rattle.xdr.specs.Choose.{choose}
-use Rattle.codes.specs.Codes.{localAddress, textAuth}
+use Rattle.codes.specs.Codes.{localAddress, tcpAddress, textAuth}
 use Rattle.wire_layouts.specs.Layout.{word, hyper, text, Field, one, tag, place}
-use Rattle.wire_layouts.specs.Scans.{pairs, names, scanned}
+use Rattle.wire_layouts.specs.Scans.{pairs, names, addresses, scanned}
+use Rattle.wire_layouts.specs.AddressLists.{isTcp}
 use Rattle.wire_layouts.specs.declared.Scan.{Scan}
 use Rattle.wire_layouts.specs.declared.Text.{Text}
 use Rattle.wire_frame.specs.declared.ConnectKind.{ConnectKind}
@@ -46,45 +48,56 @@ hyperOf k i = getD (k .hypers) i 0
 abbrev pub textOf : Scan → ℕ → Text
 textOf k i = place (getD (k .starts) i 0) (getD (k .lens) i 0)
 
--- "Bytes left over make error 18, except after an address type other than 0 or an auth type other than 1: there the rest is not read. At
--- most 64 environment pairs and 64 names in a start request". An address is a tag of LOCAL, an auth one of text.
-abbrev pub layoutOf : Message → List Field
-layoutOf (Message.Connect ConnectKind.Open) = one word ∷ []
-layoutOf (Message.Connect ConnectKind.Auth) = tag textAuth ∷ one text ∷ one text ∷ []
-layoutOf (Message.Connect ConnectKind.Close) = []
-layoutOf (Message.Config ConfigKind.ConnectionType) = []
-layoutOf (Message.Config ConfigKind.ServerInfo) = []
-layoutOf (Message.Scsi ScsiKind.Open) = one text ∷ []
-layoutOf (Message.Scsi ScsiKind.Close) = []
-layoutOf (Message.Scsi ScsiKind.State) = []
-layoutOf (Message.Scsi ScsiKind.Reset) = []
-layoutOf (Message.Scsi ScsiKind.Cdb) = one word ∷ one word ∷ one word ∷ one text ∷ one text ∷ []
-layoutOf (Message.Tape TapeKind.Open) = one text ∷ one word ∷ []
-layoutOf (Message.Tape TapeKind.Close) = []
-layoutOf (Message.Tape TapeKind.State) = []
-layoutOf (Message.Tape TapeKind.Mtio) = one word ∷ one word ∷ []
-layoutOf (Message.Tape TapeKind.Write) = one text ∷ []
-layoutOf (Message.Tape TapeKind.Read) = one word ∷ []
-layoutOf (Message.Data DataKind.State) = []
-layoutOf (Message.Data DataKind.Backup) = one text ∷ pairs ∷ []
-layoutOf (Message.Data DataKind.Recover) = pairs ∷ names ∷ one text ∷ []
-layoutOf (Message.Data DataKind.Stop) = []
-layoutOf (Message.Data DataKind.Listen) = tag localAddress ∷ []
-layoutOf (Message.Mover MoverKind.State) = []
-layoutOf (Message.Mover MoverKind.Listen) = one word ∷ tag localAddress ∷ []
-layoutOf (Message.Mover MoverKind.Continue) = []
-layoutOf (Message.Mover MoverKind.Stop) = []
-layoutOf (Message.Mover MoverKind.Window) = one hyper ∷ one hyper ∷ []
-layoutOf (Message.Mover MoverKind.Read) = one hyper ∷ one hyper ∷ []
-layoutOf (Message.Mover MoverKind.Size) = one word ∷ []
-layoutOf (Message.Joint JointKind.DataAbort) = []
-layoutOf (Message.Joint JointKind.DataConnect) = tag localAddress ∷ []
-layoutOf (Message.Joint JointKind.MoverAbort) = []
-layoutOf (Message.Joint JointKind.MoverClose) = []
-layoutOf (Message.Joint JointKind.MoverConnect) = one word ∷ tag localAddress ∷ []
-layoutOf Message.Unknown = []
+-- An address by whether its type is TCP. A listen names the type alone; behind that of a connect by TCP stands its list: "type 1 no longer leaves
+-- bytes unread". Of any other type than LOCAL and TCP the rest is not read.
+abbrev pub listenFields : Bool → List Field
+listenFields true = tag tcpAddress ∷ []
+listenFields false = tag localAddress ∷ []
 
--- of execute CDB (flags, timeout, data-in length, CDB, data out) the CDB and the data-in length
+abbrev pub connectFields : Bool → List Field
+connectFields true = tag tcpAddress ∷ addresses ∷ []
+connectFields false = tag localAddress ∷ []
+
+-- "Bytes left over make error 18, except after an address type other than 0 or an auth type other than 1: there the rest is not read. At
+-- most 64 environment pairs and 64 names in a start request". An address is a tag of LOCAL or TCP, by the body's own word, an auth one of text.
+abbrev pub layoutOf : Message → List ℕ → List Field
+layoutOf (Message.Connect ConnectKind.Open) b = one word ∷ []
+layoutOf (Message.Connect ConnectKind.Auth) b = tag textAuth ∷ one text ∷ one text ∷ []
+layoutOf (Message.Connect ConnectKind.Close) b = []
+layoutOf (Message.Config ConfigKind.ConnectionType) b = []
+layoutOf (Message.Config ConfigKind.ServerInfo) b = []
+layoutOf (Message.Scsi ScsiKind.Open) b = one text ∷ []
+layoutOf (Message.Scsi ScsiKind.Close) b = []
+layoutOf (Message.Scsi ScsiKind.State) b = []
+layoutOf (Message.Scsi ScsiKind.Reset) b = []
+layoutOf (Message.Scsi ScsiKind.Cdb) b = one word ∷ one word ∷ one word ∷ one text ∷ one text ∷ []
+layoutOf (Message.Tape TapeKind.Open) b = one text ∷ one word ∷ []
+layoutOf (Message.Tape TapeKind.Close) b = []
+layoutOf (Message.Tape TapeKind.State) b = []
+layoutOf (Message.Tape TapeKind.Mtio) b = one word ∷ one word ∷ []
+layoutOf (Message.Tape TapeKind.Write) b = one text ∷ []
+layoutOf (Message.Tape TapeKind.Read) b = one word ∷ []
+layoutOf (Message.Data DataKind.State) b = []
+layoutOf (Message.Data DataKind.Backup) b = one text ∷ pairs ∷ []
+layoutOf (Message.Data DataKind.Recover) b = pairs ∷ names ∷ one text ∷ []
+layoutOf (Message.Data DataKind.Stop) b = []
+layoutOf (Message.Data DataKind.Listen) b = listenFields (isTcp b 0)
+layoutOf (Message.Mover MoverKind.State) b = []
+layoutOf (Message.Mover MoverKind.Listen) b = one word ∷ listenFields (isTcp b 4)
+layoutOf (Message.Mover MoverKind.Continue) b = []
+layoutOf (Message.Mover MoverKind.Stop) b = []
+layoutOf (Message.Mover MoverKind.Window) b = one hyper ∷ one hyper ∷ []
+layoutOf (Message.Mover MoverKind.Read) b = one hyper ∷ one hyper ∷ []
+layoutOf (Message.Mover MoverKind.Size) b = one word ∷ []
+layoutOf (Message.Joint JointKind.DataAbort) b = []
+layoutOf (Message.Joint JointKind.DataConnect) b = connectFields (isTcp b 0)
+layoutOf (Message.Joint JointKind.MoverAbort) b = []
+layoutOf (Message.Joint JointKind.MoverClose) b = []
+layoutOf (Message.Joint JointKind.MoverConnect) b = one word ∷ connectFields (isTcp b 4)
+layoutOf Message.Unknown b = []
+
+-- of execute CDB (flags, timeout, data-in length, CDB, data out) the CDB and the data-in length; of a connect the address type, and of one by TCP
+-- how many addresses its list has
 abbrev pub requestOf : Message → Scan → Request
 requestOf (Message.Connect ConnectKind.Open) k = Connect (ConnectRequest.Open (wordOf k 0))
 requestOf (Message.Connect ConnectKind.Auth) k = Connect (choose (eqb (wordOf k 0) textAuth) (ConnectRequest.Auth (textOf k 1) (textOf k 2)) ConnectRequest.OtherAuth)
@@ -115,14 +128,14 @@ requestOf (Message.Mover MoverKind.Window) k = Mover (MoverRequest.Window (hyper
 requestOf (Message.Mover MoverKind.Read) k = Mover (MoverRequest.Read (hyperOf k 0) (hyperOf k 1))
 requestOf (Message.Mover MoverKind.Size) k = Mover (MoverRequest.Size (wordOf k 0))
 requestOf (Message.Joint JointKind.DataAbort) k = Joint JointRequest.DataAbort
-requestOf (Message.Joint JointKind.DataConnect) k = Joint (JointRequest.DataConnect (wordOf k 0))
+requestOf (Message.Joint JointKind.DataConnect) k = Joint (JointRequest.DataConnect (wordOf k 0) (wordOf k 1))
 requestOf (Message.Joint JointKind.MoverAbort) k = Joint JointRequest.MoverAbort
 requestOf (Message.Joint JointKind.MoverClose) k = Joint JointRequest.MoverClose
-requestOf (Message.Joint JointKind.MoverConnect) k = Joint (JointRequest.MoverConnect (wordOf k 0) (wordOf k 1))
+requestOf (Message.Joint JointKind.MoverConnect) k = Joint (JointRequest.MoverConnect (wordOf k 0) (wordOf k 1) (wordOf k 2))
 requestOf Message.Unknown k = Unknown
 
 abbrev pub readBy : Message → List ℕ → Request
-readBy m b = choose (scanned (layoutOf m) b .ok) (requestOf m (scanned (layoutOf m) b)) Bad
+readBy m b = choose (scanned (layoutOf m b) b .ok) (requestOf m (scanned (layoutOf m b) b)) Bad
 
 unfoldable pub connectBody : ConnectKind → List ℕ → Request
 connectBody k b = readBy (Message.Connect k) b

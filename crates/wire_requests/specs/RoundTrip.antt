@@ -2,7 +2,7 @@
 use mathlib.Core.Path.{_≡_}
 use mathlib.Core.List.{List, _++_, map}
 use Prim.Native.Nat.{ℕ, _^_, _<_}
-use Rattle.codes.specs.Codes.{localAddress, textAuth}
+use Rattle.codes.specs.Codes.{localAddress, tcpAddress, textAuth}
 use Rattle.xdr.specs.Xdr.{be32, word}
 use Rattle.wire_frame.specs.declared.ConnectKind.the-variants as ConnectKind
 use Rattle.wire_frame.specs.declared.DataKind.the-variants as DataKind
@@ -35,23 +35,31 @@ Known Message.Unknown = ⊥
 abbrev pub OtherThan : ℕ → ℕ → Type 0
 OtherThan k v = (v < 2 ^ 32) × (v ≡ k → ⊥)
 
--- every message has its requests; each body decodes to the request that it says; and "after an address type other than 0 or an auth type
--- other than 1 .. the rest is not read", whatever it is
+-- a word that is another address type than LOCAL and TCP
+abbrev pub OtherType : ℕ → Type 0
+OtherType v = OtherThan localAddress v × (v ≡ tcpAddress → ⊥)
+
+-- every message has its requests; each body decodes to the request that it says; and after an auth type other than 1 or an address type other than
+-- 0 and 1 the rest is not read, whatever it is ("type 1 no longer leaves bytes unread")
 pub record RequestsBack : Type 0 where
   pub every : (m : Message) → Known m → Sent m
   pub sent : {m : Message} (s : Sent m) → SentFits s → Means s (sentBytes s) (decoded m (sentBytes s))
   pub other-auth : (v : ℕ) (rest : List ℕ) → OtherThan textAuth v
       → decoded (Message.Connect ConnectKind.Auth) (be32 v ++ rest) ≡ Connect ConnectRequest.OtherAuth
-  pub other-data-listen : (v : ℕ) (rest : List ℕ) → OtherThan localAddress v
+  pub other-data-listen : (v : ℕ) (rest : List ℕ) → OtherType v
       → decoded (Message.Data DataKind.Listen) (be32 v ++ rest) ≡ Data (DataRequest.Listen v)
-  pub other-mover-listen : (mode v : ℕ) (rest : List ℕ) → mode < 2 ^ 32 → OtherThan localAddress v
+  pub other-mover-listen : (mode v : ℕ) (rest : List ℕ) → mode < 2 ^ 32 → OtherType v
       → decoded (Message.Mover MoverKind.Listen) (be32 mode ++ (be32 v ++ rest)) ≡ Mover (MoverRequest.Listen mode v)
-  pub other-data-connect : (v : ℕ) (rest : List ℕ) → OtherThan localAddress v
-      → decoded (Message.Joint JointKind.DataConnect) (be32 v ++ rest) ≡ Joint (JointRequest.DataConnect v)
-  pub other-mover-connect : (mode v : ℕ) (rest : List ℕ) → mode < 2 ^ 32 → OtherThan localAddress v
-      → decoded (Message.Joint JointKind.MoverConnect) (be32 mode ++ (be32 v ++ rest)) ≡ Joint (JointRequest.MoverConnect mode v)
+  pub other-data-connect : (v : ℕ) (rest : List ℕ) → OtherType v
+      → decoded (Message.Joint JointKind.DataConnect) (be32 v ++ rest) ≡ Joint (JointRequest.DataConnect v 0)
+  pub other-mover-connect : (mode v : ℕ) (rest : List ℕ) → mode < 2 ^ 32 → OtherType v
+      → decoded (Message.Joint JointKind.MoverConnect) (be32 mode ++ (be32 v ++ rest)) ≡ Joint (JointRequest.MoverConnect mode v 0)
 
--- "address and auth types whose rest is unread stay apart": the bodies of an auth other than text and of an address other than LOCAL, by
+-- a word of the body that is no address type whose fields are read
+abbrev pub NoType : ℕ → Type 0
+NoType v = (v ≡ localAddress → ⊥) × (v ≡ tcpAddress → ⊥)
+
+-- "address and auth types whose rest is unread stay apart": the bodies of an auth other than text and of an address other than LOCAL and TCP, by
 -- the word of that type
 abbrev pub Apart : Message → List ℕ → Type 0
 Apart (Message.Connect ConnectKind.Open) b = ⊥
@@ -64,24 +72,24 @@ Apart (Message.Data DataKind.State) b = ⊥
 Apart (Message.Data DataKind.Backup) b = ⊥
 Apart (Message.Data DataKind.Recover) b = ⊥
 Apart (Message.Data DataKind.Stop) b = ⊥
-Apart (Message.Data DataKind.Listen) b = word b 0 ≡ localAddress → ⊥
+Apart (Message.Data DataKind.Listen) b = NoType (word b 0)
 Apart (Message.Mover MoverKind.State) b = ⊥
-Apart (Message.Mover MoverKind.Listen) b = word b 4 ≡ localAddress → ⊥
+Apart (Message.Mover MoverKind.Listen) b = NoType (word b 4)
 Apart (Message.Mover MoverKind.Continue) b = ⊥
 Apart (Message.Mover MoverKind.Stop) b = ⊥
 Apart (Message.Mover MoverKind.Window) b = ⊥
 Apart (Message.Mover MoverKind.Read) b = ⊥
 Apart (Message.Mover MoverKind.Size) b = ⊥
 Apart (Message.Joint JointKind.DataAbort) b = ⊥
-Apart (Message.Joint JointKind.DataConnect) b = word b 0 ≡ localAddress → ⊥
+Apart (Message.Joint JointKind.DataConnect) b = NoType (word b 0)
 Apart (Message.Joint JointKind.MoverAbort) b = ⊥
 Apart (Message.Joint JointKind.MoverClose) b = ⊥
-Apart (Message.Joint JointKind.MoverConnect) b = word b 4 ≡ localAddress → ⊥
+Apart (Message.Joint JointKind.MoverConnect) b = NoType (word b 4)
 Apart Message.Unknown b = ⊥
 
 -- a body that decodes: it is what its fields are written as, or it stands apart
 pub data Spelling (m : Message) (b : List ℕ) : Type 0 where
-  to-its-end : (ws : List (Value Text)) → readAs (layoutOf m) b 0 ≡ whole ws → b ≡ writeAs (map (contents b) ws) → Spelling m b
+  to-its-end : (ws : List (Value Text)) → readAs (layoutOf m b) b 0 ≡ whole ws → b ≡ writeAs (map (contents b) ws) → Spelling m b
   rest-unread : Apart m b → Spelling m b
 
 abbrev pub RequestsOneSpelling : Type 0

@@ -1,6 +1,6 @@
 -- One body for each message, its bytes written out after 004's Appendix C, and the request that it is; then bodies that are none. They keep
 -- the two tables of `Bodies` to 004: a field that is taken from another place, or a fill byte that is not judged, is seen here.
-use Prim.Native.Nat.{ℕ}
+use Prim.Native.Nat.{ℕ, zero, suc}
 use mathlib.Core.Path.{_≡_}
 use mathlib.Core.List.{List, [], _∷_, _++_, map}
 use lib.ListN.{length, replicate}
@@ -69,6 +69,14 @@ environment fill = small 1 ++ string (65 ∷ []) none ++ string (66 ∷ 67 ∷ [
 abbrev pub nlist : List ℕ → List ℕ
 nlist fill = small 1 ++ string (97 ∷ []) none ++ string [] [] ++ string (98 ∷ 99 ∷ 100 ∷ []) fill ++ string noon [] ++ wide 1 2 ++ wide 3 4
 
+-- a list of n addresses: 10.0.0.1, port 10,000, each with an environment of one pair
+unfoldable pub addressesOf : ℕ → List ℕ
+addressesOf zero = []
+addressesOf (suc n) = (10 ∷ 0 ∷ 0 ∷ 1 ∷ 0 ∷ 0 ∷ 39 ∷ 16 ∷ []) ++ environment (0 ∷ 0 ∷ []) ++ addressesOf n
+
+abbrev pub addressList : ℕ → List ℕ
+addressList n = small n ++ addressesOf n
+
 abbrev pub inquiry : List ℕ
 inquiry = 18 ∷ 0 ∷ 0 ∷ 0 ∷ 36 ∷ 0 ∷ []
 
@@ -98,9 +106,11 @@ bodies =
     ∷ body (Message.Data DataKind.Recover) (environment (0 ∷ 0 ∷ []) ++ nlist (0 ∷ []) ++ string dump [])
     ∷ body (Message.Data DataKind.Stop) []
     ∷ body (Message.Data DataKind.Listen) (small 0)
-    ∷ body (Message.Data DataKind.Listen) (small 1 ++ 7 ∷ [])
+    ∷ body (Message.Data DataKind.Listen) (small 1)
+    ∷ body (Message.Data DataKind.Listen) (small 2 ++ 7 ∷ [])
     ∷ body (Message.Mover MoverKind.State) []
     ∷ body (Message.Mover MoverKind.Listen) (small 1 ++ small 0)
+    ∷ body (Message.Mover MoverKind.Listen) (small 0 ++ small 1)
     ∷ body (Message.Mover MoverKind.Listen) (small 0 ++ small 2 ++ 7 ∷ [])
     ∷ body (Message.Mover MoverKind.Continue) []
     ∷ body (Message.Mover MoverKind.Stop) []
@@ -109,10 +119,13 @@ bodies =
     ∷ body (Message.Mover MoverKind.Size) (0 ∷ 0 ∷ 4 ∷ 0 ∷ [])
     ∷ body (Message.Joint JointKind.DataAbort) []
     ∷ body (Message.Joint JointKind.DataConnect) (small 0)
-    ∷ body (Message.Joint JointKind.DataConnect) (small 1 ++ 7 ∷ [])
+    ∷ body (Message.Joint JointKind.DataConnect) (small 1 ++ addressList 2)
+    ∷ body (Message.Joint JointKind.DataConnect) (small 1 ++ small 0)
+    ∷ body (Message.Joint JointKind.DataConnect) (small 2 ++ 7 ∷ [])
     ∷ body (Message.Joint JointKind.MoverAbort) []
     ∷ body (Message.Joint JointKind.MoverClose) []
     ∷ body (Message.Joint JointKind.MoverConnect) (small 1 ++ small 0)
+    ∷ body (Message.Joint JointKind.MoverConnect) (small 0 ++ small 1 ++ addressList 16)
     ∷ body (Message.Joint JointKind.MoverConnect) (small 0 ++ small 3 ++ 7 ∷ [])
     ∷ []
 
@@ -142,8 +155,10 @@ requests =
     ∷ Request.Data DataRequest.Stop
     ∷ Request.Data (DataRequest.Listen 0)
     ∷ Request.Data (DataRequest.Listen 1)
+    ∷ Request.Data (DataRequest.Listen 2)
     ∷ Request.Mover MoverRequest.State
     ∷ Request.Mover (MoverRequest.Listen 1 0)
+    ∷ Request.Mover (MoverRequest.Listen 0 1)
     ∷ Request.Mover (MoverRequest.Listen 0 2)
     ∷ Request.Mover MoverRequest.Continue
     ∷ Request.Mover MoverRequest.Stop
@@ -151,16 +166,19 @@ requests =
     ∷ Request.Mover (MoverRequest.Read 4 4294967296)
     ∷ Request.Mover (MoverRequest.Size 1024)
     ∷ Request.Joint JointRequest.DataAbort
-    ∷ Request.Joint (JointRequest.DataConnect 0)
-    ∷ Request.Joint (JointRequest.DataConnect 1)
+    ∷ Request.Joint (JointRequest.DataConnect 0 0)
+    ∷ Request.Joint (JointRequest.DataConnect 1 2)
+    ∷ Request.Joint (JointRequest.DataConnect 1 0)
+    ∷ Request.Joint (JointRequest.DataConnect 2 0)
     ∷ Request.Joint JointRequest.MoverAbort
     ∷ Request.Joint JointRequest.MoverClose
-    ∷ Request.Joint (JointRequest.MoverConnect 1 0)
-    ∷ Request.Joint (JointRequest.MoverConnect 0 3)
+    ∷ Request.Joint (JointRequest.MoverConnect 1 0 0)
+    ∷ Request.Joint (JointRequest.MoverConnect 0 1 16)
+    ∷ Request.Joint (JointRequest.MoverConnect 0 3 0)
     ∷ []
 
 -- ---- a byte of fill that is not zero, in each place where a text may stand and at each length of fill; bytes that are missing or left
--- over; and one pair more than 64
+-- over; one pair more than 64; bytes behind a listen's type TCP; a list that is missing, has a 17th address, a port of 65,536 or a fill byte
 abbrev pub badBodies : List SampleBody
 badBodies =
     body (Message.Connect ConnectKind.Auth) (small 1 ++ string vault (0 ∷ 0 ∷ 1 ∷ []) ++ string noon [])
@@ -178,6 +196,13 @@ badBodies =
     ∷ body (Message.Data DataKind.Backup) (string dump [] ++ small 65 ++ replicate 520 0)
     ∷ body (Message.Connect ConnectKind.Close) (0 ∷ [])
     ∷ body (Message.Data DataKind.Listen) (small 0 ++ 7 ∷ [])
+    ∷ body (Message.Data DataKind.Listen) (small 1 ++ 7 ∷ [])
+    ∷ body (Message.Mover MoverKind.Listen) (small 0 ++ small 1 ++ small 0)
+    ∷ body (Message.Joint JointKind.DataConnect) (small 1)
+    ∷ body (Message.Joint JointKind.DataConnect) (small 1 ++ addressList 17)
+    ∷ body (Message.Joint JointKind.DataConnect) (small 1 ++ addressList 1 ++ small 0)
+    ∷ body (Message.Joint JointKind.DataConnect) (small 1 ++ small 1 ++ (10 ∷ 0 ∷ 0 ∷ 1 ∷ 0 ∷ 1 ∷ 0 ∷ 0 ∷ []) ++ small 0)
+    ∷ body (Message.Joint JointKind.MoverConnect) (small 0 ++ small 1 ++ small 1 ++ (10 ∷ 0 ∷ 0 ∷ 1 ∷ 0 ∷ 0 ∷ 39 ∷ 16 ∷ []) ++ environment (1 ∷ 0 ∷ []))
     ∷ body (Message.Mover MoverKind.Window) (wide 1 2 ++ small 0)
     ∷ body (Message.Mover MoverKind.Window) (wide 1 2 ++ wide 0 3 ++ 0 ∷ [])
     ∷ []

@@ -1,10 +1,11 @@
 -- Requests a second time, by the names that 004 gives their fields: the bytes of each body after 004's Appendix C, written by RFC 4506, and
 -- the request that the body must decode to. Nothing here is taken from the tables of `Bodies`: `RequestsBack` says that the two agree.
 use Prim.Native.Nat.{ℕ, _^_, _≤_, _<_}
+use mathlib.Core.Bool.{Bool, true, false}
 use mathlib.Core.Path.{_≡_}
 use mathlib.Core.List.{List, [], _∷_, _++_, flatMap}
 use lib.ListN.{length}
-use Rattle.codes.specs.Codes.{localAddress, textAuth, mostListed}
+use Rattle.codes.specs.Codes.{localAddress, tcpAddress, textAuth, mostListed, mostAddresses, mostPort}
 use Rattle.xdr.specs.Xdr.{be32, be64}
 use Rattle.xdr_opaque.specs.Put.{opaque, Each}
 use Rattle.wire_frame.specs.declared.ConnectKind.the-variants as ConnectKind
@@ -60,13 +61,32 @@ NameFits n =
     × (n .node < 2 ^ 64)
     × (n .info < 2 ^ 64)
 
--- ---- a field by its type in 004: u_long and enums; u_quad; string and opaque; ndmp_pval<> and ndmp_name<>; the type of a union
+-- ---- ndmp_tcp_addr: the address and the port, an unsigned short, which XDR writes as a word; and its environment
+pub record TcpAddr : Type 0 where
+  pub ip : ℕ
+  pub port : ℕ
+  pub env : List Pval
+
+abbrev pub tcpAddrBytes : TcpAddr → List ℕ
+tcpAddrBytes a = be32 (a .ip) ++ (be32 (a .port) ++ (be32 (length (a .env)) ++ flatMap pvalBytes (a .env)))
+
+-- "each with up to 64 environment pairs (more, or a port above 65,535, is 18)"
+abbrev pub TcpAddrFits : TcpAddr → Type 0
+TcpAddrFits a = (a .ip < 2 ^ 32) × (a .port ≤ mostPort) × (length (a .env) ≤ mostListed) × Each PvalFits (a .env)
+
+-- ndmp_addr of a connect: of LOCAL nothing is told
+pub data Addr : Type 0 where
+  local : Addr
+  tcp : List TcpAddr → Addr
+
+-- ---- a field by its type in 004: u_long and enums; u_quad; string and opaque; ndmp_pval<>, ndmp_name<> and ndmp_tcp_addr<>; the type of a union
 pub data Arg : Type 0 where
   ulong : ℕ → Arg
   uquad : ℕ → Arg
   octets : List ℕ → Arg
   pvals : List Pval → Arg
   nameList : List Name → Arg
+  tcpAddrs : List TcpAddr → Arg
   union : ℕ → Arg
 
 abbrev pub argBytes : Arg → List ℕ
@@ -75,18 +95,21 @@ argBytes (uquad v) = be64 v
 argBytes (octets s) = opaque s
 argBytes (pvals ps) = be32 (length ps) ++ flatMap pvalBytes ps
 argBytes (nameList ns) = be32 (length ns) ++ flatMap nameBytes ns
+argBytes (tcpAddrs addrs) = be32 (length addrs) ++ flatMap tcpAddrBytes addrs
 argBytes (union k) = be32 k
 
--- "At most 64 environment pairs and 64 names in a start request"
+-- "At most 64 environment pairs and 64 names in a start request"; "lists of up to 16 addresses"
 abbrev pub ArgFits : Arg → Type 0
 ArgFits (ulong v) = v < 2 ^ 32
 ArgFits (uquad v) = v < 2 ^ 64
 ArgFits (octets s) = length s < 2 ^ 32
 ArgFits (pvals ps) = (length ps ≤ mostListed) × Each PvalFits ps
 ArgFits (nameList ns) = (length ns ≤ mostListed) × Each NameFits ns
+ArgFits (tcpAddrs addrs) = (length addrs ≤ mostAddresses) × Each TcpAddrFits addrs
 ArgFits (union k) = k < 2 ^ 32
 
--- ---- the requests of each message. An auth is a text here and an address LOCAL: of other types the rest is not read, see `RequestsBack`.
+-- ---- the requests of each message. An auth is a text here and an address LOCAL or TCP: of other types the rest is not read, see `RequestsBack`.
+-- A listen names the type of its address and nothing else.
 pub data Sent : Message → Type 0 where
   connect-open : (version : ℕ) → Sent (Message.Connect ConnectKind.Open)
   client-auth : (id password : List ℕ) → Sent (Message.Connect ConnectKind.Auth)
@@ -108,19 +131,28 @@ pub data Sent : Message → Type 0 where
   start-backup : (butype : List ℕ) (env : List Pval) → Sent (Message.Data DataKind.Backup)
   start-recover : (env : List Pval) (list : List Name) (butype : List ℕ) → Sent (Message.Data DataKind.Recover)
   data-stop : Sent (Message.Data DataKind.Stop)
-  data-listen : Sent (Message.Data DataKind.Listen)
+  data-listen : (byTcp : Bool) → Sent (Message.Data DataKind.Listen)
   mover-state : Sent (Message.Mover MoverKind.State)
-  mover-listen : (mode : ℕ) → Sent (Message.Mover MoverKind.Listen)
+  mover-listen : (mode : ℕ) (byTcp : Bool) → Sent (Message.Mover MoverKind.Listen)
   mover-continue : Sent (Message.Mover MoverKind.Continue)
   mover-stop : Sent (Message.Mover MoverKind.Stop)
   set-window : (offset len : ℕ) → Sent (Message.Mover MoverKind.Window)
   mover-read : (offset len : ℕ) → Sent (Message.Mover MoverKind.Read)
   set-record-size : (len : ℕ) → Sent (Message.Mover MoverKind.Size)
   data-abort : Sent (Message.Joint JointKind.DataAbort)
-  data-connect : Sent (Message.Joint JointKind.DataConnect)
+  data-connect : (addr : Addr) → Sent (Message.Joint JointKind.DataConnect)
   mover-abort : Sent (Message.Joint JointKind.MoverAbort)
   mover-close : Sent (Message.Joint JointKind.MoverClose)
-  mover-connect : (mode : ℕ) → Sent (Message.Joint JointKind.MoverConnect)
+  mover-connect : (mode : ℕ) (addr : Addr) → Sent (Message.Joint JointKind.MoverConnect)
+
+-- ndmp_addr_type: LOCAL 0, TCP 1
+abbrev pub typeWord : Bool → ℕ
+typeWord true = tcpAddress
+typeWord false = localAddress
+
+abbrev pub addrArgs : Addr → List Arg
+addrArgs local = union localAddress ∷ []
+addrArgs (tcp addrs) = union tcpAddress ∷ tcpAddrs addrs ∷ []
 
 -- the fields of the body, in the order of the struct
 abbrev pub argsOf : {m : Message} → Sent m → List Arg
@@ -144,19 +176,19 @@ argsOf data-state = []
 argsOf (start-backup butype env) = octets butype ∷ pvals env ∷ []
 argsOf (start-recover env list butype) = pvals env ∷ nameList list ∷ octets butype ∷ []
 argsOf data-stop = []
-argsOf data-listen = union localAddress ∷ []
+argsOf (data-listen byTcp) = union (typeWord byTcp) ∷ []
 argsOf mover-state = []
-argsOf (mover-listen mode) = ulong mode ∷ union localAddress ∷ []
+argsOf (mover-listen mode byTcp) = ulong mode ∷ union (typeWord byTcp) ∷ []
 argsOf mover-continue = []
 argsOf mover-stop = []
 argsOf (set-window offset len) = uquad offset ∷ uquad len ∷ []
 argsOf (mover-read offset len) = uquad offset ∷ uquad len ∷ []
 argsOf (set-record-size len) = ulong len ∷ []
 argsOf data-abort = []
-argsOf data-connect = union localAddress ∷ []
+argsOf (data-connect addr) = addrArgs addr
 argsOf mover-abort = []
 argsOf mover-close = []
-argsOf (mover-connect mode) = ulong mode ∷ union localAddress ∷ []
+argsOf (mover-connect mode addr) = ulong mode ∷ addrArgs addr
 
 unfoldable pub sentBytes : {m : Message} → Sent m → List ℕ
 sentBytes s = flatMap argBytes (argsOf s)
@@ -191,16 +223,18 @@ Means data-state b r = r ≡ Data DataRequest.State
 Means (start-backup butype env) b r = AtPlace b butype (λ t. r ≡ Data (DataRequest.Backup t))
 Means (start-recover env list butype) b r = AtPlace b butype (λ t. r ≡ Data (DataRequest.Recover t))
 Means data-stop b r = r ≡ Data DataRequest.Stop
-Means data-listen b r = r ≡ Data (DataRequest.Listen localAddress)
+Means (data-listen byTcp) b r = r ≡ Data (DataRequest.Listen (typeWord byTcp))
 Means mover-state b r = r ≡ Mover MoverRequest.State
-Means (mover-listen mode) b r = r ≡ Mover (MoverRequest.Listen mode localAddress)
+Means (mover-listen mode byTcp) b r = r ≡ Mover (MoverRequest.Listen mode (typeWord byTcp))
 Means mover-continue b r = r ≡ Mover MoverRequest.Continue
 Means mover-stop b r = r ≡ Mover MoverRequest.Stop
 Means (set-window offset len) b r = r ≡ Mover (MoverRequest.Window offset len)
 Means (mover-read offset len) b r = r ≡ Mover (MoverRequest.Read offset len)
 Means (set-record-size len) b r = r ≡ Mover (MoverRequest.Size len)
 Means data-abort b r = r ≡ Joint JointRequest.DataAbort
-Means data-connect b r = r ≡ Joint (JointRequest.DataConnect localAddress)
+Means (data-connect local) b r = r ≡ Joint (JointRequest.DataConnect localAddress 0)
+Means (data-connect (tcp addrs)) b r = r ≡ Joint (JointRequest.DataConnect tcpAddress (length addrs))
 Means mover-abort b r = r ≡ Joint JointRequest.MoverAbort
 Means mover-close b r = r ≡ Joint JointRequest.MoverClose
-Means (mover-connect mode) b r = r ≡ Joint (JointRequest.MoverConnect mode localAddress)
+Means (mover-connect mode local) b r = r ≡ Joint (JointRequest.MoverConnect mode localAddress 0)
+Means (mover-connect mode (tcp addrs)) b r = r ≡ Joint (JointRequest.MoverConnect mode tcpAddress (length addrs))

@@ -14,7 +14,7 @@ use Rattle.wire_layouts.specs.Layout.{Item, four, bytes, value, writeAs}
 use Rattle.wire_layouts.specs.Laws.{is-word, is-text, is-port, PartsFit, no-part, part-on, TimesFit, no-time, time-on, ListFits, is-list, ElementFits, is-element}
 use Rattle.wire_layouts.specs.Laws.{is-lists, FieldsFit, no-field, field-on}
 use Rattle.wire_layouts.specs.Scans.{pairParts, addressParts, addresses, put, puts, summed, scanned, fieldSeen}
-use Rattle.wire_layouts.specs.AddressLists.{keep, countSeen, andAddress, addressesFrom, listed, addressesAt}
+use Rattle.wire_layouts.specs.AddressLists.{keep, countSeen, andAddress, addressesFrom, listed, addressesAt, isTcp, lendable}
 use Rattle.wire_layouts.specs.AddressCases.{times, twoValue}
 use Rattle.wire_layouts.proofs.address_cases.Statement.{statement}
 use Rattle.wire_layouts.proofs.address_cases.Tie as tie
@@ -42,7 +42,7 @@ two-fits =
 returns : tie.Need-returns
 unfolding
     choose word allZero opaqueAt pieceOf partAt prepend andPart andGot partsAt timesAt counted itemsOf elementAt fieldAt andValue andRead readAs
-    put puts summed scanned fieldSeen keep countSeen andAddress addressesFrom listed addressesAt times writeAs flatMap be32 opaque
+    put puts summed scanned fieldSeen keep countSeen andAddress addressesFrom listed addressesAt isTcp lendable times writeAs flatMap be32 opaque
 returns c =
     record {
       none = refl;
@@ -63,6 +63,16 @@ returns c =
       left-over = refl;
       given-two = refl;
       given-sixteen = refl;
+      lent-two = refl;
+      lent-empty = refl;
+      lent-nothing = refl;
+      lent-left-over = refl;
+      lent-seventeen = refl;
+      lent-longest = refl;
+      lent-too-long = refl;
+      type-tcp = refl;
+      type-local = refl;
+      type-cut = refl;
       given-none = refl;
     }
 

@@ -1,0 +1,51 @@
+-- The scan of the body by the letters for its address type, and the row of the request.
+use mathlib.Core.Path.{refl}
+use Rattle.wire_requests.specs.Bodies.{listenFields, requestOf, dataBody}
+use Rattle.wire_decoding.proofs.Laws.{of-scan, by-type}
+use Rattle.wire_frame.specs.declared.Message.the-variants as Message
+use Rattle.wire_frame.specs.declared.DataKind.the-variants as DataKind
+use borrow.Author.Needs.{needs}
+use Rattle.wire_decoding.proofs.messages.data_listen.Statement.{statement}
+use Rattle.wire_decoding.proofs.messages.data_listen.Tie as tie
+use Rattle.wire_decoding.proofs.messages.data_listen.Reads as reads
+use Rattle.wire_decoding.proofs.messages.data_listen.Lts as lts
+use Rattle.wire_scanning.proofs.is_tcp.Reads as is-tcp-reads
+use Rattle.wire_decoding.proofs.fields.judged.Reads as judged-reads
+use Rattle.wire_decoding.proofs.messages.scan_address.Reads as scan-address-reads
+
+slice-aggregate-scan-address : tie.Need-slice-aggregate-scan-address
+slice-aggregate-scan-address c = search needs
+
+slice-aggregate-scan-address-2 : tie.Need-slice-aggregate-scan-address-2
+slice-aggregate-scan-address-2 c = search needs
+
+is-tcp-requires : tie.Need-is-tcp-requires
+is-tcp-requires c κs = search needs
+
+scan-address-requires : tie.Need-scan-address-requires
+scan-address-requires c κs = search needs
+
+element-copy-out-t13 : tie.Need-element-copy-out-t13
+element-copy-out-t13 c = search needs
+
+judged-requires : tie.Need-judged-requires
+judged-requires c κs = search needs
+
+returns : tie.Need-returns
+unfolding dataBody
+returns c =
+    let k = c .before .before in
+    let e = by-type listenFields _ _ refl refl _ (k .before .is-tcp .ensures) (k .scan-address .ensures) in
+    of-scan (requestOf (Message.Data DataKind.Listen)) e (c .judged .ensures)
+
+pub data-listen-spec : {M : Type 1} → statement M
+data-listen-spec =
+    tie.close
+    (tie.spec
+    slice-aggregate-scan-address
+    slice-aggregate-scan-address-2
+    is-tcp-requires
+    scan-address-requires
+    element-copy-out-t13
+    judged-requires
+    returns)

@@ -1,0 +1,42 @@
+-- The scan of the body by the letters of its layout, and the row of the request.
+use Rattle.wire_requests.specs.Bodies.{requestOf, tapeBody}
+use Rattle.wire_decoding.proofs.Laws.{of-scan}
+use Rattle.wire_frame.specs.declared.Message.the-variants as Message
+use Rattle.wire_frame.specs.declared.TapeKind.the-variants as TapeKind
+use borrow.Author.Needs.{needs}
+use Rattle.wire_decoding.proofs.messages.mtio.Statement.{statement}
+use Rattle.wire_decoding.proofs.messages.mtio.Tie as tie
+use Rattle.wire_decoding.proofs.messages.mtio.Reads as reads
+use Rattle.wire_decoding.proofs.messages.mtio.Lts as lts
+use Rattle.wire_scanning.proofs.scan_body.Reads as scan-body-reads
+use Rattle.wire_decoding.proofs.fields.judged.Reads as judged-reads
+
+slice-aggregate-scan-body : tie.Need-slice-aggregate-scan-body
+slice-aggregate-scan-body c = search needs
+
+scan-body-requires : tie.Need-scan-body-requires
+scan-body-requires c κs = search needs
+
+element-copy-out-t10 : tie.Need-element-copy-out-t10
+element-copy-out-t10 c = search needs
+
+element-copy-out-t13 : tie.Need-element-copy-out-t13
+element-copy-out-t13 c = search needs
+
+judged-requires : tie.Need-judged-requires
+judged-requires c κs = search needs
+
+returns : tie.Need-returns
+unfolding tapeBody
+returns c = of-scan (requestOf (Message.Tape TapeKind.Mtio)) (c .before .before .before .scan-body .ensures) (c .judged .ensures)
+
+pub mtio-spec : {M : Type 1} → statement M
+mtio-spec =
+    tie.close
+    (tie.spec
+    slice-aggregate-scan-body
+    scan-body-requires
+    element-copy-out-t10
+    element-copy-out-t13
+    judged-requires
+    returns)

@@ -1,0 +1,198 @@
+// A decoder for each message with arguments, by the letters of its layout: w is a word, h a hyper, t a text, p the pairs of an
+// environment, n the names of a recover, a an address of type LOCAL, i one of type TCP, l the list of its addresses, u an auth.
+ghost use mathlib.Core.Path.{_≡_};
+ghost use mathlib.Core.List.{map};
+ghost use Prim.Native.Nat.{_≤_};
+ghost use lib.Dec.{eqb};
+ghost use lib.ListN.{length};
+ghost use Rattle.codes.specs.Codes.{textAuth};
+ghost use Rattle.xdr.specs.Choose.{choose};
+ghost use Rattle.wire_requests.specs.declared.ConnectRequest.the-variants as ConnectRequest;
+ghost use Rattle.wire_layouts.specs.Scans.{scanned, fieldOf};
+ghost use Rattle.wire_requests.specs.Bodies.{connectBody, scsiBody, tapeBody, dataBody, moverBody, jointBody};
+ghost use Rattle.wire_frame.specs.declared.ConnectKind.the-variants as ConnectKind;
+ghost use Rattle.wire_frame.specs.declared.ScsiKind.the-variants as ScsiKind;
+ghost use Rattle.wire_frame.specs.declared.TapeKind.the-variants as TapeKind;
+ghost use Rattle.wire_frame.specs.declared.DataKind.the-variants as DataKind;
+ghost use Rattle.wire_frame.specs.declared.MoverKind.the-variants as MoverKind;
+ghost use Rattle.wire_frame.specs.declared.JointKind.the-variants as JointKind;
+use super::fields::judged;
+use super::fields::text_of;
+use wire_layouts::Scan;
+use wire_layouts::Text;
+use wire_requests::ConnectRequest;
+use wire_requests::DataRequest;
+use wire_requests::JointRequest;
+use wire_requests::MoverRequest;
+use wire_requests::Request;
+use wire_requests::ScsiRequest;
+use wire_requests::TapeRequest;
+use wire_scanning::is_tcp;
+use wire_scanning::scan_body;
+
+pub fn connect_open(body: &[u8]) -> Request
+    ensures { λ r. ⌜ r ≡ connectBody ConnectKind.Open (now (body .entry)) ⌝ }
+{
+    let k = scan_body(b"w", body);
+    judged(k.ok, Request::Connect(ConnectRequest::Open(k.words[0])))
+}
+
+// An auth by text has an id and a password; of another type the rest is not read.
+fn auth(kind: u32, id: Text, password: Text) -> ConnectRequest
+    ensures { λ r. ⌜ r ≡ choose (eqb kind textAuth) (ConnectRequest.Auth id password) ConnectRequest.OtherAuth ⌝ }
+{
+    if kind != codes::TEXT_AUTH {
+        return ConnectRequest::OtherAuth;
+    }
+    ConnectRequest::Auth(id, password)
+}
+
+pub fn client_auth(body: &[u8]) -> Request
+    ensures { λ r. ⌜ r ≡ connectBody ConnectKind.Auth (now (body .entry)) ⌝ }
+{
+    let k = scan_body(b"utt", body);
+    judged(
+        k.ok,
+        Request::Connect(auth(k.words[0], text_of(k, 1), text_of(k, 2))),
+    )
+}
+
+pub fn scsi_open(body: &[u8]) -> Request
+    ensures { λ r. ⌜ r ≡ scsiBody ScsiKind.Open (now (body .entry)) ⌝ }
+{
+    let k = scan_body(b"t", body);
+    judged(k.ok, Request::Scsi(ScsiRequest::Open(text_of(k, 0))))
+}
+
+pub fn execute_cdb(body: &[u8]) -> Request
+    ensures { λ r. ⌜ r ≡ scsiBody ScsiKind.Cdb (now (body .entry)) ⌝ }
+{
+    let k = scan_body(b"wwwtt", body);
+    judged(
+        k.ok,
+        Request::Scsi(ScsiRequest::Cdb(text_of(k, 3), k.words[2])),
+    )
+}
+
+pub fn tape_open(body: &[u8]) -> Request
+    ensures { λ r. ⌜ r ≡ tapeBody TapeKind.Open (now (body .entry)) ⌝ }
+{
+    let k = scan_body(b"tw", body);
+    judged(
+        k.ok,
+        Request::Tape(TapeRequest::Open(text_of(k, 0), k.words[1])),
+    )
+}
+
+pub fn mtio(body: &[u8]) -> Request
+    ensures { λ r. ⌜ r ≡ tapeBody TapeKind.Mtio (now (body .entry)) ⌝ }
+{
+    let k = scan_body(b"ww", body);
+    judged(
+        k.ok,
+        Request::Tape(TapeRequest::Mtio(k.words[0], k.words[1])),
+    )
+}
+
+pub fn tape_write(body: &[u8]) -> Request
+    ensures { λ r. ⌜ r ≡ tapeBody TapeKind.Write (now (body .entry)) ⌝ }
+{
+    let k = scan_body(b"t", body);
+    judged(k.ok, Request::Tape(TapeRequest::Write(text_of(k, 0))))
+}
+
+pub fn tape_read(body: &[u8]) -> Request
+    ensures { λ r. ⌜ r ≡ tapeBody TapeKind.Read (now (body .entry)) ⌝ }
+{
+    let k = scan_body(b"w", body);
+    judged(k.ok, Request::Tape(TapeRequest::Read(k.words[0])))
+}
+
+pub fn start_backup(body: &[u8]) -> Request
+    ensures { λ r. ⌜ r ≡ dataBody DataKind.Backup (now (body .entry)) ⌝ }
+{
+    let k = scan_body(b"tp", body);
+    judged(k.ok, Request::Data(DataRequest::Backup(text_of(k, 0))))
+}
+
+pub fn start_recover(body: &[u8]) -> Request
+    ensures { λ r. ⌜ r ≡ dataBody DataKind.Recover (now (body .entry)) ⌝ }
+{
+    let k = scan_body(b"pnt", body);
+    judged(k.ok, Request::Data(DataRequest::Recover(text_of(k, 2))))
+}
+
+// Scans a body with an address: by the one layout where its type is TCP, and else by the other.
+fn scan_address(far: &[u8], near: &[u8], tcp: bool, body: &[u8]) -> Scan
+    requires { ⌜ (length (now far) ≤ 5) × (length (now near) ≤ 5) ⌝ }
+    ensures { λ r. ⌜ r ≡ scanned (map fieldOf (choose tcp (now (far .entry)) (now (near .entry)))) (now (body .entry)) ⌝ }
+{
+    if tcp {
+        return scan_body(far, body);
+    }
+    scan_body(near, body)
+}
+
+pub fn data_listen(body: &[u8]) -> Request
+    ensures { λ r. ⌜ r ≡ dataBody DataKind.Listen (now (body .entry)) ⌝ }
+{
+    let k = scan_address(b"i", b"a", is_tcp(body, 0), body);
+    judged(k.ok, Request::Data(DataRequest::Listen(k.words[0])))
+}
+
+pub fn mover_listen(body: &[u8]) -> Request
+    ensures { λ r. ⌜ r ≡ moverBody MoverKind.Listen (now (body .entry)) ⌝ }
+{
+    let k = scan_address(b"wi", b"wa", is_tcp(body, 4), body);
+    judged(
+        k.ok,
+        Request::Mover(MoverRequest::Listen(k.words[0], k.words[1])),
+    )
+}
+
+pub fn set_window(body: &[u8]) -> Request
+    ensures { λ r. ⌜ r ≡ moverBody MoverKind.Window (now (body .entry)) ⌝ }
+{
+    let k = scan_body(b"hh", body);
+    judged(
+        k.ok,
+        Request::Mover(MoverRequest::Window(k.hypers[0], k.hypers[1])),
+    )
+}
+
+pub fn mover_read(body: &[u8]) -> Request
+    ensures { λ r. ⌜ r ≡ moverBody MoverKind.Read (now (body .entry)) ⌝ }
+{
+    let k = scan_body(b"hh", body);
+    judged(
+        k.ok,
+        Request::Mover(MoverRequest::Read(k.hypers[0], k.hypers[1])),
+    )
+}
+
+pub fn set_record_size(body: &[u8]) -> Request
+    ensures { λ r. ⌜ r ≡ moverBody MoverKind.Size (now (body .entry)) ⌝ }
+{
+    let k = scan_body(b"w", body);
+    judged(k.ok, Request::Mover(MoverRequest::Size(k.words[0])))
+}
+
+pub fn data_connect(body: &[u8]) -> Request
+    ensures { λ r. ⌜ r ≡ jointBody JointKind.DataConnect (now (body .entry)) ⌝ }
+{
+    let k = scan_address(b"il", b"a", is_tcp(body, 0), body);
+    judged(
+        k.ok,
+        Request::Joint(JointRequest::DataConnect(k.words[0], k.words[1])),
+    )
+}
+
+pub fn mover_connect(body: &[u8]) -> Request
+    ensures { λ r. ⌜ r ≡ jointBody JointKind.MoverConnect (now (body .entry)) ⌝ }
+{
+    let k = scan_address(b"wil", b"wa", is_tcp(body, 4), body);
+    judged(
+        k.ok,
+        Request::Joint(JointRequest::MoverConnect(k.words[0], k.words[1], k.words[2])),
+    )
+}
