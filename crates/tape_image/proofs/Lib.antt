@@ -1,5 +1,3 @@
--- `Laws` has the laws of soundness, `PlaceLaws` those of file and block number, `Writes` what an entry or bytes of the body that are
--- written leave. They serve the crates above too.
+-- `Laws` has the laws of soundness, `Writes` what an entry or bytes of the body that are written leave. They serve the crates above too.
 pub mod Laws
-pub mod PlaceLaws
 pub mod Writes

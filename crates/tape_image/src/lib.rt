@@ -1,13 +1,11 @@
-// The cartridge image in a caller's byte slice: where its words lie, whether it is sound, and what get state says of a
-// position. No other crate knows the layout.
+// The cartridge image in a caller's byte slice: where its words lie. No other crate knows the layout. `tape_sound` judges an image, `tape_walking` walks
+// over its entries.
 ghost use mathlib.Core.Path.{_≡_};
 ghost use Prim.Native.Nat.{_+_, _-_, _*_, _<_, _≤_};
 ghost use lib.ListN.{length};
 ghost use Rattle.xdr.specs.Xdr.{word};
 ghost use Rattle.tape_image.specs.Image.{headerLen, capacity, count, used, entryAt, entryLen, entryStart, bodyAt};
-ghost use Rattle.tape_image.specs.Image.{FieldRead, Table, withEntry, headerOk, tableOk, isSound, faulty};
-ghost use Rattle.tape_image.specs.Sound.{Placed};
-ghost use Rattle.tape_image.specs.Place.{placeAt};
+ghost use Rattle.tape_image.specs.Image.{FieldRead, Table, withEntry};
 
 // The most entries of a table.
 pub const MOST_ENTRIES: usize = 4096;
@@ -16,7 +14,7 @@ pub const MOST_ENTRIES: usize = 4096;
 pub const LARGEST_BODY: usize = 134217728;
 
 // The bytes of the four words.
-const HEADER_SIZE: usize = 16;
+pub const HEADER_SIZE: usize = 16;
 
 // The bytes of an entry.
 const ENTRY_SIZE: usize = 8;
@@ -27,6 +25,14 @@ fn field(image: &[u8], at: usize) -> usize
     ensures { λ r. ⌜ FieldRead (word (now (image .entry)) at) r ⌝ }
 {
     xdr::read_word(image, at) as usize
+}
+
+// The first word, which says that this is a cartridge.
+pub fn first_word(image: &[u8]) -> usize
+    requires { ⌜ headerLen ≤ length (now image) ⌝ }
+    ensures { λ r. ⌜ FieldRead (word (now (image .entry)) 0) r ⌝ }
+{
+    field(image, 0)
 }
 
 // How many entries the table has room for.
@@ -97,116 +103,9 @@ pub fn put_entry(image: &mut [u8], position: usize, keep: usize, len: usize)
     xdr::write_words(image, at, &entry);
 }
 
-// The first word, the sizes and the counts of the image are in range.
-fn header_sound(image: &[u8]) -> bool
-    ensures { λ r. ⌜ r ≡ headerOk (now (image .entry)) ⌝ }
-{
-    if image.len() < HEADER_SIZE {
-        return false;
-    }
-    let first = field(image, 0);
-    let capacity = capacity(image);
-    let entries = count(image);
-    let used = used_bytes(image);
-    let body = body_at(image);
-    if first != 1 {
-        return false;
-    }
-    if capacity < 1 {
-        return false;
-    }
-    if MOST_ENTRIES < capacity {
-        return false;
-    }
-    if image.len() < body {
-        return false;
-    }
-    if LARGEST_BODY < image.len() - body {
-        return false;
-    }
-    if capacity < entries {
-        return false;
-    }
-    if image.len() - body < used {
-        return false;
-    }
-    true
-}
-
-// The first entries have lengths in range, starts that are the sums before them, and the sum total.
-fn table_sound(image: &[u8], entries: usize, total: usize) -> bool
-    requires { ⌜ Table (now image) entries ⌝ }
-    ensures { λ r. ⌜ r ≡ tableOk (now (image .entry)) total entries 0 0 ⌝ }
-{
-    let mut i: usize = 0;
-    let mut sum: usize = 0;
-    while i < entries {
-        let len = entry_len(image, i);
-        let start = entry_start(image, i);
-        if codes::LONGEST_RECORD < len {
-            return false;
-        }
-        if start != sum {
-            return false;
-        }
-        sum += len;
-        i += 1;
-    }
-    sum == total
-}
-
-// The image is sound.
-pub fn sound(image: &[u8]) -> bool
-    ensures { λ r. ⌜ r ≡ isSound (now (image .entry)) ⌝ }
-{
-    if header_sound(image) {
-        let entries = count(image);
-        let used = used_bytes(image);
-        table_sound(image, entries, used)
-    } else {
-        false
-    }
-}
-
-// The image is unsound, or the position is above its number of entries.
-pub fn is_faulty(image: &[u8], position: usize) -> bool
-    ensures { λ r. ⌜ r ≡ faulty (now (image .entry)) position ⌝ }
-{
-    if sound(image) {
-        let entries = count(image);
-        if entries < position {
-            return true;
-        }
-        false
-    } else {
-        true
-    }
-}
-
 // The file and the block number of a position.
 #[repr(C)]
 pub struct Place {
     pub file: u32,
     pub block: u32,
-}
-
-// The marks before a position, and the records since the last of them.
-pub fn place_of(image: &[u8], position: usize) -> Place
-    requires { ⌜ Placed (now image) position ⌝ }
-    ensures { λ r. ⌜ r ≡ placeAt (now (image .entry)) position ⌝ }
-{
-    let mut file: u32 = 0;
-    let mut block: u32 = 0;
-    let mut i: usize = 0;
-    while i < position {
-        let len = entry_len(image, i);
-        i += 1;
-        if len == 0 {
-            file += 1;
-            block = 0;
-        } else {
-            block += 1;
-        }
-    }
-    Place { file, block }
 }

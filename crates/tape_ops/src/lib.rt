@@ -44,7 +44,7 @@ pub fn write(image: &mut [u8], position: usize, bytes: &[u8]) -> Wrote
             position,
         };
     }
-    if tape_image::is_faulty(image, position) {
+    if tape_sound::is_faulty(image, position) {
         return Wrote {
             error: codes::IO_ERROR,
             count: 0,
@@ -114,7 +114,7 @@ pub fn read(image: &[u8], position: usize, times: u32) -> Part
             len: 0,
         };
     }
-    if tape_image::is_faulty(image, position) {
+    if tape_sound::is_faulty(image, position) {
         return Part {
             error: codes::IO_ERROR,
             position,
@@ -172,7 +172,7 @@ pub fn mtio(image: &mut [u8], op: u32, position: usize, times: u32) -> Spaced
             residue: 0,
         };
     }
-    if tape_image::is_faulty(image, position) {
+    if tape_sound::is_faulty(image, position) {
         return Spaced {
             error: codes::IO_ERROR,
             position,
@@ -189,21 +189,21 @@ pub fn mtio(image: &mut [u8], op: u32, position: usize, times: u32) -> Spaced
             residue: 0,
         };
     }
-    tape_spacing::space(image, op, position, times)
+    tape_walking::space(image, op, position, times)
 }
 
 // The file and the block number of a position.
 pub fn state(image: &[u8], position: usize) -> Standing
     ensures { λ r. ⌜ r ≡ standingAt (now (image .entry)) position ⌝ }
 {
-    if tape_image::is_faulty(image, position) {
+    if tape_sound::is_faulty(image, position) {
         return Standing {
             error: codes::IO_ERROR,
             file: 0,
             block: 0,
         };
     }
-    let place = tape_image::place_of(image, position);
+    let place = tape_walking::place_of(image, position);
     Standing {
         error: 0,
         file: place.file,

@@ -11,8 +11,8 @@ use Rattle.tape_ops.proofs.mtio.Tie as tie
 use Rattle.tape_ops.proofs.mtio.Reads as reads
 use Rattle.tape_ops.proofs.mtio.Lts as lts
 use Rattle.tape_ops.proofs.marks.Reads as marks-reads
-use Rattle.tape_image.proofs.is_faulty.Reads as is-faulty-reads
-use Rattle.tape_spacing.proofs.space.Reads as space-reads
+use Rattle.tape_sound.proofs.is_faulty.Reads as is-faulty-reads
+use Rattle.tape_walking.proofs.space.Reads as space-reads
 
 returns : tie.Need-returns
 unfolding mtioStep

@@ -8,7 +8,7 @@ use Rattle.tape_ops.proofs.read.Tie as tie
 use Rattle.tape_ops.proofs.read.Reads as reads
 use Rattle.tape_ops.proofs.read.Lts as lts
 use Rattle.tape_ops.proofs.entry_part.Reads as entry-part-reads
-use Rattle.tape_image.proofs.is_faulty.Reads as is-faulty-reads
+use Rattle.tape_sound.proofs.is_faulty.Reads as is-faulty-reads
 
 returns : tie.Need-returns
 unfolding readPart

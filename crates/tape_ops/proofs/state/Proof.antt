@@ -9,8 +9,8 @@ use Rattle.tape_ops.proofs.state.Statement.{statement}
 use Rattle.tape_ops.proofs.state.Tie as tie
 use Rattle.tape_ops.proofs.state.Reads as reads
 use Rattle.tape_ops.proofs.state.Lts as lts
-use Rattle.tape_image.proofs.is_faulty.Reads as is-faulty-reads
-use Rattle.tape_image.proofs.place_of.Reads as place-of-reads
+use Rattle.tape_sound.proofs.is_faulty.Reads as is-faulty-reads
+use Rattle.tape_walking.proofs.place_of.Reads as place-of-reads
 
 is-faulty-requires : tie.Need-is-faulty-requires
 is-faulty-requires c κs = search needs

@@ -10,7 +10,7 @@ use Rattle.tape_ops.proofs.write.Statement.{statement}
 use Rattle.tape_ops.proofs.write.Tie as tie
 use Rattle.tape_ops.proofs.write.Reads as reads
 use Rattle.tape_ops.proofs.write.Lts as lts
-use Rattle.tape_image.proofs.is_faulty.Reads as is-faulty-reads
+use Rattle.tape_sound.proofs.is_faulty.Reads as is-faulty-reads
 use Rattle.tape_writing.proofs.write_filled.Reads as write-filled-reads
 
 returns : tie.Need-returns

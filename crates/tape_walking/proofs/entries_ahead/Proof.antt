@@ -1,10 +1,10 @@
 -- Each return is the case of the direction that was tested.
 use borrow.Author.Needs.{needs}
 use Rattle.tape_spacing.specs.Spacing.{aheadOf}
-use Rattle.tape_spacing.proofs.entries_ahead.Statement.{statement}
-use Rattle.tape_spacing.proofs.entries_ahead.Tie as tie
-use Rattle.tape_spacing.proofs.entries_ahead.Reads as reads
-use Rattle.tape_spacing.proofs.entries_ahead.Lts as lts
+use Rattle.tape_walking.proofs.entries_ahead.Statement.{statement}
+use Rattle.tape_walking.proofs.entries_ahead.Tie as tie
+use Rattle.tape_walking.proofs.entries_ahead.Reads as reads
+use Rattle.tape_walking.proofs.entries_ahead.Lts as lts
 
 sub-result : tie.Need-sub-result
 sub-result c = search needs

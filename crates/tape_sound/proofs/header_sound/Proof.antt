@@ -2,22 +2,22 @@
 use borrow.Author.Needs.{needs}
 use native.Mathlib.Omega.{arith}
 use Rattle.xdr.proofs.Tests.{no}
 use Rattle.tape_image.proofs.Laws.{header-facts, header-holds}
-use Rattle.tape_image.proofs.header_sound.Statement.{statement}
-use Rattle.tape_image.proofs.header_sound.Tie as tie
-use Rattle.tape_image.proofs.header_sound.Reads as reads
-use Rattle.tape_image.proofs.header_sound.Lts as lts
+use Rattle.tape_sound.proofs.header_sound.Statement.{statement}
+use Rattle.tape_sound.proofs.header_sound.Tie as tie
+use Rattle.tape_sound.proofs.header_sound.Reads as reads
+use Rattle.tape_sound.proofs.header_sound.Lts as lts
 use Rattle.tape_image.proofs.body_at.Reads as body-at-reads
 use Rattle.tape_image.proofs.capacity.Reads as capacity-reads
 use Rattle.tape_image.proofs.count.Reads as count-reads
-use Rattle.tape_image.proofs.field.Reads as field-reads
+use Rattle.tape_image.proofs.first_word.Reads as first-word-reads
 use Rattle.tape_image.proofs.used_bytes.Reads as used-bytes-reads
 
 returns : tie.Need-returns
 returns c = no _ (λ h. let f = header-facts _ h in omega arith)
 
-field-requires : tie.Need-field-requires
-field-requires c κs = search needs
+first-word-requires : tie.Need-first-word-requires
+first-word-requires c κs = search needs
 
 capacity-requires : tie.Need-capacity-requires
 capacity-requires c κs = search needs
@@ -66,7 +66,7 @@ header-sound-spec =
     tie.close
     (tie.spec
     returns
-    field-requires
+    first-word-requires
     capacity-requires
     count-requires
     used-bytes-requires

@@ -4,15 +4,15 @@ use mathlib.Core.Path.{_≡_}
 use mathlib.Core.Bool.{true}
 use native.Mathlib.Omega.{arith}
 use denote.Ref.{now}
 use Rattle.tape_image.specs.Image.{isSound}
 use Rattle.tape_image.specs.Sound.{Sound}
 use Rattle.tape_image.proofs.Laws.{sound-facts, fault-unsound, fault-above, fault-none}
-use Rattle.tape_image.proofs.is_faulty.Statement.{statement}
-use Rattle.tape_image.proofs.is_faulty.Tie as tie
-use Rattle.tape_image.proofs.is_faulty.Reads as reads
-use Rattle.tape_image.proofs.is_faulty.Lts as lts
+use Rattle.tape_sound.proofs.is_faulty.Statement.{statement}
+use Rattle.tape_sound.proofs.is_faulty.Tie as tie
+use Rattle.tape_sound.proofs.is_faulty.Reads as reads
+use Rattle.tape_sound.proofs.is_faulty.Lts as lts
 use Rattle.tape_image.proofs.count.Reads as count-reads
-use Rattle.tape_image.proofs.sound.Reads as sound-reads
+use Rattle.tape_sound.proofs.sound.Reads as sound-reads
 
 sound-requires : tie.Need-sound-requires
 sound-requires c κs = search needs

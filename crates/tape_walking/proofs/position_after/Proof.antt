@@ -1,11 +1,11 @@
 -- Each return is the case of the direction that was tested; back from 0 is 0.
 use borrow.Author.Needs.{needs}
 use native.Mathlib.Omega.{arith}
 use Rattle.tape_spacing.specs.Spacing.{positionAfter}
-use Rattle.tape_spacing.proofs.position_after.Statement.{statement}
-use Rattle.tape_spacing.proofs.position_after.Tie as tie
-use Rattle.tape_spacing.proofs.position_after.Reads as reads
-use Rattle.tape_spacing.proofs.position_after.Lts as lts
+use Rattle.tape_walking.proofs.position_after.Statement.{statement}
+use Rattle.tape_walking.proofs.position_after.Tie as tie
+use Rattle.tape_walking.proofs.position_after.Reads as reads
+use Rattle.tape_walking.proofs.position_after.Lts as lts
 
 add-result : tie.Need-add-result
 add-result c = search needs

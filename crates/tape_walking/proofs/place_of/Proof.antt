@@ -4,13 +4,13 @@ use mathlib.Core.Path.{_≡_, refl, sym, ap, _∙_}
 use native.Mathlib.Omega.{arith}
 use borrow.Author.Needs.{needs}
 use denote.Ref.{now}
 use Rattle.tape_image.specs.Place.{marksBefore, recordsSince}
-use Rattle.tape_image.proofs.PlaceLaws.{marks-mark, records-mark, marks-record, records-record}
-use Rattle.tape_image.proofs.place_of.Statement.{statement}
-use Rattle.tape_image.proofs.place_of.Tie as tie
-use Rattle.tape_image.proofs.place_of.Reads as reads
-use Rattle.tape_image.proofs.place_of.Lts as lts
+use Rattle.tape_walking.proofs.PlaceLaws.{marks-mark, records-mark, marks-record, records-record}
+use Rattle.tape_walking.proofs.place_of.Statement.{statement}
+use Rattle.tape_walking.proofs.place_of.Tie as tie
+use Rattle.tape_walking.proofs.place_of.Reads as reads
+use Rattle.tape_walking.proofs.place_of.Lts as lts
 use Rattle.tape_image.proofs.entry_len.Reads as entry-len-reads
 
 abbrev Inv-loop : tie.InvT-loop
 Inv-loop image position file₀ block₀ i₀ file block i =

@@ -1,11 +1,11 @@
 -- Each return is the case of the direction that was tested; back from 0 is 0.
 use borrow.Author.Needs.{needs}
 use native.Mathlib.Omega.{arith}
 use Rattle.tape_spacing.specs.Spacing.{passes}
-use Rattle.tape_spacing.proofs.entry_passed.Statement.{statement}
-use Rattle.tape_spacing.proofs.entry_passed.Tie as tie
-use Rattle.tape_spacing.proofs.entry_passed.Reads as reads
-use Rattle.tape_spacing.proofs.entry_passed.Lts as lts
+use Rattle.tape_walking.proofs.entry_passed.Statement.{statement}
+use Rattle.tape_walking.proofs.entry_passed.Tie as tie
+use Rattle.tape_walking.proofs.entry_passed.Reads as reads
+use Rattle.tape_walking.proofs.entry_passed.Lts as lts
 
 sub-result : tie.Need-sub-result
 sub-result c = search needs

@@ -5,16 +5,16 @@ use mathlib.Core.Path.{_≡_, refl, sym, ap, _∙_}
 use native.Mathlib.Omega.{arith}
 use borrow.Author.Needs.{needs}
 use Rattle.tape_image.specs.Image.{count}
 use Rattle.tape_spacing.specs.Spacing.{walk, aheadOf, passes, positionAfter}
 use Rattle.tape_spacing.proofs.Laws.{passes-below, after-within, after-ahead, walk-done, walk-end, walk-stop, walk-mark, walk-pass, walk-record}
 use Rattle.tape_spacing.specs.Spacing.{spacing}
-use Rattle.tape_spacing.proofs.space.Statement.{statement}
-use Rattle.tape_spacing.proofs.space.Tie as tie
-use Rattle.tape_spacing.proofs.space.Reads as reads
-use Rattle.tape_spacing.proofs.space.Lts as lts
-use Rattle.tape_spacing.proofs.entries_ahead.Reads as entries-ahead-reads
-use Rattle.tape_spacing.proofs.entry_passed.Reads as entry-passed-reads
-use Rattle.tape_spacing.proofs.position_after.Reads as position-after-reads
+use Rattle.tape_walking.proofs.space.Statement.{statement}
+use Rattle.tape_walking.proofs.space.Tie as tie
+use Rattle.tape_walking.proofs.space.Reads as reads
+use Rattle.tape_walking.proofs.space.Lts as lts
+use Rattle.tape_walking.proofs.entries_ahead.Reads as entries-ahead-reads
+use Rattle.tape_walking.proofs.entry_passed.Reads as entry-passed-reads
+use Rattle.tape_walking.proofs.position_after.Reads as position-after-reads
 use Rattle.tape_image.proofs.count.Reads as count-reads
 use Rattle.tape_image.proofs.entry_len.Reads as entry-len-reads
 

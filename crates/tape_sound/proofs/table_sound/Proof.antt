@@ -5,14 +5,14 @@ use native.Mathlib.Nat.{sub-zero}
 use native.Mathlib.Omega.{arith}
 use borrow.Author.Needs.{needs}
 use Rattle.codes.specs.Codes.{longestRecord}
 use Rattle.tape_image.specs.Image.{tableOk}
 use Rattle.tape_image.proofs.Laws.{table-long, table-gap, table-next, table-end}
-use Rattle.tape_image.proofs.table_sound.Statement.{statement}
-use Rattle.tape_image.proofs.table_sound.Tie as tie
-use Rattle.tape_image.proofs.table_sound.Reads as reads
-use Rattle.tape_image.proofs.table_sound.Lts as lts
+use Rattle.tape_sound.proofs.table_sound.Statement.{statement}
+use Rattle.tape_sound.proofs.table_sound.Tie as tie
+use Rattle.tape_sound.proofs.table_sound.Reads as reads
+use Rattle.tape_sound.proofs.table_sound.Lts as lts
 use Rattle.tape_image.proofs.entry_len.Reads as entry-len-reads
 use Rattle.tape_image.proofs.entry_start.Reads as entry-start-reads
 
 abbrev Inv-loop : tie.InvT-loop
 Inv-loop image entries total i₀ sum₀ i sum =

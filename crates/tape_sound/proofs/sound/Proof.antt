@@ -4,17 +4,17 @@ use mathlib.Core.Path.{_≡_, sym}
 use mathlib.Core.Bool.{true}
 use native.Mathlib.Omega.{arith}
 use denote.Ref.{now}
 use Rattle.tape_image.specs.Image.{headerOk, isSound}
 use Rattle.tape_image.specs.Sound.{Header}
 use Rattle.tape_image.proofs.Laws.{header-facts, sound-table, unsound-header}
-use Rattle.tape_image.proofs.sound.Statement.{statement}
-use Rattle.tape_image.proofs.sound.Tie as tie
-use Rattle.tape_image.proofs.sound.Reads as reads
-use Rattle.tape_image.proofs.sound.Lts as lts
-use Rattle.tape_image.proofs.header_sound.Reads as header-sound-reads
-use Rattle.tape_image.proofs.table_sound.Reads as table-sound-reads
+use Rattle.tape_sound.proofs.sound.Statement.{statement}
+use Rattle.tape_sound.proofs.sound.Tie as tie
+use Rattle.tape_sound.proofs.sound.Reads as reads
+use Rattle.tape_sound.proofs.sound.Lts as lts
+use Rattle.tape_sound.proofs.header_sound.Reads as header-sound-reads
+use Rattle.tape_sound.proofs.table_sound.Reads as table-sound-reads
 use Rattle.tape_image.proofs.count.Reads as count-reads
 use Rattle.tape_image.proofs.used_bytes.Reads as used-bytes-reads
 
 header-sound-requires : tie.Need-header-sound-requires
 header-sound-requires c κs = search needs

@@ -1,0 +1,2 @@
+-- `PlaceLaws` has file and block number, one entry on.
+pub mod PlaceLaws
