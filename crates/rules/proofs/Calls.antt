@@ -32,13 +32,13 @@ use Rattle.rules_parts.specs.declared.types.Tape.{Tape}
 use Rattle.rules_parts.specs.declared.types.Session.{Session}
 use Rattle.rules_parts.specs.Names.{leastRoom, firstSize}
 use Rattle.rules.specs.Judge.{Outcome, refuse, accept, judge, onto, Accepts}
-use Rattle.rules_parts.specs.Parts.{restMover, closedTape, dataJoined, moverJoined, afterMessage, shut}
+use Rattle.rules_parts.specs.Parts.{restMover, closedTape, dataPartnered, moverPartnered, addressWrong, dataJoined, moverJoined, afterMessage, shut}
 use Rattle.rules.specs.TapeService.{Loaded, tapeOpen, tapeClose, tapeState, tapeMtio, tapeWrite, tapeRead, deviceStep, withLoaded, withMover, tapeStep, moverPartStep}
 use Rattle.rules.specs.Connection.{matches, clientAuth, connectStep}
 use Rattle.rules.specs.Relation.{dataWrong, moverWrong, sameFlag, keeps}
 use Rattle.rules.specs.Promises.{Keeps, JointKeeps, dataSide, partWrong, partSide}
 use Rattle.rules.specs.Answer.{Kept, Lent, held, Answered, guarded, answered, requested, judged, isClose, settled, verdict, needsLogin, isLocked, outcome, refusing, isUnread}
-use Rattle.rules.specs.Answer.{refusedIn, noticed, silent, closing, replying, Done, tapePart, withData, withTape, withChanger, withLogin, withEnds, messageIn, requestIn}
+use Rattle.rules.specs.Answer.{refusedIn, noticed, silent, closing, replying, Done, tapePart, withData, withPart, withTape, withChanger, withLogin, withEnds, messageIn, requestIn}
 use Rattle.rules.specs.Order.{Call, run}
 use Rattle.rules.specs.Calls.{openedSession, Unmoved, Heard, CallsKeep}
 use Rattle.rules.proofs.JudgeLaws.{judged-by, accepts, accepts-any, accepts-map, refusal-says, carried}
@@ -90,7 +90,7 @@ module _ (Q : Kept → Type 0) (sends : (k : Kept) (first : Bool) → Q k → Q 
 pub record Fair (s : Session) : Type 0 where
   pub source : dataWrong (s .source) ≡ false
   pub mover : moverWrong (s .mover) (s .tape) ≡ false
-  pub joined : sameFlag (dataJoined (s .source .state)) (moverJoined (s .mover .state)) ≡ true
+  pub joined : sameFlag (dataPartnered (s .source)) (moverPartnered (s .mover)) ≡ true
 
 passed : (b x : Bool) → choose b false x ≡ true → (b ≡ false) × (x ≡ true)
 unfolding choose
@@ -148,29 +148,29 @@ module _ (k : Kept) (l : Lent) (r : List ℕ) (h : Valid k) where
       (tape-keeps (tapePart k) q _))
   outcome-keeps (Request.Data q) =
       let f = kept-facts (k .session) h in
-      carried Stays (withData k) _
-      (accepts-map (λ _ next. Keeps dataWrong dataSide (k .session .source) next) (λ reply p. Stays reply (withData k p))
+      carried Stays (withData k (l .addresses)) _
+      (accepts-map (λ _ next. Keeps dataWrong dataSide (k .session .source) next) (λ reply p. Stays reply (withData k (l .addresses) p))
       (λ _ p n. facts-kept _ (record { source = n .good (f .source); mover = f .mover; joined = rw (n .sides) (f .joined) })) _
-      (data-keeps (k .session .source) q _))
+      (data-keeps (k .session .source) q _ _))
   outcome-keeps (Request.Mover q) =
       let f = kept-facts (k .session) h in
-      carried Stays (withTape k) _
-      (accepts-map (λ _ next. Keeps partWrong partSide (tapePart k) next) (λ reply p. Stays reply (withTape k p))
+      carried Stays (withPart k (l .addresses)) _
+      (accepts-map (λ _ next. Keeps partWrong partSide (tapePart k) next) (λ reply p. Stays reply (withPart k (l .addresses) p))
       (λ _ p n. facts-kept _ (record { source = f .source; mover = n .good (f .mover); joined = rw (n .sides) (f .joined) })) _
-      (mover-part-keeps (tapePart k) q))
+      (mover-part-keeps (tapePart k) q _))
   outcome-keeps (Request.Joint q) =
       let f = kept-facts (k .session) h in
       carried Stays (withEnds k) _
       (accepts-map (λ _ next. JointKeeps (k .session .tape) next) (λ reply p. Stays reply (withEnds k p))
       (λ _ p n. facts-kept _ (record { source = n .source; mover = n .mover; joined = n .joined })) _
-      (joint-keeps (k .session .source) (k .session .mover) (k .session .tape) (f .source) (f .mover) (f .joined) q))
+      (joint-keeps (k .session .source) (k .session .mover) (k .session .tape) (f .source) (f .mover) (f .joined) q _))
 
 pub kept : (k : Kept) (l : Lent) (r : List ℕ) → keeps (k .session) ≡ true → keeps (answered k l r .next .session) ≡ true
 unfolding Valid Stays
 kept k l r h = call-holds Valid valid-sends valid-shuts k l r h (outcome-keeps k l r h (requestIn r))
 
 opened : keeps openedSession ≡ true
-unfolding dataWrong dataJoined moverJoined sameFlag choose
+unfolding dataWrong addressWrong dataPartnered moverPartnered dataJoined moverJoined sameFlag choose
 opened = facts-kept openedSession (record { source = refl; mover = kept-mover (restMover firstSize) closedTape (rest-kept firstSize closedTape (omega arith)); joined = refl })
 
 -- ---- soundness. An operation of the tape leaves the image where the position is out of range
@@ -229,10 +229,10 @@ module _ (k : Kept) (l : Lent) (r : List ℕ) (h : isSound (k .image) ≡ true) 
   outcome-sound (Request.Tape q) =
       carried Sounds (withTape k) _ (carried (λ reply p. Sounds reply (withTape k p)) (withLoaded (tapePart k)) _
       (device-sound (k .image) h (k .session .mover .state) (k .session .tape) q _))
-  outcome-sound (Request.Data q) = unread (withData k) (λ _. h) _
+  outcome-sound (Request.Data q) = unread (withData k _) (λ _. h) _
   outcome-sound (Request.Mover q) =
-      carried Sounds (withTape k) _ (carried (λ reply p. Sounds reply (withTape k p)) (withMover (tapePart k)) _
-      (accepts-any (λ reply p. Sounds reply (withTape k (withMover (tapePart k) p))) (λ _ _. h) _))
+      carried Sounds (withPart k _) _ (carried (λ reply p. Sounds reply (withPart k (l .addresses) p)) (withMover (tapePart k)) _
+      (accepts-any (λ reply p. Sounds reply (withPart k (l .addresses) (withMover (tapePart k) p))) (λ _ _. h) _))
   outcome-sound (Request.Joint q) = unread (withEnds k) (λ _. h) _
 
 sound : (k : Kept) (l : Lent) (r : List ℕ) → isSound (k .image) ≡ true → isSound (answered k l r .next .image) ≡ true

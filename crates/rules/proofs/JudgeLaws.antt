@@ -104,7 +104,7 @@ abbrev pub numbered : List Test → Bool
 numbered [] = true
 numbered (test b e ∷ ts) = numberedOn (eqb e 0) (numbered ts)
 
-apart : (z r : Bool) → numberedOn z r ≡ true → (z ≡ false) × (r ≡ true)
+pub apart : (z r : Bool) → numberedOn z r ≡ true → (z ≡ false) × (r ≡ true)
 apart true r h = absurd (let z : _≡_ {A = ℕ} 0 1 = cc in omega arith)
 apart false r h = (refl, h)
 

@@ -5,9 +5,9 @@ use mathlib.Core.List.{List}
 use mathlib.Core.Path.{_≡_, refl, sym, ap, _∙_}
 use native.Mathlib.Omega.{arith}
 use lib.Dec.{eqb}
-use borrow.Author.Tests.{eq-eqb, ne-eqb, le-ltb, ltb-false}
+use borrow.Author.Tests.{eq-eqb, ne-eqb, le-ltb, ltb-false, eqb-true}
 use Rattle.xdr.specs.Choose.{choose}
-use Rattle.xdr.proofs.Tests.{by-test, when, is, isnt, yes}
+use Rattle.xdr.proofs.Tests.{by-test, when, unless, none-of, none, is, isnt, yes}
 use Rattle.wire_requests.specs.declared.DataRequest.{DataRequest}
 use Rattle.wire_requests.specs.declared.DataRequest.the-variants as DataRequest
 use Rattle.wire_requests.specs.declared.MoverRequest.{MoverRequest}
@@ -22,17 +22,20 @@ use Rattle.rules_parts.specs.declared.types.Mover.{Mover}
 use Rattle.rules_parts.specs.declared.types.Tape.{Tape}
 use Rattle.rules_parts.specs.Names.{top}
 use Rattle.rules.specs.Judge.{Test, accept, judge, Accepts}
-use Rattle.rules_parts.specs.Parts.{restData, restMover, dataTo, dataStarts, dataHalts, moverListens, moverRuns, moverWindow, moverSize, moverSeeks, moverHalts, dataJoined, moverJoined}
+use Rattle.rules_parts.specs.Parts.{restData, restMover, dataTo, dataStarts, dataHalts, moverListens, moverRuns, moverWindow, moverSize, moverSeeks, moverHalts, addressWrong, dataPartnered, moverPartnered, dataJoined, moverJoined}
 use Rattle.rules_parts.specs.Parts.{holdsTape, unwritable}
 use Rattle.rules.specs.DataService.{dataState, dataListen, dataStart, dataStop, dataStep}
 use Rattle.rules.specs.MoverService.{moverState, offsetWrong, moverListen, moverContinue, moverStop, busy, elsewhere, setWindow, moverRead, setSize, moverStep}
 use Rattle.rules.specs.TapeService.{Loaded, tapeOpen, tapeClose, tapeState, tapeMtio, tapeWrite, tapeRead, deviceStep, TapePart, withLoaded, withMover, tapeStep, moverPartStep}
 use Rattle.rules.specs.declared.Ends.{Ends}
-use Rattle.rules.specs.Joint.{joined, halted, dataConnect, moverConnect, dataAborted, dataAbort, moverAborted, moverAbort, moverClose, jointStep}
+use Rattle.rules.specs.Addresses.{unmet}
+use Rattle.rules.specs.Joint.{joined, sourceJoined, moverJoins, halted, sourceAlone, moverAlone, moverAwaits, dataConnect, moverConnect, dataAborted, dataAbort, moverAborted}
+use Rattle.rules.specs.Joint.{moverAbort, moverClosed, moverClose, jointStep}
 use Rattle.rules.specs.Relation.{dataWrong, moverWrong, sameFlag, Legal, InWindow, MoverKept}
 use Rattle.rules.specs.Promises.{Keeps, JointKeeps, dataSide, partWrong, partSide}
 use Rattle.rules.proofs.JudgeLaws.{Clear, accepts, carried}
 use Rattle.rules_parts.proofs.Ending.{past-top}
+use Rattle.rules_parts.proofs.Addressing.{local-right, tcp-right, right-busy, source-none, mover-none, source-same, mover-same}
 use Rattle.rules.proofs.Kept.{mover-kept, kept-mover, legal-by, writes}
 
 module _ {A : Type 0} (wrong side : A → Bool) (p : A) where
@@ -43,26 +46,43 @@ module _ {A : Type 0} (wrong side : A → Bool) (p : A) where
 abbrev DataKeeps : Data → Reply → Data → Type 0
 DataKeeps d _ next = Keeps dataWrong dataSide d next
 
--- a change of state, from one that a test has found
-data-moves : (d next : Data) (k n : ℕ) → d .state ≡ k → next .state ≡ n → n ≤ 4 → dataJoined n ≡ dataJoined k → Keeps dataWrong dataSide d next
+-- a change of state, or of the type of the address
+data-moves : (d next : Data) → (dataWrong d ≡ false → (next .state ≤ 4) × (addressWrong (next .address) (eqb (next .state) 0) ≡ false))
+    → dataPartnered next ≡ dataPartnered d → Keeps dataWrong dataSide d next
 unfolding dataWrong
-data-moves d next k n e f h j =
-    record { good = λ _. le-ltb 4 (next .state) (omega arith); sides = ap dataJoined f ∙ j ∙ ap dataJoined (sym e) }
+data-moves d next f j = record { good = λ h. let g = f h in none (le-ltb 4 (next .state) (g .0)) (g .1); sides = j }
 
-pub data-keeps : (d : Data) (q : DataRequest) (body : List ℕ) → Accepts (DataKeeps d) (dataStep d q body)
+-- the type of an end that is in no state but IDLE where it was right before
+data-type : (d : Data) → dataWrong d ≡ false → addressWrong (d .address) false ≡ false
+unfolding dataWrong
+data-type d h = right-busy (d .address) _ (none-of _ h .1)
+
+-- neither is joined, or both as they were
+unjoined : (d next : Data) (k : ℕ) → d .state ≡ k → dataJoined k ≡ false → dataJoined (next .state) ≡ false → dataPartnered next ≡ dataPartnered d
+unjoined d next k e j f = source-none next f ∙ sym (source-none d (ap dataJoined e ∙ j))
+
+started : (operation : ℕ) (d : Data) → d .state ≡ 4 → Keeps dataWrong dataSide d (dataStarts operation d)
+unfolding dataJoined choose
+started operation d e =
+    data-moves d (dataStarts operation d) (λ h. (omega arith, data-type d h)) (source-same d (dataStarts operation d) refl (ap dataJoined (sym e)))
+
+pub data-keeps : (d : Data) (q : DataRequest) (body list : List ℕ) → Accepts (DataKeeps d) (dataStep d q body list)
 unfolding dataStep dataState dataListen dataStart dataStop dataJoined choose
-data-keeps d DataRequest.State body = accepts (DataKeeps d) _ _ d (λ _. stays dataWrong dataSide d)
-data-keeps d (DataRequest.Backup name) body = accepts (DataKeeps d) _ _ (dataStarts 1 d) (λ g. data-moves d (dataStarts 1 d) 4 1 (is (g 0)) refl (omega arith) refl)
-data-keeps d (DataRequest.Recover name) body = accepts (DataKeeps d) _ _ (dataStarts 2 d) (λ g. data-moves d (dataStarts 2 d) 4 1 (is (g 0)) refl (omega arith) refl)
-data-keeps d DataRequest.Stop body = accepts (DataKeeps d) _ _ restData (λ g. data-moves d restData 2 0 (is (g 0)) refl (omega arith) refl)
-data-keeps d (DataRequest.Listen address) body = accepts (DataKeeps d) _ _ (dataTo 3 d) (λ g. data-moves d (dataTo 3 d) 0 3 (is (g 0)) refl (omega arith) refl)
+data-keeps d DataRequest.State body list = accepts (DataKeeps d) _ _ d (λ _. stays dataWrong dataSide d)
+data-keeps d (DataRequest.Backup name) body list = accepts (DataKeeps d) _ _ (dataStarts 1 d) (λ g. started 1 d (is (g 0)))
+data-keeps d (DataRequest.Recover name) body list = accepts (DataKeeps d) _ _ (dataStarts 2 d) (λ g. started 2 d (is (g 0)))
+data-keeps d DataRequest.Stop body list =
+    accepts (DataKeeps d) _ _ restData (λ g. data-moves d restData (λ _. (omega arith, local-right true)) (unjoined d restData 2 (is (g 0)) refl refl))
+data-keeps d (DataRequest.Listen address) body list =
+    accepts (DataKeeps d) _ _ (dataTo 3 address d)
+    (λ g. data-moves d (dataTo 3 address d) (λ _. (omega arith, right-busy address _ (g 1))) (unjoined d (dataTo 3 address d) 0 (is (g 0)) refl refl))
 
 -- ---- the mover and the tape
 abbrev pub PartKeeps : TapePart → TapePart → Type 0
 PartKeeps p next = Keeps partWrong partSide p next
 
 -- by the facts
-by-facts : (p next : TapePart) → (MoverKept (p .mover) (p .tape) → MoverKept (next .mover) (next .tape)) → moverJoined (next .mover .state) ≡ moverJoined (p .mover .state)
+by-facts : (p next : TapePart) → (MoverKept (p .mover) (p .tape) → MoverKept (next .mover) (next .tape)) → moverPartnered (next .mover) ≡ moverPartnered (p .mover)
     → PartKeeps p next
 by-facts p next f s = record { good = λ h. kept-mover (next .mover) (next .tape) (f (mover-kept (p .mover) (p .tape) h)); sides = s }
 
@@ -79,6 +99,7 @@ tape-free m t u free k =
     record {
       states = k .states;
       sizes = k .sizes;
+      types = k .types;
       seeks = k .seeks;
       window = k .window;
       start = k .start;
@@ -102,12 +123,13 @@ unfolding offsetWrong
 offset-zero mode offset h e = is (when (eqb mode 0) _ h (eq-eqb mode 0 e))
 
 -- IDLE to LISTEN
-listen-kept : (m : Mover) (t : Tape) (mode : ℕ) → m .state ≡ 0 → t .opened ≡ true → unwritable mode (t .writable) ≡ false → (m .length ≡ 0 → ⊥)
-    → offsetWrong mode (m .offset) ≡ false → MoverKept m t → MoverKept (moverListens mode m) t
-listen-kept m t mode s o w n z k =
+listen-kept : (m : Mover) (t : Tape) (mode address : ℕ) (useless : Bool) → addressWrong address useless ≡ false → m .state ≡ 0 → t .opened ≡ true → unwritable mode (t .writable) ≡ false → (m .length ≡ 0 → ⊥)
+    → offsetWrong mode (m .offset) ≡ false → MoverKept m t → MoverKept (moverListens mode address m) t
+listen-kept m t mode address useless a s o w n z k =
     record {
       states = omega arith;
       sizes = k .sizes;
+      types = right-busy address useless a;
       seeks = k .seeks;
       window = k .window;
       start = λ _. k .start (omega arith);
@@ -126,12 +148,13 @@ at-start size offset length moved e l =
     record { some = l .some; from = omega arith; to = omega arith; records = r }
 
 -- to ACTIVE
-runs-kept : (m : Mover) (t : Tape) (mode : ℕ) → t .opened ≡ true → (mode ≡ 0 → t .writable ≡ true) → (m .length ≡ 0 → ⊥)
-    → (mode ≡ 0 → m .offset ≡ m .moved) → MoverKept m t → MoverKept (moverRuns mode (t .position) m) t
-runs-kept m t mode o w n z k =
+pub runs-kept : (m : Mover) (t : Tape) (mode address : ℕ) → addressWrong address false ≡ false → t .opened ≡ true → (mode ≡ 0 → t .writable ≡ true) → (m .length ≡ 0 → ⊥)
+    → (mode ≡ 0 → m .offset ≡ m .moved) → MoverKept m t → MoverKept (moverRuns mode address (t .position) m) t
+runs-kept m t mode address a o w n z k =
     record {
       states = omega arith;
       sizes = k .sizes;
+      types = a;
       seeks = k .seeks;
       window = k .window;
       start = λ e. absurd (omega arith);
@@ -149,6 +172,7 @@ halts-kept m t why k =
     record {
       states = omega arith;
       sizes = k .sizes;
+      types = right-busy (m .address) _ (k .types);
       seeks = k .seeks;
       window = k .window;
       start = λ e. absurd (omega arith);
@@ -165,6 +189,7 @@ rest-kept size t h =
     record {
       states = omega arith;
       sizes = h;
+      types = local-right true;
       seeks = omega arith;
       window = λ n. absurd (n refl);
       start = λ _. refl;
@@ -186,6 +211,7 @@ window-kept m t offset length b free l z k =
     record {
       states = k .states;
       sizes = k .sizes;
+      types = k .types;
       seeks = k .seeks;
       window = λ _. l;
       start = k .start;
@@ -201,6 +227,7 @@ size-kept m t size s free h k =
     record {
       states = k .states;
       sizes = h;
+      types = k .types;
       seeks = k .seeks;
       window = λ n. absurd (n refl);
       start = k .start;
@@ -216,6 +243,7 @@ seek-kept m t seek left h k =
     record {
       states = k .states;
       sizes = k .sizes;
+      types = k .types;
       seeks = h;
       window = k .window;
       start = k .start;
@@ -257,39 +285,43 @@ module _ (m : Mover) (t : Tape) (l : List ℕ) where
   -- a request of the mover that is judged by tests
   mover-judged : (ts : List Test) (r : Reply) (next : Mover)
       → (Clear ts → MoverKept m t → MoverKept next t)
-      → (Clear ts → moverJoined (next .state) ≡ moverJoined (m .state))
+      → (Clear ts → moverPartnered next ≡ moverPartnered m)
       → Accepts MoverKeeps (judge ts (accept r next))
   unfolding there MoverKeeps
   mover-judged ts r next f s = accepts MoverKeeps ts r next (λ g. by-facts (there m) (there next) (f g) (s g))
 
-  joined-at : (a b : ℕ) → m .state ≡ b → moverJoined a ≡ moverJoined b → moverJoined a ≡ moverJoined (m .state)
-  joined-at a b e j = j ∙ ap moverJoined (sym e)
+  -- neither is joined
+  apart : (next : Mover) (k : ℕ) → m .state ≡ k → moverJoined k ≡ false → moverJoined (next .state) ≡ false → moverPartnered next ≡ moverPartnered m
+  apart next k e j f = mover-none next f ∙ sym (mover-none m (ap moverJoined e ∙ j))
 
-  mover-keeps : (q : MoverRequest) → Accepts MoverKeeps (moverStep m t q)
+  mover-keeps : (q : MoverRequest) (list : List ℕ) → Accepts MoverKeeps (moverStep m t q list)
   unfolding moverStep moverState moverListen moverContinue moverStop setWindow moverRead setSize moverJoined choose
-  mover-keeps MoverRequest.State = mover-judged _ _ m (λ _ k. k) (λ _. refl)
-  mover-keeps (MoverRequest.Listen mode address) =
-      mover-judged _ _ (moverListens mode m)
-      (λ g. listen-kept m t mode (is (g 1)) (yes (g 0)) (g 2) (isnt (g 4)) (g 5))
-      (λ g. joined-at 1 0 (is (g 1)) refl)
-  mover-keeps MoverRequest.Continue =
-      mover-judged _ _ (moverRuns (m .mode) (t .position) m)
-      (λ g k. runs-kept m t (m .mode) (yes (g 0)) (writes (m .mode) (t .writable) (g 2)) (isnt (g 3)) (λ e. k .resumes e (is (g 1)) (isnt (g 3))) k)
-      (λ g. joined-at 2 3 (is (g 1)) refl)
-  mover-keeps MoverRequest.Stop =
-      mover-judged _ _ (restMover (m .size)) (λ _ k. rest-kept (m .size) t (k .sizes)) (λ g. joined-at 0 4 (is (g 0)) refl)
-  mover-keeps (MoverRequest.Window offset length) =
+  mover-keeps MoverRequest.State list = mover-judged _ _ m (λ _ k. k) (λ _. refl)
+  mover-keeps (MoverRequest.Listen mode address) list =
+      mover-judged _ _ (moverListens mode address m)
+      (λ g. listen-kept m t mode address _ (g 6) (is (g 1)) (yes (g 0)) (g 2) (isnt (g 4)) (g 5))
+      (λ g. apart (moverListens mode address m) 0 (is (g 1)) refl refl)
+  mover-keeps MoverRequest.Continue list =
+      mover-judged _ _ (moverRuns (m .mode) (m .address) (t .position) m)
+      (λ g k. runs-kept m t (m .mode) (m .address) (right-busy (m .address) _ (k .types)) (yes (g 0)) (writes (m .mode) (t .writable) (g 2)) (isnt (g 3))
+      (λ e. k .resumes e (is (g 1)) (isnt (g 3))) k)
+      (λ g. let e : m .state ≡ 3 = is (g 1) in mover-same m (moverRuns (m .mode) (m .address) (t .position) m) refl (ap moverJoined (sym e)))
+  mover-keeps MoverRequest.Stop list =
+      mover-judged _ _ (restMover (m .size)) (λ _ k. rest-kept (m .size) t (k .sizes)) (λ g. apart (restMover (m .size)) 4 (is (g 0)) refl refl)
+  mover-keeps (MoverRequest.Window offset length) list =
       mover-judged _ _ (moverWindow offset length m)
       (λ g. let n : m .size ≡ 0 → ⊥ = isnt (g 1) in
       let s : 1 ≤ m .size = omega arith in
       window-kept m t offset length (g 0) (busy-free (m .state) (g 0))
       (legal-by (m .size) offset length s (is (g 3)) (g 4)) (g 5))
-      (λ _. refl)
-  mover-keeps (MoverRequest.Read offset length) =
-      mover-judged _ _ (moverSeeks offset length m) (λ g. seek-kept m t offset length (past-top offset length (g 3))) (λ _. refl)
-  mover-keeps (MoverRequest.Size size) =
+      (λ _. mover-same m (moverWindow offset length m) refl refl)
+  mover-keeps (MoverRequest.Read offset length) list =
+      mover-judged _ _ (moverSeeks offset length m) (λ g. seek-kept m t offset length (past-top offset length (g 3)))
+      (λ _. mover-same m (moverSeeks offset length m) refl refl)
+  mover-keeps (MoverRequest.Size size) list =
       mover-judged _ _ (moverSize size m)
-      (λ g. size-kept m t size (is (g 0)) (idle-free (m .state) (is (g 0))) (ltb-false 32768 size (g 2))) (λ _. refl)
+      (λ g. size-kept m t size (is (g 0)) (idle-free (m .state) (is (g 0))) (ltb-false 32768 size (g 2)))
+      (λ _. mover-same m (moverSize size m) refl refl)
 
 -- ---- the tape's requests
 module _ (p : TapePart) where
@@ -324,12 +356,12 @@ pub tape-keeps : (p : TapePart) (q : TapeRequest) (body : List ℕ) → Accepts 
 unfolding tapeStep Reloads
 tape-keeps p q body = carried (λ _ next. PartKeeps p next) (withLoaded p) _ (device-keeps p q body)
 
-pub mover-part-keeps : (p : TapePart) (q : MoverRequest) → Accepts (λ _ next. PartKeeps p next) (moverPartStep p q)
+pub mover-part-keeps : (p : TapePart) (q : MoverRequest) (list : List ℕ) → Accepts (λ _ next. PartKeeps p next) (moverPartStep p q list)
 unfolding moverPartStep there MoverKeeps
-mover-part-keeps p q = carried (λ _ next. PartKeeps p next) (withMover p) _ (mover-keeps (p .mover) (p .tape) (p .image) q)
+mover-part-keeps p q list = carried (λ _ next. PartKeeps p next) (withMover p) _ (mover-keeps (p .mover) (p .tape) (p .image) q list)
 
 -- ---- the joint requests
-not-joined : (a b : Bool) → sameFlag a b ≡ true → a ≡ false → b ≡ false
+pub not-joined : (a b : Bool) → sameFlag a b ≡ true → a ≡ false → b ≡ false
 unfolding sameFlag
 not-joined true b h e = absurd (let z : _≡_ {A = ℕ} 0 1 = cc in omega arith)
 not-joined false true h e = absurd (let z : _≡_ {A = ℕ} 0 1 = cc in omega arith)
@@ -344,51 +376,117 @@ flag-none : (a : Bool) → a ≡ false → sameFlag a false ≡ true
 unfolding sameFlag
 flag-none a e = rw e refl
 
+-- an end that awaits a connect is in LISTEN
+awaits-by : (a b : Bool) → choose a b false ≡ true → b ≡ true
+unfolding choose
+awaits-by true b h = h
+awaits-by false b h = absurd (let z : _≡_ {A = ℕ} 0 1 = cc in omega arith)
+
+pub mover-awaits : (m : Mover) → moverAwaits m ≡ true → m .state ≡ 1
+unfolding moverAwaits
+mover-awaits m h = eqb-true (m .state) 1 (awaits-by _ _ h)
+
+-- a connect by LOCAL that is not refused with 23
+pub met : (address : ℕ) (awaited made : Bool) → unmet address awaited made ≡ false → eqb address 1 ≡ false → awaited ≡ true
+unfolding unmet
+met address awaited made h e = yes (unless (eqb address 1) _ h e)
+
 module _ (d : Data) (m : Mover) (t : Tape) (hd : dataWrong d ≡ false) (hm : moverWrong m t ≡ false)
-    (hj : sameFlag (dataJoined (d .state)) (moverJoined (m .state)) ≡ true) where
+    (hj : sameFlag (dataPartnered d) (moverPartnered m) ≡ true) where
   abbrev EndsKeep : Reply → Ends → Type 0
   EndsKeep _ next = JointKeeps t next
 
   facts : MoverKept m t
   facts = mover-kept m t hm
 
-  -- both ends joined
+  -- both ends joined by LOCAL
   connects : (mode : ℕ) → t .opened ≡ true → (mode ≡ 0 → t .writable ≡ true) → (m .length ≡ 0 → ⊥) → (mode ≡ 0 → m .offset ≡ m .moved)
       → JointKeeps t (joined d m mode (t .position))
-  unfolding dataWrong dataJoined moverJoined sameFlag choose
-  connects mode o w n z = record { source = refl; mover = kept-mover (moverRuns mode (t .position) m) t (runs-kept m t mode o w n z facts); joined = refl }
-
-  -- both ends halted
-  halt : (dwhy mwhy : ℕ) → JointKeeps t (halted dwhy mwhy d m)
-  unfolding dataWrong dataJoined moverJoined sameFlag choose
-  halt dwhy mwhy = record { source = refl; mover = kept-mover (moverHalts mwhy m) t (halts-kept m t mwhy facts); joined = refl }
-
-  -- one end halted that was not joined
-  halt-data : (a b : ℕ) → dataJoined (d .state) ≡ false → JointKeeps t (record { source = dataHalts 2 d; mover = m; dwhy = a; mwhy = b })
-  unfolding dataWrong dataJoined sameFlag choose
-  halt-data a b h = record { source = refl; mover = hm; joined = ap not (not-joined (dataJoined (d .state)) (moverJoined (m .state)) hj h) }
-
-  halt-mover : (a b : ℕ) → moverJoined (m .state) ≡ false → JointKeeps t (record { source = d; mover = moverHalts 2 m; dwhy = a; mwhy = b })
-  unfolding moverJoined choose
-  halt-mover a b h =
+  unfolding dataWrong addressWrong dataPartnered moverPartnered dataJoined moverJoined sameFlag choose
+  connects mode o w n z =
       record {
-        source = hd;
-        mover = kept-mover (moverHalts 2 m) t (halts-kept m t 2 facts);
-        joined = flag-none (dataJoined (d .state)) (not-joined-back (dataJoined (d .state)) (moverJoined (m .state)) hj h);
+        source = refl;
+        mover = kept-mover (moverRuns mode 0 (t .position) m) t (runs-kept m t mode 0 (local-right false) o w n z facts);
+        joined = refl;
       }
 
-  pub joint-keeps : (q : JointRequest) → Accepts EndsKeep (jointStep d m t q)
-  unfolding jointStep dataAbort dataConnect moverAbort moverClose moverConnect dataAborted moverAborted
-  joint-keeps JointRequest.DataAbort =
-      accepts EndsKeep _ _ _ (λ _. by-test (JointKeeps t) (dataJoined (d .state)) _ _ (λ _. halt 2 1) (λ h. halt-data 2 0 h))
-  joint-keeps (JointRequest.DataConnect address) =
+  -- one end joined by TCP, while it was in IDLE: the other is not joined by LOCAL either
+  source-joins : d .state ≡ 0 → JointKeeps t (sourceJoined d m)
+  unfolding dataWrong addressWrong dataPartnered dataJoined sameFlag choose
+  source-joins s =
+      record {
+        source = refl;
+        mover = hm;
+        joined = ap not (not-joined (dataPartnered d) (moverPartnered m) hj (source-none d (ap dataJoined s)));
+      }
+
+  mover-joins : (mode : ℕ) → m .state ≡ 0 → t .opened ≡ true → (mode ≡ 0 → t .writable ≡ true) → (m .length ≡ 0 → ⊥) → (mode ≡ 0 → m .offset ≡ m .moved)
+      → JointKeeps t (moverJoins d m mode (t .position))
+  unfolding moverPartnered moverJoined choose
+  mover-joins mode s o w n z =
+      record {
+        source = hd;
+        mover = kept-mover (moverRuns mode 1 (t .position) m) t (runs-kept m t mode 1 (tcp-right false) o w n z facts);
+        joined = flag-none (dataPartnered d) (not-joined-back (dataPartnered d) (moverPartnered m) hj (mover-none m (ap moverJoined s)));
+      }
+
+  -- an end that halts is not joined, and its type stays
+  halted-source : (why : ℕ) → dataWrong (dataHalts why d) ≡ false
+  unfolding dataWrong
+  halted-source why = none refl (data-type d hd)
+
+  source-unjoined : (why : ℕ) → dataPartnered (dataHalts why d) ≡ false
+  unfolding dataJoined choose
+  source-unjoined why = source-none (dataHalts why d) refl
+
+  mover-unjoined : (why : ℕ) → moverPartnered (moverHalts why m) ≡ false
+  unfolding moverJoined choose
+  mover-unjoined why = mover-none (moverHalts why m) refl
+
+  -- both ends halted
+  pub halt : (dwhy mwhy : ℕ) → JointKeeps t (halted dwhy mwhy d m)
+  unfolding sameFlag
+  halt dwhy mwhy =
+      record {
+        source = halted-source dwhy;
+        mover = kept-mover (moverHalts mwhy m) t (halts-kept m t mwhy facts);
+        joined = rw (source-unjoined dwhy, mover-unjoined mwhy);
+      }
+
+  -- one end halted that had no partner
+  pub halt-data : (why : ℕ) → dataPartnered d ≡ false → JointKeeps t (sourceAlone why d m)
+  unfolding sameFlag
+  halt-data why h =
+      record {
+        source = halted-source why;
+        mover = hm;
+        joined = rw (source-unjoined why, not-joined (dataPartnered d) (moverPartnered m) hj h);
+      }
+
+  pub halt-mover : (why : ℕ) → moverPartnered m ≡ false → JointKeeps t (moverAlone why d m)
+  halt-mover why h =
+      record {
+        source = hd;
+        mover = kept-mover (moverHalts why m) t (halts-kept m t why facts);
+        joined = rw (mover-unjoined why) (flag-none (dataPartnered d) (not-joined-back (dataPartnered d) (moverPartnered m) hj h));
+      }
+
+  pub joint-keeps : (q : JointRequest) (made : Bool) → Accepts EndsKeep (jointStep d m t q made)
+  unfolding jointStep dataAbort dataConnect moverAbort moverClose moverConnect dataAborted moverAborted moverClosed
+  joint-keeps JointRequest.DataAbort made =
+      accepts EndsKeep _ _ _ (λ _. by-test (JointKeeps t) (dataPartnered d) _ _ (λ _. halt 2 1) (λ h. halt-data 2 h))
+  joint-keeps (JointRequest.DataConnect address count) made =
       accepts EndsKeep _ _ _
-      (λ g. let s : m .state ≡ 1 = is (g 2) in let h = facts .hold (listen-holds (m .state) s) in
-      connects (m .mode) (h .opened) (h .writes) (h .window) (λ e. facts .listens e s ∙ sym (facts .start (omega arith))))
-  joint-keeps JointRequest.MoverAbort =
-      accepts EndsKeep _ _ _ (λ _. by-test (JointKeeps t) (moverJoined (m .state)) _ _ (λ _. halt 4 2) (λ h. halt-mover 0 2 h))
-  joint-keeps JointRequest.MoverClose = accepts EndsKeep _ _ _ (λ _. halt 4 1)
-  joint-keeps (JointRequest.MoverConnect mode address) =
+      (λ g. by-test (JointKeeps t) (eqb address 1) _ _ (λ _. source-joins (is (g 0)))
+      (λ e. let s : m .state ≡ 1 = mover-awaits m (met address _ made (g 2) e) in let h = facts .hold (listen-holds (m .state) s) in
+      connects (m .mode) (h .opened) (h .writes) (h .window) (λ e. facts .listens e s ∙ sym (facts .start (omega arith)))))
+  joint-keeps JointRequest.MoverAbort made =
+      accepts EndsKeep _ _ _ (λ _. by-test (JointKeeps t) (moverPartnered m) _ _ (λ _. halt 4 2) (λ h. halt-mover 2 h))
+  joint-keeps JointRequest.MoverClose made =
+      accepts EndsKeep _ _ _ (λ _. by-test (JointKeeps t) (moverPartnered m) _ _ (λ _. halt 4 1) (λ h. halt-mover 1 h))
+  joint-keeps (JointRequest.MoverConnect mode address count) made =
       accepts EndsKeep _ _ _
       (λ g. let s : m .state ≡ 0 = is (g 1) in
-      connects mode (yes (g 0)) (writes mode (t .writable) (g 2)) (isnt (g 4)) (λ e. offset-zero mode (m .offset) (g 5) e ∙ sym (facts .start (omega arith))))
+      let w = writes mode (t .writable) (g 2) in
+      let z : mode ≡ 0 → m .offset ≡ m .moved = λ e. offset-zero mode (m .offset) (g 5) e ∙ sym (facts .start (omega arith)) in
+      by-test (JointKeeps t) (eqb address 1) _ _ (λ _. mover-joins mode s (yes (g 0)) w (isnt (g 4)) z) (λ _. connects mode (yes (g 0)) w (isnt (g 4)) z))

@@ -129,10 +129,12 @@ module _ (m : Mover) (t : Tape) where
       let e = none-of _ (d .1) in
       let n = none-of _ (a .0) in
       let o = none-of _ (n .1) in
+      let x = none-of _ (o .1) in
       record {
         states = ltb-false 4 (m .state) (n .0);
         sizes = ltb-false 32768 (m .size) (o .0);
-        seeks = past-top (m .seek) (m .left) (o .1);
+        types = x .0;
+        seeks = past-top (m .seek) (m .left) (x .1);
         window = legal (m .size) (m .offset) (m .length) (b .0);
         start = λ s. is (unless (ltb 1 (m .state)) _ (c .0) (le-ltb 1 (m .state) s));
         hold = held m t (d .0);
@@ -145,7 +147,7 @@ module _ (m : Mover) (t : Tape) where
   pub kept-mover : MoverKept m t → moverWrong m t ≡ false
   unfolding moverWrong numbersWrong startWrong originWrong
   kept-mover k =
-      none (none (le-ltb 4 (m .state) (k .states)) (none (le-ltb 32768 (m .size) (k .sizes)) (no-past (m .seek) (m .left) (k .seeks))))
+      none (none (le-ltb 4 (m .state) (k .states)) (none (le-ltb 32768 (m .size) (k .sizes)) (none (k .types) (no-past (m .seek) (m .left) (k .seeks)))))
       (none (no-window-wrong (m .size) (m .offset) (m .length) (k .window))
       (none (if-not (ltb 1 (m .state)) (λ s. eq-not (k .start (ltb-false 1 (m .state) s))))
       (none (no-hold-wrong m t (k .hold))

@@ -46,7 +46,7 @@ use Rattle.rules.specs.TapeService.{movedTo, isRefusal, protects, tapeOp
 use Rattle.rules.specs.TapeService.{deviceStep, withLoaded, withMover, tapeStep, moverPartStep}
 use Rattle.rules.specs.Connection.{matches, connectOpen, clientAuth, connectStep, configStep}
 use Rattle.rules.specs.Answer.{Kept, Lent, held, Answered, answered, judged, isClose, settled, verdict, needsLogin, isLocked, outcome, refusing, isUnread}
-use Rattle.rules.specs.Answer.{noticed, halting, closing, replying, Done, tapePart, withData, withTape, withChanger, withLogin, withEnds, requestIn}
+use Rattle.rules.specs.Answer.{noticed, halting, closing, replying, Done, tapePart, withData, withPart, withTape, withChanger, withLogin, withEnds, requestIn}
 use Rattle.rules.specs.Order.{isOneOf, Call, run}
 use Rattle.rules.specs.Calls.{Heard, isRun, isDone, isNumber}
 use Rattle.rules.specs.Leaving.{Leaving, AtMark, mark-read, mark-spaced, AtEnd, end-read, end-written, end-spaced, OtherFields}
@@ -114,6 +114,7 @@ unheaded (Reply.Header e) h = h
 unheaded (Reply.Refused b e a) h = refl
 unheaded Reply.Plain h = refl
 unheaded Reply.Listening h = refl
+unheaded Reply.ListeningTcp h = refl
 unheaded Reply.ConnectionTypes h = refl
 unheaded (Reply.ServerInfo known) h = refl
 unheaded Reply.ScsiState h = refl
@@ -304,8 +305,8 @@ module _ (k : Kept) (l : Lent) (r : List ℕ) where
   outcome-counted (Request.Config q) = counted (withLogin k) (λ _. refl) _
   outcome-counted (Request.Scsi q) = counted (withChanger k) (λ _. refl) _
   outcome-counted (Request.Tape q) = counted (withTape k) (λ _. refl) _
-  outcome-counted (Request.Data q) = counted (withData k) (λ _. refl) _
-  outcome-counted (Request.Mover q) = counted (withTape k) (λ _. refl) _
+  outcome-counted (Request.Data q) = counted (withData k _) (λ _. refl) _
+  outcome-counted (Request.Mover q) = counted (withPart k _) (λ _. refl) _
   outcome-counted (Request.Joint q) = counted (withEnds k) (λ _. refl) _
 
   -- a request whose accepted replies have the number 0
@@ -548,7 +549,7 @@ module _ (k : Kept) (l : Lent) (r : List ℕ) where
 -- ---- who becomes authorized
 module _ (k : Kept) (l : Lent) (r : List ℕ) where
   abbrev this : Call
-  this = record { ask = record { request = r }; lent = l }
+  this = record { ask = record { request = r; addresses = l .addresses }; lent = l }
 
   -- what holds of the login, where only CONNECT changes it
   module _ (Q : Bool → Type 0) where
@@ -574,8 +575,8 @@ module _ (k : Kept) (l : Lent) (r : List ℕ) where
     outcome-stays (Request.Config q) h f = config-stays q h
     outcome-stays (Request.Scsi q) h f = aside (withChanger k) (λ _. h) _
     outcome-stays (Request.Tape q) h f = aside (withTape k) (λ _. h) _
-    outcome-stays (Request.Data q) h f = aside (withData k) (λ _. h) _
-    outcome-stays (Request.Mover q) h f = aside (withTape k) (λ _. h) _
+    outcome-stays (Request.Data q) h f = aside (withData k _) (λ _. h) _
+    outcome-stays (Request.Mover q) h f = aside (withPart k _) (λ _. h) _
     outcome-stays (Request.Joint q) h f = aside (withEnds k) (λ _. h) _
 
   close-stays : (Q : Bool → Type 0) → Q (authorized k) → Accepts (Stays Q) (onto (withLogin k) (accept Reply.Plain (k .session .login)))
@@ -607,7 +608,8 @@ module _ (k : Kept) (l : Lent) (r : List ℕ) where
       (outcome-stays Q (requestIn r) h (λ c e. connect-stays Q h c (λ id password s m. f (logs-in id password (e ∙ ap Request.Connect s) m))))
 
 call-only : (k : Kept) (c : Call) → authorized k ≡ false → authorized (answered k (c .lent) (c .ask .request) .next) ≡ true → LogsIn c
-call-only k c h = call-stays k (c .lent) (c .ask .request) (λ b. b ≡ true → LogsIn c) (λ t. absurd (let z : _≡_ {A = ℕ} 0 1 = cc in omega arith)) (λ i _. i)
+call-only k c h = call-stays k (c .lent) (c .ask .request) (λ b. b ≡ true → LogsIn c) (λ t. absurd (let z : _≡_ {A = ℕ} 0 1 = cc in omega arith))
+    (λ i _. record { id = i .id; password = i .password; request = i .request; same-id = i .same-id; same-password = i .same-password })
 
 only-next : (P : Bool → Type 0) (b : Bool) → (b ≡ true → P b) → (b ≡ false → P b) → P b
 only-next P true f g = f refl
@@ -720,10 +722,10 @@ module _ (k : Kept) (l : Lent) (r : List ℕ) where
   outcome-touches (Request.Tape q) h =
       carried (TouchedBy (Request.Tape q)) (withTape k) _
       (carried (λ reply p. TouchedBy (Request.Tape q) reply (withTape k p)) (withLoaded (tapePart k)) _ (device-touches q (logged _ h)))
-  outcome-touches (Request.Data q) h = left (Request.Data q) (withData k) (λ _. refl) _
+  outcome-touches (Request.Data q) h = left (Request.Data q) (withData k _) (λ _. refl) _
   outcome-touches (Request.Mover q) h =
-      carried (TouchedBy (Request.Mover q)) (withTape k) _ (carried (λ reply p. TouchedBy (Request.Mover q) reply (withTape k p)) (withMover (tapePart k)) _
-      (accepts-any (λ reply p. TouchedBy (Request.Mover q) reply (withTape k (withMover (tapePart k) p))) (λ _ _. mover-untouched (Request.Mover q)) _))
+      carried (TouchedBy (Request.Mover q)) (withPart k _) _ (carried (λ reply p. TouchedBy (Request.Mover q) reply (withPart k (l .addresses) p)) (withMover (tapePart k)) _
+      (accepts-any (λ reply p. TouchedBy (Request.Mover q) reply (withPart k (l .addresses) (withMover (tapePart k) p))) (λ _ _. mover-untouched (Request.Mover q)) _))
   outcome-touches (Request.Joint q) h = left (Request.Joint q) (withEnds k) (λ _. refl) _
 
   touched : Touched k (requestIn r) (bodyOf r) (answered k l r .next .image)

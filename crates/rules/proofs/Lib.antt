@@ -1,6 +1,6 @@
 -- `JudgeLaws` has the laws of lists of tests and of outcomes, `Serving` those of texts, `Endless` those of windows
 -- with no end, `Kept` those of the relation, `Keeping` that every request
--- keeps it, `Windows` the rules of windows, `Sending` that an answer can be sent, `Numbers` the numbers of replies and refusals, `Guarding` what comes
+-- keeps it, `Tcp` the rules of ends by TCP, `Windows` the rules of windows, `Sending` that an answer can be sent, `Numbers` the numbers of replies and refusals, `Guarding` what comes
 -- before any call, `Calls` what holds of every call, `Owning` that a record's request is its service's, `Order` that the services commute,
 -- `Services` which numbers are whose, `Leaving` what each number leaves, who becomes authorized and what writes to the cartridge, `Alike` that spacing
 -- hangs on the kinds of the entries passed.
@@ -9,6 +9,7 @@ pub mod Serving
 pub mod Endless
 pub mod Kept
 pub mod Keeping
+pub mod Tcp
 pub mod Windows
 pub mod Sending
 pub mod Numbers

@@ -49,9 +49,10 @@ use Rattle.rules.specs.DataService.{dataState, dataListen, dataStart, da
 use Rattle.rules.specs.MoverService.{moverState, moverListen, moverContinue, moverStop, setWindow, moverRead, setSize, moverStep}
 use Rattle.rules.specs.TapeService.{Loaded, isRefusal, tapeOpen, tapeClose, tapeState, tapeMtio, tapeWrite, tapeRead, deviceStep, withLoaded, withMover, tapeStep, moverPartStep}
 use Rattle.rules.specs.ScsiService.{scsiOpen, scsiClear, scsiState, runCdb, scsiCdb, scsiStep}
+use Rattle.rules.specs.Addresses.{listening}
 use Rattle.rules.specs.Joint.{dataConnect, moverConnect, dataAbort, moverAbort, moverClose, jointStep}
 use Rattle.rules.specs.Connection.{Account, connectOpen, clientAuth, connectStep, configStep}
-use Rattle.rules.specs.Answer.{Kept, Lent, Done, outcome, verdict, tapePart, withData, withTape, withChanger, withLogin, withEnds}
+use Rattle.rules.specs.Answer.{Kept, Lent, Done, outcome, verdict, tapePart, withData, withPart, withTape, withChanger, withLogin, withEnds}
 use Rattle.rules.specs.Order.{isOneOf}
 use Rattle.rules.specs.Calls.{isRun, isDone, isNumber}
 use Rattle.rules.proofs.JudgeLaws.{judged-by, accepts, refusal-says, carried, refuses-behind, accepts-all, refuses-after, refuses-onto, numbersRight}
@@ -59,31 +60,35 @@ use Rattle.rules.proofs.JudgeLaws.{judged-by, accepts, refusal-says, ca
 abbrev Zero : {A : Type 0} → Reply → A → Type 0
 Zero r _ = eqb (numberOf r) 0 ≡ true
 
-data-zero : (d : Data) (q : DataRequest) (body : List ℕ) → Accepts Zero (dataStep d q body)
+listening-zero : (address : ℕ) → eqb (numberOf (listening address)) 0 ≡ true
+unfolding listening numberOf
+listening-zero address = by-test (λ (r : Reply). eqb (numberOf r) 0 ≡ true) (eqb address 1) _ _ (λ _. refl) (λ _. refl)
+
+data-zero : (d : Data) (q : DataRequest) (body list : List ℕ) → Accepts Zero (dataStep d q body list)
 unfolding dataStep dataState dataListen dataStart dataStop numberOf
-data-zero d DataRequest.State body = accepts Zero _ _ _ (λ _. refl)
-data-zero d (DataRequest.Backup name) body = accepts Zero _ _ _ (λ _. refl)
-data-zero d (DataRequest.Recover name) body = accepts Zero _ _ _ (λ _. refl)
-data-zero d DataRequest.Stop body = accepts Zero _ _ _ (λ _. refl)
-data-zero d (DataRequest.Listen address) body = accepts Zero _ _ _ (λ _. refl)
+data-zero d DataRequest.State body list = accepts Zero _ _ _ (λ _. refl)
+data-zero d (DataRequest.Backup name) body list = accepts Zero _ _ _ (λ _. refl)
+data-zero d (DataRequest.Recover name) body list = accepts Zero _ _ _ (λ _. refl)
+data-zero d DataRequest.Stop body list = accepts Zero _ _ _ (λ _. refl)
+data-zero d (DataRequest.Listen address) body list = accepts Zero _ _ _ (λ _. listening-zero address)
 
-mover-zero : (m : Mover) (t : Tape) (q : MoverRequest) → Accepts Zero (moverStep m t q)
+mover-zero : (m : Mover) (t : Tape) (q : MoverRequest) (list : List ℕ) → Accepts Zero (moverStep m t q list)
 unfolding moverStep moverState moverListen moverContinue moverStop setWindow moverRead setSize numberOf
-mover-zero m t MoverRequest.State = accepts Zero _ _ _ (λ _. refl)
-mover-zero m t (MoverRequest.Listen mode address) = accepts Zero _ _ _ (λ _. refl)
-mover-zero m t MoverRequest.Continue = accepts Zero _ _ _ (λ _. refl)
-mover-zero m t MoverRequest.Stop = accepts Zero _ _ _ (λ _. refl)
-mover-zero m t (MoverRequest.Window offset length) = accepts Zero _ _ _ (λ _. refl)
-mover-zero m t (MoverRequest.Read offset length) = accepts Zero _ _ _ (λ _. refl)
-mover-zero m t (MoverRequest.Size size) = accepts Zero _ _ _ (λ _. refl)
+mover-zero m t MoverRequest.State list = accepts Zero _ _ _ (λ _. refl)
+mover-zero m t (MoverRequest.Listen mode address) list = accepts Zero _ _ _ (λ _. listening-zero address)
+mover-zero m t MoverRequest.Continue list = accepts Zero _ _ _ (λ _. refl)
+mover-zero m t MoverRequest.Stop list = accepts Zero _ _ _ (λ _. refl)
+mover-zero m t (MoverRequest.Window offset length) list = accepts Zero _ _ _ (λ _. refl)
+mover-zero m t (MoverRequest.Read offset length) list = accepts Zero _ _ _ (λ _. refl)
+mover-zero m t (MoverRequest.Size size) list = accepts Zero _ _ _ (λ _. refl)
 
-joint-zero : (d : Data) (m : Mover) (t : Tape) (q : JointRequest) → Accepts Zero (jointStep d m t q)
+joint-zero : (d : Data) (m : Mover) (t : Tape) (q : JointRequest) (made : Bool) → Accepts Zero (jointStep d m t q made)
 unfolding jointStep dataAbort dataConnect moverAbort moverClose moverConnect numberOf
-joint-zero d m t JointRequest.DataAbort = accepts Zero _ _ _ (λ _. refl)
-joint-zero d m t (JointRequest.DataConnect address) = accepts Zero _ _ _ (λ _. refl)
-joint-zero d m t JointRequest.MoverAbort = accepts Zero _ _ _ (λ _. refl)
-joint-zero d m t JointRequest.MoverClose = accepts Zero _ _ _ (λ _. refl)
-joint-zero d m t (JointRequest.MoverConnect mode address) = accepts Zero _ _ _ (λ _. refl)
+joint-zero d m t JointRequest.DataAbort made = accepts Zero _ _ _ (λ _. refl)
+joint-zero d m t (JointRequest.DataConnect address count) made = accepts Zero _ _ _ (λ _. refl)
+joint-zero d m t JointRequest.MoverAbort made = accepts Zero _ _ _ (λ _. refl)
+joint-zero d m t JointRequest.MoverClose made = accepts Zero _ _ _ (λ _. refl)
+joint-zero d m t (JointRequest.MoverConnect mode address count) made = accepts Zero _ _ _ (λ _. refl)
 
 run-zero : (c : Changer) (cdb : List ℕ) (room : ℕ) → Accepts Zero (runCdb c cdb room)
 unfolding runCdb numberOf Accepts
@@ -135,9 +140,9 @@ module _ (k : Kept) (l : Lent) (r : List ℕ) where
   outcome-number (Request.Config q) = carried Zero (withLogin k) _ (config-zero _ q)
   outcome-number (Request.Scsi q) = carried Zero (withChanger k) _ (scsi-zero _ q _)
   outcome-number (Request.Tape q) = carried (Ran q) (withTape k) _ (carried (Ran q) (withLoaded (tapePart k)) _ (tape-ran _ _ _ q _))
-  outcome-number (Request.Data q) = carried Zero (withData k) _ (data-zero _ q _)
-  outcome-number (Request.Mover q) = carried Zero (withTape k) _ (carried Zero (withMover (tapePart k)) _ (mover-zero _ _ q))
-  outcome-number (Request.Joint q) = carried Zero (withEnds k) _ (joint-zero _ _ _ q)
+  outcome-number (Request.Data q) = carried Zero (withData k _) _ (data-zero _ q _ _)
+  outcome-number (Request.Mover q) = carried Zero (withPart k _) _ (carried Zero (withMover (tapePart k)) _ (mover-zero _ _ q _))
+  outcome-number (Request.Joint q) = carried Zero (withEnds k) _ (joint-zero _ _ _ q _)
 
   pub number-right : (q : Request) → Accepts (λ reply _. isDone q (numberOf reply) ≡ true) (verdict k l r q)
   unfolding verdict Right
@@ -147,31 +152,31 @@ module _ (k : Kept) (l : Lent) (r : List ℕ) where
 abbrev Refusal : ℕ → Type 0
 Refusal e = isNumber e ≡ true
 
-data-refuses : (d : Data) (q : DataRequest) (body : List ℕ) → Refuses Refusal (dataStep d q body)
+data-refuses : (d : Data) (q : DataRequest) (body list : List ℕ) → Refuses Refusal (dataStep d q body list)
 unfolding dataStep dataState dataListen dataStart dataStop isNumber isOneOf isRefusal choose
-data-refuses d DataRequest.State body = accepts-all isNumber _ _ _ refl
-data-refuses d (DataRequest.Backup name) body = accepts-all isNumber _ _ _ refl
-data-refuses d (DataRequest.Recover name) body = accepts-all isNumber _ _ _ refl
-data-refuses d DataRequest.Stop body = accepts-all isNumber _ _ _ refl
-data-refuses d (DataRequest.Listen address) body = accepts-all isNumber _ _ _ refl
+data-refuses d DataRequest.State body list = accepts-all isNumber _ _ _ refl
+data-refuses d (DataRequest.Backup name) body list = accepts-all isNumber _ _ _ refl
+data-refuses d (DataRequest.Recover name) body list = accepts-all isNumber _ _ _ refl
+data-refuses d DataRequest.Stop body list = accepts-all isNumber _ _ _ refl
+data-refuses d (DataRequest.Listen address) body list = accepts-all isNumber _ _ _ refl
 
-mover-refuses : (m : Mover) (t : Tape) (q : MoverRequest) → Refuses Refusal (moverStep m t q)
+mover-refuses : (m : Mover) (t : Tape) (q : MoverRequest) (list : List ℕ) → Refuses Refusal (moverStep m t q list)
 unfolding moverStep moverState moverListen moverContinue moverStop setWindow moverRead setSize isNumber isOneOf isRefusal choose
-mover-refuses m t MoverRequest.State = accepts-all isNumber _ _ _ refl
-mover-refuses m t (MoverRequest.Listen mode address) = accepts-all isNumber _ _ _ refl
-mover-refuses m t MoverRequest.Continue = accepts-all isNumber _ _ _ refl
-mover-refuses m t MoverRequest.Stop = accepts-all isNumber _ _ _ refl
-mover-refuses m t (MoverRequest.Window offset length) = accepts-all isNumber _ _ _ refl
-mover-refuses m t (MoverRequest.Read offset length) = accepts-all isNumber _ _ _ refl
-mover-refuses m t (MoverRequest.Size size) = accepts-all isNumber _ _ _ refl
+mover-refuses m t MoverRequest.State list = accepts-all isNumber _ _ _ refl
+mover-refuses m t (MoverRequest.Listen mode address) list = accepts-all isNumber _ _ _ refl
+mover-refuses m t MoverRequest.Continue list = accepts-all isNumber _ _ _ refl
+mover-refuses m t MoverRequest.Stop list = accepts-all isNumber _ _ _ refl
+mover-refuses m t (MoverRequest.Window offset length) list = accepts-all isNumber _ _ _ refl
+mover-refuses m t (MoverRequest.Read offset length) list = accepts-all isNumber _ _ _ refl
+mover-refuses m t (MoverRequest.Size size) list = accepts-all isNumber _ _ _ refl
 
-joint-refuses : (d : Data) (m : Mover) (t : Tape) (q : JointRequest) → Refuses Refusal (jointStep d m t q)
+joint-refuses : (d : Data) (m : Mover) (t : Tape) (q : JointRequest) (made : Bool) → Refuses Refusal (jointStep d m t q made)
 unfolding jointStep dataAbort dataConnect moverAbort moverClose moverConnect isNumber isOneOf isRefusal choose
-joint-refuses d m t JointRequest.DataAbort = accepts-all isNumber _ _ _ refl
-joint-refuses d m t (JointRequest.DataConnect address) = accepts-all isNumber _ _ _ refl
-joint-refuses d m t JointRequest.MoverAbort = accepts-all isNumber _ _ _ refl
-joint-refuses d m t JointRequest.MoverClose = accepts-all isNumber _ _ _ refl
-joint-refuses d m t (JointRequest.MoverConnect mode address) = accepts-all isNumber _ _ _ refl
+joint-refuses d m t JointRequest.DataAbort made = accepts-all isNumber _ _ _ refl
+joint-refuses d m t (JointRequest.DataConnect address count) made = accepts-all isNumber _ _ _ refl
+joint-refuses d m t JointRequest.MoverAbort made = accepts-all isNumber _ _ _ refl
+joint-refuses d m t JointRequest.MoverClose made = accepts-all isNumber _ _ _ refl
+joint-refuses d m t (JointRequest.MoverConnect mode address count) made = accepts-all isNumber _ _ _ refl
 
 run-refuses : (c : Changer) (cdb : List ℕ) (room : ℕ) → Refuses Refusal (runCdb c cdb room)
 unfolding runCdb Refuses
@@ -308,9 +313,9 @@ module _ (k : Kept) (l : Lent) (r : List ℕ) where
   outcome-refuses (Request.Config q) = refuses-onto Refusal (withLogin k) _ (config-refuses _ q)
   outcome-refuses (Request.Scsi q) = refuses-onto Refusal (withChanger k) _ (scsi-refuses _ q _)
   outcome-refuses (Request.Tape q) = refuses-onto Refusal (withTape k) _ (refuses-onto Refusal (withLoaded (tapePart k)) _ (tape-refuses _ _ _ q _))
-  outcome-refuses (Request.Data q) = refuses-onto Refusal (withData k) _ (data-refuses _ q _)
-  outcome-refuses (Request.Mover q) = refuses-onto Refusal (withTape k) _ (refuses-onto Refusal (withMover (tapePart k)) _ (mover-refuses _ _ q))
-  outcome-refuses (Request.Joint q) = refuses-onto Refusal (withEnds k) _ (joint-refuses _ _ _ q)
+  outcome-refuses (Request.Data q) = refuses-onto Refusal (withData k _) _ (data-refuses _ q _ _)
+  outcome-refuses (Request.Mover q) = refuses-onto Refusal (withPart k _) _ (refuses-onto Refusal (withMover (tapePart k)) _ (mover-refuses _ _ q _))
+  outcome-refuses (Request.Joint q) = refuses-onto Refusal (withEnds k) _ (joint-refuses _ _ _ q _)
 
   pub refusal-right : (q : Request) → Refuses Refusal (verdict k l r q)
   unfolding verdict isNumber isOneOf isRefusal choose

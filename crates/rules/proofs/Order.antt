@@ -29,8 +29,8 @@ use Rattle.rules_parts.specs.Parts.{restData, restMover, closedTape, closedChan
 use Rattle.rules.specs.TapeService.{TapePart}
 use Rattle.rules.specs.Relation.{keeps}
 use Rattle.rules.specs.Answer.{Kept, Lent, Answered, guarded, answered, requested, judged, isClose, settled, verdict, isLocked, outcome, noticed, silent, tapePart, withData}
-use Rattle.rules.specs.Answer.{withTape, withChanger, messageIn, requestIn}
-use Rattle.rules.specs.Order.{Service, DataService, TapeService, ScsiService, routeOf, serviceNumber, sameService, Ask, Call, Merge, done, left, middle, right, Asks, Roomy}
+use Rattle.rules.specs.Answer.{withPart, withTape, withChanger, messageIn, requestIn}
+use Rattle.rules.specs.Order.{Service, DataService, TapeService, ScsiService, routeOf, serviceNumber, sameService, Ask, Call, withList, Merge, done, left, middle, right, Asks, Roomy}
 use Rattle.rules.specs.Order.{unstamped, Given, given, Run, run, repliesTo, refusal, AnyOrder}
 use Rattle.rules.proofs.Owning.{Owned, of-data, of-tape, of-mover, of-scsi, unknown, bad, owned}
 use Rattle.rules.proofs.Calls.{kept}
@@ -63,26 +63,26 @@ abbrev aloneOn : Login → Data → TapePart → Changer → Kept
 aloneOn g d p c =
     record { session = record { closed = false; first = false; login = g; sequence = 0; source = d; mover = p .mover; tape = p .tape; changer = c }; image = p .image }
 
-abbrev noneLent : Lent
-noneLent = record { account = record { id = []; password = [] }; time = 0; room = 0 }
+abbrev lentAlone : List ℕ → Lent
+lentAlone list = record { account = record { id = []; password = [] }; time = 0; room = 0; addresses = list; made = false }
 
-abbrev dataStepped : Login → Data → Request → List ℕ → Step Data
-dataStepped g d q r = let b = judged (aloneOn g d restPart closedChanger) noneLent r q in record { sent = unstamped (b .reply); part = b .next .session .source }
+abbrev dataStepped : Login → Data → Request → Ask → Step Data
+dataStepped g d q a = let b = judged (aloneOn g d restPart closedChanger) (lentAlone (a .addresses)) (a .request) q in record { sent = unstamped (b .reply); part = b .next .session .source }
 
-abbrev tapeStepped : Login → TapePart → Request → List ℕ → Step TapePart
-tapeStepped g p q r = let b = judged (aloneOn g restData p closedChanger) noneLent r q in record { sent = unstamped (b .reply); part = tapePart (b .next) }
+abbrev tapeStepped : Login → TapePart → Request → Ask → Step TapePart
+tapeStepped g p q a = let b = judged (aloneOn g restData p closedChanger) (lentAlone (a .addresses)) (a .request) q in record { sent = unstamped (b .reply); part = tapePart (b .next) }
 
-abbrev scsiStepped : Login → Changer → Request → List ℕ → Step Changer
-scsiStepped g c q r = let b = judged (aloneOn g restData restPart c) noneLent r q in record { sent = unstamped (b .reply); part = b .next .session .changer }
+abbrev scsiStepped : Login → Changer → Request → Ask → Step Changer
+scsiStepped g c q a = let b = judged (aloneOn g restData restPart c) (lentAlone (a .addresses)) (a .request) q in record { sent = unstamped (b .reply); part = b .next .session .changer }
 
 abbrev dataBy : Login → Data → Ask → Step Data
-dataBy g d a = dataStepped g d (requestIn (a .request)) (a .request)
+dataBy g d a = dataStepped g d (requestIn (a .request)) a
 
 abbrev tapeBy : Login → TapePart → Ask → Step TapePart
-tapeBy g p a = tapeStepped g p (requestIn (a .request)) (a .request)
+tapeBy g p a = tapeStepped g p (requestIn (a .request)) a
 
 abbrev scsiBy : Login → Changer → Ask → Step Changer
-scsiBy g c a = scsiStepped g c (requestIn (a .request)) (a .request)
+scsiBy g c a = scsiStepped g c (requestIn (a .request)) a
 
 -- ---- the session after n answers
 counts : Bool → ℕ → ℕ → ℕ
@@ -160,9 +160,9 @@ shown q t a p l = λ i. record { ask = a; code = 0; reply = stamps q t (messageW
 module _ (k : Kept) (l : Lent) (a : Ask) (o : k .session .closed ≡ false) (w : leastRoom ≤ l .room) where
   -- whatever the login test and the service come to
   data-alike : (q : Request) (b : Bool) (x : Outcome Data)
-      → (let here = settled k (l .time) (a .request) q (judge (test b 4 ∷ []) (onto (withData k) x)) in
+      → (let here = settled k (l .time) (a .request) q (judge (test b 4 ∷ []) (onto (withData k (a .addresses)) x)) in
       let there = settled (aloneOn (k .session .login) (k .session .source) restPart closedChanger) 0 (a .request) q
-      (judge (test b 4 ∷ []) (onto (withData (aloneOn (k .session .login) (k .session .source) restPart closedChanger)) x)) in
+      (judge (test b 4 ∷ []) (onto (withData (aloneOn (k .session .login) (k .session .source) restPart closedChanger) (a .addresses)) x)) in
       Gives a here (record { ask = a; code = 0; reply = unstamped (there .reply) }) (ended true (k .session) 1 (there .next .session .source) (tapePart k) (k .session .changer)))
   unfolding settled judge onto noticed ended counts marks choose
   data-alike q true x = record { what = shown (k .session .sequence) (l .time) a _ _; quiet = refl; next = refl }
@@ -170,75 +170,75 @@ module _ (k : Kept) (l : Lent) (a : Ask) (o : k .session .closed ≡ false) (w :
   data-alike q false (accept reply p) = record { what = shown (k .session .sequence) (l .time) a _ _; quiet = refl; next = refl }
 
   of-data-request : (q : DataRequest)
-      → Gives a (judged k l (a .request) (Request.Data q)) (record { ask = a; code = 0; reply = dataStepped (k .session .login) (k .session .source) (Request.Data q) (a .request) .sent })
-      (ended true (k .session) 1 (dataStepped (k .session .login) (k .session .source) (Request.Data q) (a .request) .part) (tapePart k) (k .session .changer))
+      → Gives a (judged k (withList a l) (a .request) (Request.Data q)) (record { ask = a; code = 0; reply = dataStepped (k .session .login) (k .session .source) (Request.Data q) a .sent })
+      (ended true (k .session) 1 (dataStepped (k .session .login) (k .session .source) (Request.Data q) a .part) (tapePart k) (k .session .changer))
   unfolding judged isClose verdict outcome choose
   of-data-request q = data-alike (Request.Data q) _ _
 
   data-served : (q : Request) → Owned DataService q
-      → Gives a (judged k l (a .request) q) (record { ask = a; code = 0; reply = dataStepped (k .session .login) (k .session .source) q (a .request) .sent })
-      (ended true (k .session) 1 (dataStepped (k .session .login) (k .session .source) q (a .request) .part) (tapePart k) (k .session .changer))
+      → Gives a (judged k (withList a l) (a .request) q) (record { ask = a; code = 0; reply = dataStepped (k .session .login) (k .session .source) q a .sent })
+      (ended true (k .session) 1 (dataStepped (k .session .login) (k .session .source) q a .part) (tapePart k) (k .session .changer))
   unfolding judged isClose verdict outcome onto choose
   data-served _ (of-data q) = of-data-request q
   data-served _ (unknown _) = data-alike Request.Unknown (isLocked (k .session .login) _) (refuse _)
   data-served _ (bad _) = data-alike Request.Bad (isLocked (k .session .login) _) (refuse _)
 
   data-gives : (v : Bool) → keeps (k .session) ≡ v → Asks DataService a
-      → Gives a (answered k l (a .request)) (turn v (dataBy (k .session .login)) (k .session .source) a)
+      → Gives a (answered k (withList a l) (a .request)) (turn v (dataBy (k .session .login)) (k .session .source) a)
       (ended v (k .session) 1 (next v (dataBy (k .session .login)) (k .session .source) a) (tapePart k) (k .session .changer))
   unfolding turn next ended counts marks choose unstamped
-  data-gives true e h = rw (reaches true DataService k l a e o h w) (data-served (requestIn (a .request)) (own-request DataService a h))
-  data-gives false e h = rw (reaches false DataService k l a e o h w) (record { what = refl; quiet = refl; next = refl })
+  data-gives true e h = rw (reaches true DataService k (withList a l) a e o h w) (data-served (requestIn (a .request)) (own-request DataService a h))
+  data-gives false e h = rw (reaches false DataService k (withList a l) a e o h w) (record { what = refl; quiet = refl; next = refl })
 
   data-valid : (v : Bool) → keeps (k .session) ≡ v → Asks DataService a → keeps
       (ended v (k .session) 1 (next v (dataBy (k .session .login)) (k .session .source) a) (tapePart k) (k .session .changer) .session) ≡ v
   unfolding next ended counts marks choose
-  data-valid true e h = ap (λ (x : Kept). keeps (x .session)) (sym (data-gives true e h .next)) ∙ kept k l (a .request) e
+  data-valid true e h = ap (λ (x : Kept). keeps (x .session)) (sym (data-gives true e h .next)) ∙ kept k (withList a l) (a .request) e
   data-valid false e h = e
 
   -- whatever the login test and the service come to
-  tape-alike : (q : Request) (b : Bool) (x : Outcome TapePart)
-      → (let here = settled k (l .time) (a .request) q (judge (test b 4 ∷ []) (onto (withTape k) x)) in
+  tape-alike : (q : Request) (b : Bool) (shows : TapePart → List ℕ) (x : Outcome TapePart)
+      → (let here = settled k (l .time) (a .request) q (judge (test b 4 ∷ []) (onto (λ p. withPart k (shows p) p) x)) in
       let there = settled (aloneOn (k .session .login) restData (tapePart k) closedChanger) 0 (a .request) q
-      (judge (test b 4 ∷ []) (onto (withTape (aloneOn (k .session .login) restData (tapePart k) closedChanger)) x)) in
+      (judge (test b 4 ∷ []) (onto (λ p. withPart (aloneOn (k .session .login) restData (tapePart k) closedChanger) (shows p) p) x)) in
       Gives a here (record { ask = a; code = 0; reply = unstamped (there .reply) }) (ended true (k .session) 1 (k .session .source) (tapePart (there .next)) (k .session .changer)))
   unfolding settled judge onto noticed ended counts marks choose
-  tape-alike q true x = record { what = shown (k .session .sequence) (l .time) a _ _; quiet = refl; next = refl }
-  tape-alike q false (refuse e) = record { what = shown (k .session .sequence) (l .time) a _ _; quiet = refl; next = refl }
-  tape-alike q false (accept reply p) = record { what = shown (k .session .sequence) (l .time) a _ _; quiet = refl; next = refl }
+  tape-alike q true shows x = record { what = shown (k .session .sequence) (l .time) a _ _; quiet = refl; next = refl }
+  tape-alike q false shows (refuse e) = record { what = shown (k .session .sequence) (l .time) a _ _; quiet = refl; next = refl }
+  tape-alike q false shows (accept reply p) = record { what = shown (k .session .sequence) (l .time) a _ _; quiet = refl; next = refl }
 
   of-tape-request : (q : TapeRequest)
-      → Gives a (judged k l (a .request) (Request.Tape q)) (record { ask = a; code = 0; reply = tapeStepped (k .session .login) (tapePart k) (Request.Tape q) (a .request) .sent })
-      (ended true (k .session) 1 (k .session .source) (tapeStepped (k .session .login) (tapePart k) (Request.Tape q) (a .request) .part) (k .session .changer))
+      → Gives a (judged k (withList a l) (a .request) (Request.Tape q)) (record { ask = a; code = 0; reply = tapeStepped (k .session .login) (tapePart k) (Request.Tape q) a .sent })
+      (ended true (k .session) 1 (k .session .source) (tapeStepped (k .session .login) (tapePart k) (Request.Tape q) a .part) (k .session .changer))
   unfolding judged isClose verdict outcome choose
-  of-tape-request q = tape-alike (Request.Tape q) _ _
+  of-tape-request q = tape-alike (Request.Tape q) _ (λ p. p .image) _
 
   of-mover-request : (q : MoverRequest)
-      → Gives a (judged k l (a .request) (Request.Mover q)) (record { ask = a; code = 0; reply = tapeStepped (k .session .login) (tapePart k) (Request.Mover q) (a .request) .sent })
-      (ended true (k .session) 1 (k .session .source) (tapeStepped (k .session .login) (tapePart k) (Request.Mover q) (a .request) .part) (k .session .changer))
+      → Gives a (judged k (withList a l) (a .request) (Request.Mover q)) (record { ask = a; code = 0; reply = tapeStepped (k .session .login) (tapePart k) (Request.Mover q) a .sent })
+      (ended true (k .session) 1 (k .session .source) (tapeStepped (k .session .login) (tapePart k) (Request.Mover q) a .part) (k .session .changer))
   unfolding judged isClose verdict outcome choose
-  of-mover-request q = tape-alike (Request.Mover q) _ _
+  of-mover-request q = tape-alike (Request.Mover q) _ (λ _. a .addresses) _
 
   tape-served : (q : Request) → Owned TapeService q
-      → Gives a (judged k l (a .request) q) (record { ask = a; code = 0; reply = tapeStepped (k .session .login) (tapePart k) q (a .request) .sent })
-      (ended true (k .session) 1 (k .session .source) (tapeStepped (k .session .login) (tapePart k) q (a .request) .part) (k .session .changer))
+      → Gives a (judged k (withList a l) (a .request) q) (record { ask = a; code = 0; reply = tapeStepped (k .session .login) (tapePart k) q a .sent })
+      (ended true (k .session) 1 (k .session .source) (tapeStepped (k .session .login) (tapePart k) q a .part) (k .session .changer))
   unfolding judged isClose verdict outcome onto choose
   tape-served _ (of-tape q) = of-tape-request q
   tape-served _ (of-mover q) = of-mover-request q
-  tape-served _ (unknown _) = tape-alike Request.Unknown (isLocked (k .session .login) _) (refuse _)
-  tape-served _ (bad _) = tape-alike Request.Bad (isLocked (k .session .login) _) (refuse _)
+  tape-served _ (unknown _) = tape-alike Request.Unknown (isLocked (k .session .login) _) (λ p. p .image) (refuse _)
+  tape-served _ (bad _) = tape-alike Request.Bad (isLocked (k .session .login) _) (λ p. p .image) (refuse _)
 
   tape-gives : (v : Bool) → keeps (k .session) ≡ v → Asks TapeService a
-      → Gives a (answered k l (a .request)) (turn v (tapeBy (k .session .login)) (tapePart k) a)
+      → Gives a (answered k (withList a l) (a .request)) (turn v (tapeBy (k .session .login)) (tapePart k) a)
       (ended v (k .session) 1 (k .session .source) (next v (tapeBy (k .session .login)) (tapePart k) a) (k .session .changer))
   unfolding turn next ended counts marks choose unstamped
-  tape-gives true e h = rw (reaches true TapeService k l a e o h w) (tape-served (requestIn (a .request)) (own-request TapeService a h))
-  tape-gives false e h = rw (reaches false TapeService k l a e o h w) (record { what = refl; quiet = refl; next = refl })
+  tape-gives true e h = rw (reaches true TapeService k (withList a l) a e o h w) (tape-served (requestIn (a .request)) (own-request TapeService a h))
+  tape-gives false e h = rw (reaches false TapeService k (withList a l) a e o h w) (record { what = refl; quiet = refl; next = refl })
 
   tape-valid : (v : Bool) → keeps (k .session) ≡ v → Asks TapeService a → keeps
       (ended v (k .session) 1 (k .session .source) (next v (tapeBy (k .session .login)) (tapePart k) a) (k .session .changer) .session) ≡ v
   unfolding next ended counts marks choose
-  tape-valid true e h = ap (λ (x : Kept). keeps (x .session)) (sym (tape-gives true e h .next)) ∙ kept k l (a .request) e
+  tape-valid true e h = ap (λ (x : Kept). keeps (x .session)) (sym (tape-gives true e h .next)) ∙ kept k (withList a l) (a .request) e
   tape-valid false e h = e
 
   -- whatever the login test and the service come to
@@ -253,30 +253,30 @@ module _ (k : Kept) (l : Lent) (a : Ask) (o : k .session .closed ≡ false) (w :
   scsi-alike q false (accept reply p) = record { what = shown (k .session .sequence) (l .time) a _ _; quiet = refl; next = refl }
 
   of-scsi-request : (q : ScsiRequest)
-      → Gives a (judged k l (a .request) (Request.Scsi q)) (record { ask = a; code = 0; reply = scsiStepped (k .session .login) (k .session .changer) (Request.Scsi q) (a .request) .sent })
-      (ended true (k .session) 1 (k .session .source) (tapePart k) (scsiStepped (k .session .login) (k .session .changer) (Request.Scsi q) (a .request) .part))
+      → Gives a (judged k (withList a l) (a .request) (Request.Scsi q)) (record { ask = a; code = 0; reply = scsiStepped (k .session .login) (k .session .changer) (Request.Scsi q) a .sent })
+      (ended true (k .session) 1 (k .session .source) (tapePart k) (scsiStepped (k .session .login) (k .session .changer) (Request.Scsi q) a .part))
   unfolding judged isClose verdict outcome choose
   of-scsi-request q = scsi-alike (Request.Scsi q) _ _
 
   scsi-served : (q : Request) → Owned ScsiService q
-      → Gives a (judged k l (a .request) q) (record { ask = a; code = 0; reply = scsiStepped (k .session .login) (k .session .changer) q (a .request) .sent })
-      (ended true (k .session) 1 (k .session .source) (tapePart k) (scsiStepped (k .session .login) (k .session .changer) q (a .request) .part))
+      → Gives a (judged k (withList a l) (a .request) q) (record { ask = a; code = 0; reply = scsiStepped (k .session .login) (k .session .changer) q a .sent })
+      (ended true (k .session) 1 (k .session .source) (tapePart k) (scsiStepped (k .session .login) (k .session .changer) q a .part))
   unfolding judged isClose verdict outcome onto choose
   scsi-served _ (of-scsi q) = of-scsi-request q
   scsi-served _ (unknown _) = scsi-alike Request.Unknown (isLocked (k .session .login) _) (refuse _)
   scsi-served _ (bad _) = scsi-alike Request.Bad (isLocked (k .session .login) _) (refuse _)
 
   scsi-gives : (v : Bool) → keeps (k .session) ≡ v → Asks ScsiService a
-      → Gives a (answered k l (a .request)) (turn v (scsiBy (k .session .login)) (k .session .changer) a)
+      → Gives a (answered k (withList a l) (a .request)) (turn v (scsiBy (k .session .login)) (k .session .changer) a)
       (ended v (k .session) 1 (k .session .source) (tapePart k) (next v (scsiBy (k .session .login)) (k .session .changer) a))
   unfolding turn next ended counts marks choose unstamped
-  scsi-gives true e h = rw (reaches true ScsiService k l a e o h w) (scsi-served (requestIn (a .request)) (own-request ScsiService a h))
-  scsi-gives false e h = rw (reaches false ScsiService k l a e o h w) (record { what = refl; quiet = refl; next = refl })
+  scsi-gives true e h = rw (reaches true ScsiService k (withList a l) a e o h w) (scsi-served (requestIn (a .request)) (own-request ScsiService a h))
+  scsi-gives false e h = rw (reaches false ScsiService k (withList a l) a e o h w) (record { what = refl; quiet = refl; next = refl })
 
   scsi-valid : (v : Bool) → keeps (k .session) ≡ v → Asks ScsiService a → keeps
       (ended v (k .session) 1 (k .session .source) (tapePart k) (next v (scsiBy (k .session .login)) (k .session .changer) a) .session) ≡ v
   unfolding next ended counts marks choose
-  scsi-valid true e h = ap (λ (x : Kept). keeps (x .session)) (sym (scsi-gives true e h .next)) ∙ kept k l (a .request) e
+  scsi-valid true e h = ap (λ (x : Kept). keeps (x .session)) (sym (scsi-gives true e h .next)) ∙ kept k (withList a l) (a .request) e
   scsi-valid false e h = e
 
 -- ---- a service's replies: the first is its own, or another's
@@ -292,7 +292,7 @@ others d e g gs q t = rw (repliesTo, q, t)
 module _ (v : Bool) (k : Kept) (xs ys zs : List Ask) (ws : List Call) (a : Ask) (l : Lent) (e : keeps (k .session) ≡ v) (o : k .session .closed ≡ false)
     (w : leastRoom ≤ l .room) where
   abbrev here : Call
-  here = record { ask = a; lent = l }
+  here = record { ask = a; lent = withList a l }
 
   abbrev data-next : Kept
   data-next = ended v (k .session) 1 (next v (dataBy (k .session .login)) (k .session .source) a) (tapePart k) (k .session .changer)
@@ -347,21 +347,21 @@ ends : (v : Bool) (k : Kept) {xs ys zs : List Ask} {ws : List Call} → Merge xs
     → Each (Asks DataService) xs → Each (Asks TapeService) ys → Each (Asks ScsiService) zs → Each Roomy ws → Ends v k xs ys zs (length ws) (run k ws)
 unfolding run turns last ended counts marks repliesTo
 ends v k done e o hx hy hz hw = record { data-replies = refl; tape-replies = refl; scsi-replies = refl; codes = tt; quiet = refl; end = refl }
-ends v k (left {a = a} {l = l} {xs = xs} {ys = ys} {zs = zs} {ws = ws} m) e o hx hy hz hw =
+ends v k (left {a = a} l {xs = xs} {ys = ys} {zs = zs} {ws = ws} m) e o hx hy hz hw =
     data-more v k xs ys zs ws a l e o (hw .0) (hx .0)
     (ends v (data-next v k xs ys zs ws a l e o (hw .0)) m (data-valid k l a o (hw .0) v e (hx .0)) o (hx .1) hy hz (hw .1))
-ends v k (middle {a = a} {l = l} {xs = xs} {ys = ys} {zs = zs} {ws = ws} m) e o hx hy hz hw =
+ends v k (middle {a = a} l {xs = xs} {ys = ys} {zs = zs} {ws = ws} m) e o hx hy hz hw =
     tape-more v k xs ys zs ws a l e o (hw .0) (hy .0)
     (ends v (tape-next v k xs ys zs ws a l e o (hw .0)) m (tape-valid k l a o (hw .0) v e (hy .0)) o hx (hy .1) hz (hw .1))
-ends v k (right {a = a} {l = l} {xs = xs} {ys = ys} {zs = zs} {ws = ws} m) e o hx hy hz hw =
+ends v k (right {a = a} l {xs = xs} {ys = ys} {zs = zs} {ws = ws} m) e o hx hy hz hw =
     scsi-more v k xs ys zs ws a l e o (hw .0) (hz .0)
     (ends v (scsi-next v k xs ys zs ws a l e o (hw .0)) m (scsi-valid k l a o (hw .0) v e (hz .0)) o hx hy (hz .1) (hw .1))
 
 merged : {xs ys zs : List Ask} {ws : List Call} → Merge xs ys zs ws → length ws ≡ length xs + length ys + length zs
 merged done = refl
-merged (left m) = let h = merged m in omega arith
-merged (middle m) = let h = merged m in omega arith
-merged (right m) = let h = merged m in omega arith
+merged (left l m) = let h = merged m in omega arith
+merged (middle l m) = let h = merged m in omega arith
+merged (right l m) = let h = merged m in omega arith
 
 pub any-order : AnyOrder
 any-order k o xs ys zs hx hy hz v w mv mw rv rw′ =

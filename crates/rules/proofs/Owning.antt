@@ -68,7 +68,7 @@ mover-rows MoverKind.Size s = of-mover _
 
 -- a body is read to its message's row, or does not decode
 read-owned : (d : Service) (m : Message) (b : List ℕ) → ((s : Scan) → Owned d (requestOf m s)) → Owned d (readBy m b)
-read-owned d m b h = by-test (Owned d) (scanned (layoutOf m) b .ok) (requestOf m (scanned (layoutOf m) b)) Request.Bad (λ _. h _) (λ _. bad d)
+read-owned d m b h = by-test (Owned d) (scanned (layoutOf m b) b .ok) (requestOf m (scanned (layoutOf m b) b)) Request.Bad (λ _. h _) (λ _. bad d)
 
 pub owned : (m : Message) (n : ℕ) (b : List ℕ) → Owned (serviceOf m n) (decoded m b)
 unfolding serviceOf decoded scsiBody tapeBody dataBody moverBody

@@ -1,12 +1,17 @@
 -- Every answer can be sent: what its reply copies is there. Assumes nothing.
 use Prim.Native.Nat.{ℕ, _≤_}
-use mathlib.Core.Bool.{Bool}
+use mathlib.Core.Bool.{Bool, true, false, not}
+use mathlib.Core.Path.{_≡_, refl, sym, _∙_}
+use native.Mathlib.Omega.{arith}
 use mathlib.Core.List.{List, []}
-use lib.ListN.{getD}
+use lib.ListN.{length, getD}
 use lib.Dec.{eqb}
-use Rattle.codes.specs.Codes.{senseBytes}
-use Rattle.xdr.specs.Choose.{least}
-use Rattle.xdr.proofs.Tests.{by-test, least-right}
+use borrow.Author.Tests.{eqb-true, ltb-false}
+use Rattle.codes.specs.Codes.{senseBytes, tcpAddress, mostLent}
+use Rattle.xdr.specs.Choose.{choose, least}
+use Rattle.xdr.proofs.Tests.{by-test, least-right, yes}
+use Rattle.wire_layouts.specs.AddressLists.{lendable}
+use Rattle.rules_parts.proofs.Addressing.{tcp-right}
 use Rattle.tape_ops.proofs.Reading.{Copied, read-copies}
 use Rattle.wire_requests.specs.Within.{bytesAt}
 use Rattle.wire_requests.specs.declared.ConnectRequest.{ConnectRequest}
@@ -35,6 +40,7 @@ use Rattle.rules.specs.DataService.{dataState, dataListen, dataStart, da
 use Rattle.rules.specs.MoverService.{moverState, moverListen, moverContinue, moverStop, setWindow, moverRead, setSize, moverStep}
 use Rattle.rules.specs.TapeService.{Loaded, tapeOpen, tapeClose, tapeState, tapeMtio, tapeWrite, tapeRead, deviceStep}
 use Rattle.rules.specs.ScsiService.{scsiOpen, scsiClear, scsiState, senseLength, runCdb, scsiCdb, scsiStep}
+use Rattle.rules.specs.Addresses.{listenWrong, listening}
 use Rattle.rules.specs.Joint.{dataConnect, moverConnect, dataAbort, moverAbort, moverClose, jointStep}
 use Rattle.rules.specs.Connection.{Account, connectOpen, clientAuth, connectStep, configStep}
 use Rattle.rules.proofs.JudgeLaws.{judged-by, accepts}
@@ -47,21 +53,38 @@ sense-length cdb room = least-right (least (getD cdb 4 0) room) senseBytes
 abbrev Sends : {A : Type 0} → Reply → A → Type 0
 Sends r _ = Sendable r []
 
-pub data-sends : (d : Data) (q : DataRequest) (body : List ℕ) → Accepts Sends (dataStep d q body)
-unfolding dataStep dataState dataListen dataStart dataStop Sendable
-data-sends d DataRequest.State body = accepts Sends _ _ _ (λ _. tt)
-data-sends d (DataRequest.Backup name) body = accepts Sends _ _ _ (λ _. tt)
-data-sends d (DataRequest.Recover name) body = accepts Sends _ _ _ (λ _. tt)
-data-sends d DataRequest.Stop body = accepts Sends _ _ _ (λ _. tt)
-data-sends d (DataRequest.Listen address) body = accepts Sends _ _ _ (λ _. tt)
+-- a listen by TCP is accepted only with a list that can be lent
+short-by : (b x : Bool) → choose b false x ≡ true → b ≡ false
+unfolding choose
+short-by true x e = absurd (let z : _≡_ {A = ℕ} 0 1 = cc in omega arith)
+short-by false x e = refl
 
-pub joint-sends : (d : Data) (m : Mover) (t : Tape) (q : JointRequest) → Accepts Sends (jointStep d m t q)
+short : (list : List ℕ) → lendable list ≡ true → length list ≤ mostLent
+unfolding lendable
+short list h = ltb-false mostLent (length list) (short-by _ _ h)
+
+listening-sends : (address : ℕ) (list : List ℕ) → listenWrong address list ≡ false → Sendable (listening address) list
+unfolding listening Sendable
+listening-sends address list h =
+    by-test (λ (r : Reply). Sendable r list) (eqb address tcpAddress) _ _
+    (λ e. short list (yes (sym (tcp-right (not (lendable list))) ∙ (rw (eqb-true address tcpAddress e) at h)))) (λ _. tt)
+
+-- of the data end, with the list that it is lent
+pub data-sends : (d : Data) (q : DataRequest) (body list : List ℕ) → Accepts (λ r _. Sendable r list) (dataStep d q body list)
+unfolding dataStep dataState dataListen dataStart dataStop Sendable
+data-sends d DataRequest.State body list = accepts (λ r _. Sendable r list) _ _ _ (λ _. tt)
+data-sends d (DataRequest.Backup name) body list = accepts (λ r _. Sendable r list) _ _ _ (λ _. tt)
+data-sends d (DataRequest.Recover name) body list = accepts (λ r _. Sendable r list) _ _ _ (λ _. tt)
+data-sends d DataRequest.Stop body list = accepts (λ r _. Sendable r list) _ _ _ (λ _. tt)
+data-sends d (DataRequest.Listen address) body list = accepts (λ r _. Sendable r list) _ _ _ (λ g. listening-sends address list (g 1))
+
+pub joint-sends : (d : Data) (m : Mover) (t : Tape) (q : JointRequest) (made : Bool) → Accepts Sends (jointStep d m t q made)
 unfolding jointStep dataAbort dataConnect moverAbort moverClose moverConnect Sendable
-joint-sends d m t JointRequest.DataAbort = accepts Sends _ _ _ (λ _. tt)
-joint-sends d m t (JointRequest.DataConnect address) = accepts Sends _ _ _ (λ _. tt)
-joint-sends d m t JointRequest.MoverAbort = accepts Sends _ _ _ (λ _. tt)
-joint-sends d m t JointRequest.MoverClose = accepts Sends _ _ _ (λ _. tt)
-joint-sends d m t (JointRequest.MoverConnect mode address) = accepts Sends _ _ _ (λ _. tt)
+joint-sends d m t JointRequest.DataAbort made = accepts Sends _ _ _ (λ _. tt)
+joint-sends d m t (JointRequest.DataConnect address count) made = accepts Sends _ _ _ (λ _. tt)
+joint-sends d m t JointRequest.MoverAbort made = accepts Sends _ _ _ (λ _. tt)
+joint-sends d m t JointRequest.MoverClose made = accepts Sends _ _ _ (λ _. tt)
+joint-sends d m t (JointRequest.MoverConnect mode address count) made = accepts Sends _ _ _ (λ _. tt)
 
 run-sends : (c : Changer) (cdb : List ℕ) (room : ℕ) → Accepts Sends (runCdb c cdb room)
 unfolding runCdb Sendable Accepts
@@ -89,16 +112,16 @@ unfolding configStep Sendable Accepts
 config-sends g ConfigRequest.ConnectionType = tt
 config-sends g ConfigRequest.ServerInfo = tt
 
--- of the mover, whatever the image
-pub mover-sends : (m : Mover) (t : Tape) (q : MoverRequest) (image : List ℕ) → Accepts (λ r _. Sendable r image) (moverStep m t q)
+-- of the mover, with the list that it is lent
+pub mover-sends : (m : Mover) (t : Tape) (q : MoverRequest) (list : List ℕ) → Accepts (λ r _. Sendable r list) (moverStep m t q list)
 unfolding moverStep moverState moverListen moverContinue moverStop setWindow moverRead setSize Sendable
-mover-sends m t MoverRequest.State image = accepts (λ r _. Sendable r image) _ _ _ (λ _. tt)
-mover-sends m t (MoverRequest.Listen mode address) image = accepts (λ r _. Sendable r image) _ _ _ (λ _. tt)
-mover-sends m t MoverRequest.Continue image = accepts (λ r _. Sendable r image) _ _ _ (λ _. tt)
-mover-sends m t MoverRequest.Stop image = accepts (λ r _. Sendable r image) _ _ _ (λ _. tt)
-mover-sends m t (MoverRequest.Window offset length) image = accepts (λ r _. Sendable r image) _ _ _ (λ _. tt)
-mover-sends m t (MoverRequest.Read offset length) image = accepts (λ r _. Sendable r image) _ _ _ (λ _. tt)
-mover-sends m t (MoverRequest.Size size) image = accepts (λ r _. Sendable r image) _ _ _ (λ _. tt)
+mover-sends m t MoverRequest.State list = accepts (λ r _. Sendable r list) _ _ _ (λ _. tt)
+mover-sends m t (MoverRequest.Listen mode address) list = accepts (λ r _. Sendable r list) _ _ _ (λ g. listening-sends address list (g 6))
+mover-sends m t MoverRequest.Continue list = accepts (λ r _. Sendable r list) _ _ _ (λ _. tt)
+mover-sends m t MoverRequest.Stop list = accepts (λ r _. Sendable r list) _ _ _ (λ _. tt)
+mover-sends m t (MoverRequest.Window offset length) list = accepts (λ r _. Sendable r list) _ _ _ (λ _. tt)
+mover-sends m t (MoverRequest.Read offset length) list = accepts (λ r _. Sendable r list) _ _ _ (λ _. tt)
+mover-sends m t (MoverRequest.Size size) list = accepts (λ r _. Sendable r list) _ _ _ (λ _. tt)
 
 -- a reply of the tape, with the image after it
 abbrev SendsHere : Reply → Loaded → Type 0

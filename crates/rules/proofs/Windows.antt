@@ -1,6 +1,10 @@
 -- The rules of windows, and what holds of every request. Assumes nothing.
 use Prim.Native.Nat.{ℕ}
+use mathlib.Core.Bool.{Bool}
 use mathlib.Core.Path.{_≡_, refl}
+use lib.Dec.{eqb}
+use Rattle.xdr.specs.Choose.{choose}
+use Rattle.xdr.proofs.Tests.{by-test}
 use Rattle.rules_parts.specs.declared.types.Data.{Data}
 use Rattle.rules_parts.specs.declared.types.Mover.{Mover}
 use Rattle.rules_parts.specs.declared.types.Tape.{Tape}
@@ -12,6 +16,7 @@ use Rattle.rules.specs.Joint.{joined, dataConnect, moverConnect}
 use Rattle.rules.specs.Promises.{Stopped, Promises}
 use Rattle.rules.proofs.JudgeLaws.{accepts}
 use Rattle.rules.proofs.Endless.{endless-rules}
+use Rattle.rules.proofs.Tcp.{tcp-rules}
 use Rattle.rules.proofs.Kept.{mover-kept}
 use Rattle.rules.proofs.Keeping.{data-keeps, tape-keeps, mover-part-keeps, joint-keeps}
 
@@ -43,16 +48,18 @@ sought m offset length = accepts (λ _ (next : Mover). (next .seek ≡ offset) �
 
 continued : (m : Mover) (t : Tape) → Accepts (λ _ next. next .origin ≡ t .position) (moverContinue m t)
 unfolding moverContinue
-continued m t = accepts (λ _ (next : Mover). next .origin ≡ t .position) _ _ (moverRuns (m .mode) (t .position) m) (λ _. refl)
+continued m t = accepts (λ _ (next : Mover). next .origin ≡ t .position) _ _ (moverRuns (m .mode) (m .address) (t .position) m) (λ _. refl)
 
 module _ (d : Data) (m : Mover) (t : Tape) where
-  source-connected : (address : ℕ) → Accepts (λ _ next. next .mover .origin ≡ t .position) (dataConnect d m t address)
-  unfolding dataConnect
-  source-connected address = accepts (λ _ (next : Ends). next .mover .origin ≡ t .position) _ _ (joined d m (m .mode) (t .position)) (λ _. refl)
+  source-connected : (count : ℕ) (made : Bool) → Accepts (λ _ next. next .mover .origin ≡ t .position) (dataConnect d m t 0 count made)
+  unfolding dataConnect choose
+  source-connected count made = accepts (λ _ (next : Ends). next .mover .origin ≡ t .position) _ _ (joined d m (m .mode) (t .position)) (λ _. refl)
 
-  mover-connected : (mode address : ℕ) → Accepts (λ _ next. next .mover .origin ≡ t .position) (moverConnect d m t mode address)
+  mover-connected : (mode address count : ℕ) (made : Bool) → Accepts (λ _ next. next .mover .origin ≡ t .position) (moverConnect d m t mode address count made)
   unfolding moverConnect
-  mover-connected mode address = accepts (λ _ (next : Ends). next .mover .origin ≡ t .position) _ _ (joined d m mode (t .position)) (λ _. refl)
+  mover-connected mode address count made =
+      accepts (λ _ (next : Ends). next .mover .origin ≡ t .position) _ _ _
+      (λ _. by-test (λ (next : Ends). next .mover .origin ≡ t .position) (eqb address 1) _ _ (λ _. refl) (λ _. refl))
 
 pub promises : Promises
 promises =
@@ -67,4 +74,5 @@ promises =
         mover-connected = mover-connected;
       };
       endless = endless-rules;
+      tcp = tcp-rules;
     }

@@ -40,11 +40,14 @@ pub record Kept : Type 0 where
   pub session : Session
   pub image : List ℕ
 
--- what is lent with one call: the account, the time stamp, and the length of the output
+-- what is lent with one call: the account, the time stamp, and the length of the output; the list that a listen by TCP answers; and whether the
+-- connection of a connect by TCP was made
 pub record Lent : Type 0 where
   pub account : Account
   pub time : ℕ
   pub room : ℕ
+  pub addresses : List ℕ
+  pub made : Bool
 
 abbrev pub held : Session → List ℕ → Kept
 held s image = record { session = s; image = image }
@@ -72,7 +75,7 @@ guarded s room idle x =
     (choose (s .closed) (idle 0)
     x))
 
--- a reply to the record r, whose bytes of a read lie in `shown`; k has the session with its next parts
+-- a reply to the record r, whose lent bytes, those of a read or a list of addresses, lie in `shown`; k has the session with its next parts
 abbrev pub replying : List ℕ → ℕ → Reply → List ℕ → Kept → Answered
 replying r time reply shown k =
     record {
@@ -97,7 +100,7 @@ noticed time why n a =
 abbrev pub halting : ℕ → ℕ → ℕ → Answered → Answered
 halting time dwhy mwhy a = noticed time mwhy (Notice.MoverHalted mwhy) (noticed time dwhy (Notice.DataHalted dwhy) a)
 
--- ---- what an accepted request comes to: what is passed on, what a read's reply shows bytes of, and why each end halted, or 0
+-- ---- what an accepted request comes to: what is passed on, what its reply shows bytes of, and why each end halted, or 0
 pub record Done : Type 0 where
   pub kept : Kept
   pub shown : List ℕ
@@ -111,11 +114,14 @@ quietly k shown = record { kept = k; shown = shown; dwhy = 0; mwhy = 0 }
 abbrev pub tapePart : Kept → TapePart
 tapePart k = record { mover = k .session .mover; tape = k .session .tape; image = k .image }
 
-abbrev pub withData : Kept → Data → Done
-withData k d = let s = k .session in quietly (held (withParts s (s .login) d (s .mover) (s .tape) (s .changer)) (k .image)) []
+abbrev pub withData : Kept → List ℕ → Data → Done
+withData k list d = let s = k .session in quietly (held (withParts s (s .login) d (s .mover) (s .tape) (s .changer)) (k .image)) list
+
+abbrev pub withPart : Kept → List ℕ → TapePart → Done
+withPart k shown p = let s = k .session in quietly (held (withParts s (s .login) (s .source) (p .mover) (p .tape) (s .changer)) (p .image)) shown
 
 abbrev pub withTape : Kept → TapePart → Done
-withTape k p = let s = k .session in quietly (held (withParts s (s .login) (s .source) (p .mover) (p .tape) (s .changer)) (p .image)) (p .image)
+withTape k p = withPart k (p .image) p
 
 abbrev pub withChanger : Kept → Changer → Done
 withChanger k c = let s = k .session in quietly (held (withParts s (s .login) (s .source) (s .mover) (s .tape) c) (k .image)) []
@@ -144,9 +150,9 @@ outcome k l r (Request.Connect q) = onto (withLogin k) (connectStep (k .session 
 outcome k l r (Request.Config q) = onto (withLogin k) (configStep (k .session .login) q)
 outcome k l r (Request.Scsi q) = onto (withChanger k) (scsiStep (k .session .changer) q (bodyOf r))
 outcome k l r (Request.Tape q) = onto (withTape k) (tapeStep (tapePart k) q (bodyOf r))
-outcome k l r (Request.Data q) = onto (withData k) (dataStep (k .session .source) q (bodyOf r))
-outcome k l r (Request.Mover q) = onto (withTape k) (moverPartStep (tapePart k) q)
-outcome k l r (Request.Joint q) = onto (withEnds k) (jointStep (k .session .source) (k .session .mover) (k .session .tape) q)
+outcome k l r (Request.Data q) = onto (withData k (l .addresses)) (dataStep (k .session .source) q (bodyOf r) (l .addresses))
+outcome k l r (Request.Mover q) = onto (withPart k (l .addresses)) (moverPartStep (tapePart k) q (l .addresses))
+outcome k l r (Request.Joint q) = onto (withEnds k) (jointStep (k .session .source) (k .session .mover) (k .session .tape) q (l .made))
 
 -- "4: before auth, all but CONNECT and 0x108"
 unfoldable pub needsLogin : Request → Bool

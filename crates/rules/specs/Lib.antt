@@ -1,4 +1,5 @@
 pub mod Judge
+pub mod Addresses
 pub mod DataService
 pub mod MoverService
 pub mod TapeService
@@ -7,6 +8,7 @@ pub mod Joint
 pub mod Connection
 pub mod Relation
 pub mod Endless
+pub mod Tcp
 pub mod Promises
 pub mod Answer
 pub mod Order

@@ -3,15 +3,16 @@ use Prim.Native.Nat.{ℕ, _/_, _%_}
 use mathlib.Core.Bool.{Bool, false, not}
 use mathlib.Core.List.{List, [], _∷_}
 use lib.Dec.{eqb, ltb}
-use Rattle.codes.specs.Codes.{localAddress, permissionDenied, notOpen, illegalArguments, illegalState, readInProgress, precondition}
+use Rattle.codes.specs.Codes.{permissionDenied, notOpen, illegalArguments, illegalState, readInProgress, precondition}
 use Rattle.xdr.specs.Choose.{choose}
 use Rattle.wire_requests.specs.declared.MoverRequest.{MoverRequest}
 use Rattle.wire_requests.specs.declared.MoverRequest.the-variants.{State, Listen, Continue, Stop, Window, Read, Size}
 use Rattle.wire_replies.specs.declared.MoverView.{MoverView}
-use Rattle.wire_replies.specs.declared.Reply.the-variants.{Plain, Listening, MoverState}
+use Rattle.wire_replies.specs.declared.Reply.the-variants.{Plain, MoverState}
 use Rattle.rules_parts.specs.declared.types.Mover.{Mover}
 use Rattle.rules_parts.specs.declared.types.Tape.{Tape}
 use Rattle.rules_parts.specs.Names.{moverIdle, moverActive, moverPaused, moverHalted, toTapeMode, fromTapeMode, largestSize}
+use Rattle.rules.specs.Addresses.{listenWrong, listening}
 use Rattle.rules.specs.Judge.{Test, test, Outcome, accept, judge}
 use Rattle.rules_parts.specs.Parts.{restMover, moverListens, moverRuns, moverWindow, moverSize, moverSeeks, unwritable, pastTop, lengthWrong, toldIn}
 
@@ -28,6 +29,7 @@ moverView m =
       pause = toldIn moverPaused (m .state) (m .pause);
       halt = toldIn moverHalted (m .state) (m .halt);
       size = m .size;
+      address = m .address;
       number = recordNumber (m .moved) (m .size);
       moved = m .moved;
       seek = m .seek;
@@ -44,22 +46,23 @@ unfoldable pub offsetWrong : ℕ → ℕ → Bool
 offsetWrong mode offset = choose (eqb mode toTapeMode) (not (eqb offset 0)) false
 
 -- What listen and connect ask of the mover. "mover listen, connect, continue with no tape: 6"; own end IDLE; mode 0 with a tape open
--- read-only: 5; "26 if record size or window is unset, or mode 0 with offset not 0"; "Address types other than LOCAL: 9. Mover mode 0
--- goes to tape, 1 from tape; others: 9."
-abbrev pub joinTests : Mover → Tape → ℕ → ℕ → List Test
-joinTests m t mode address =
+-- read-only: 5; "26 if record size or window is unset, or mode 0 with offset not 0"; an address that is wrong: 9; "Mover mode 0 goes to tape, 1 from
+-- tape; others: 9."
+abbrev pub joinTests : Mover → Tape → ℕ → Bool → List Test
+joinTests m t mode wrong =
     test (not (t .opened)) notOpen
     ∷ test (not (eqb (m .state) moverIdle)) illegalState
     ∷ test (unwritable mode (t .writable)) permissionDenied
     ∷ test (eqb (m .size) 0) precondition
     ∷ test (eqb (m .length) 0) precondition
     ∷ test (offsetWrong mode (m .offset)) precondition
-    ∷ test (not (eqb address localAddress)) illegalArguments
+    ∷ test wrong illegalArguments
     ∷ test (ltb fromTapeMode mode) illegalArguments
     ∷ []
 
-unfoldable pub moverListen : Mover → Tape → ℕ → ℕ → Outcome Mover
-moverListen m t mode address = judge (joinTests m t mode address) (accept Listening (moverListens mode m))
+unfoldable pub moverListen : Mover → Tape → ℕ → ℕ → List ℕ → Outcome Mover
+moverListen m t mode address list =
+    judge (joinTests m t mode (listenWrong address list)) (accept (listening address) (moverListens mode address m))
 
 -- "Continue: PAUSED only; 26 if no window was set since the pause."
 unfoldable pub moverContinue : Mover → Tape → Outcome Mover
@@ -70,7 +73,7 @@ moverContinue m t =
     ∷ test (unwritable (m .mode) (t .writable)) permissionDenied
     ∷ test (eqb (m .length) 0) precondition
     ∷ [])
-    (accept Plain (moverRuns (m .mode) (t .position) m))
+    (accept Plain (moverRuns (m .mode) (m .address) (t .position) m))
 
 -- "Stop: HALTED to IDLE, all variables of its own end reset but the record size."
 unfoldable pub moverStop : Mover → Outcome Mover
@@ -116,11 +119,12 @@ setSize m size =
     judge (test (not (eqb (m .state) moverIdle)) illegalState ∷ test (eqb size 0) illegalArguments ∷ test (ltb largestSize size) illegalArguments ∷ [])
     (accept Plain (moverSize size m))
 
-unfoldable pub moverStep : Mover → Tape → MoverRequest → Outcome Mover
-moverStep m t State = moverState m
-moverStep m t (Listen mode address) = moverListen m t mode address
-moverStep m t Continue = moverContinue m t
-moverStep m t Stop = moverStop m
-moverStep m t (Window offset length) = setWindow m offset length
-moverStep m t (Read offset length) = moverRead m offset length
-moverStep m t (Size size) = setSize m size
+-- the mover step: the mover, the tape, the request, and the list that a listen by TCP is lent
+unfoldable pub moverStep : Mover → Tape → MoverRequest → List ℕ → Outcome Mover
+moverStep m t State list = moverState m
+moverStep m t (Listen mode address) list = moverListen m t mode address list
+moverStep m t Continue list = moverContinue m t
+moverStep m t Stop list = moverStop m
+moverStep m t (Window offset length) list = setWindow m offset length
+moverStep m t (Read offset length) list = moverRead m offset length
+moverStep m t (Size size) list = setSize m size

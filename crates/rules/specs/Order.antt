@@ -82,21 +82,26 @@ serviceNumber ControlService = 4
 unfoldable pub sameService : Service → Service → Bool
 sameService d e = eqb (serviceNumber d) (serviceNumber e)
 
--- what is fixed of a call before the first one: the request's record
+-- what is fixed of a call before the first one: the request's record, and the list of addresses that it is lent, which belongs to it as its record does
 pub record Ask : Type 0 where
   pub request : List ℕ
+  pub addresses : List ℕ
 
 -- one call: what is asked, and what is lent with it
 pub record Call : Type 0 where
   pub ask : Ask
   pub lent : Lent
 
--- ws is made of the requests of xs, ys and zs, each list in its own order; each call is lent something of its own
+-- "In demand 3 each listen is lent the same list in every order": what is lent with a call, and the list that its request has
+abbrev pub withList : Ask → Lent → Lent
+withList a l = record { account = l .account; time = l .time; room = l .room; addresses = a .addresses; made = l .made }
+
+-- ws is made of the requests of xs, ys and zs, each list in its own order; each call is lent something of its own, but for the list of addresses
 pub data Merge : List Ask → List Ask → List Ask → List Call → Type 0 where
   done : Merge [] [] [] []
-  left : {a : Ask} {l : Lent} {xs ys zs : List Ask} {ws : List Call} → Merge xs ys zs ws → Merge (a ∷ xs) ys zs (record { ask = a; lent = l } ∷ ws)
-  middle : {a : Ask} {l : Lent} {xs ys zs : List Ask} {ws : List Call} → Merge xs ys zs ws → Merge xs (a ∷ ys) zs (record { ask = a; lent = l } ∷ ws)
-  right : {a : Ask} {l : Lent} {xs ys zs : List Ask} {ws : List Call} → Merge xs ys zs ws → Merge xs ys (a ∷ zs) (record { ask = a; lent = l } ∷ ws)
+  left : {a : Ask} (l : Lent) {xs ys zs : List Ask} {ws : List Call} → Merge xs ys zs ws → Merge (a ∷ xs) ys zs (record { ask = a; lent = withList a l } ∷ ws)
+  middle : {a : Ask} (l : Lent) {xs ys zs : List Ask} {ws : List Call} → Merge xs ys zs ws → Merge xs (a ∷ ys) zs (record { ask = a; lent = withList a l } ∷ ws)
+  right : {a : Ask} (l : Lent) {xs ys zs : List Ask} {ws : List Call} → Merge xs ys zs ws → Merge xs ys (a ∷ zs) (record { ask = a; lent = withList a l } ∷ ws)
 
 -- a well-framed request of a service, and no joint one: those have a service of their own. Its message may be unknown in the service's
 -- range, its body may not decode, and the session need not be authorized.

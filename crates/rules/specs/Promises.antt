@@ -3,6 +3,7 @@ use Prim.Native.Nat.{ℕ, _+_, _-_}
 use mathlib.Core.Bool.{Bool, true, false}
 use mathlib.Core.List.{List}
 use mathlib.Core.Path.{_≡_}
+use Rattle.codes.specs.Codes.{localAddress}
 use Rattle.wire_requests.specs.declared.DataRequest.{DataRequest}
 use Rattle.wire_requests.specs.declared.MoverRequest.{MoverRequest}
 use Rattle.wire_requests.specs.declared.TapeRequest.{TapeRequest}
@@ -12,7 +13,7 @@ use Rattle.rules_parts.specs.declared.types.Mover.{Mover}
 use Rattle.rules_parts.specs.declared.types.Tape.{Tape}
 use Rattle.rules_parts.specs.Names.{moverIdle, noMode}
 use Rattle.rules.specs.Judge.{Accepts}
-use Rattle.rules_parts.specs.Parts.{dataJoined, moverJoined, moverPauses, moverHands}
+use Rattle.rules_parts.specs.Parts.{dataPartnered, moverPartnered, moverPauses, moverHands}
 use Rattle.rules.specs.DataService.{dataStep}
 use Rattle.rules.specs.MoverService.{moverContinue, moverStop, moverRead, setSize}
 use Rattle.rules.specs.TapeService.{TapePart, tapeStep, moverPartStep}
@@ -20,6 +21,7 @@ use Rattle.rules.specs.declared.Ends.{Ends}
 use Rattle.rules.specs.Joint.{dataConnect, moverConnect, jointStep}
 use Rattle.rules.specs.Relation.{dataWrong, moverWrong, sameFlag, Legal}
 use Rattle.rules.specs.Endless.{EndlessRules}
+use Rattle.rules.specs.Tcp.{TcpRules}
 
 -- a step keeps what its part owes by itself, and what the other parts see of it
 pub record Keeps {A : Type 0} (wrong side : A → Bool) (p : A) (next : A) : Type 0 where
@@ -27,26 +29,26 @@ pub record Keeps {A : Type 0} (wrong side : A → Bool) (p : A) (next : A) : Typ
   pub sides : side next ≡ side p
 
 abbrev pub dataSide : Data → Bool
-dataSide d = dataJoined (d .state)
+dataSide d = dataPartnered d
 
 abbrev pub partWrong : TapePart → Bool
 partWrong p = moverWrong (p .mover) (p .tape)
 
 abbrev pub partSide : TapePart → Bool
-partSide p = moverJoined (p .mover .state)
+partSide p = moverPartnered (p .mover)
 
 pub record JointKeeps (t : Tape) (next : Ends) : Type 0 where
   pub source : dataWrong (next .source) ≡ false
   pub mover : moverWrong (next .mover) t ≡ false
-  pub joined : sameFlag (dataJoined (next .source .state)) (moverJoined (next .mover .state)) ≡ true
+  pub joined : sameFlag (dataPartnered (next .source)) (moverPartnered (next .mover)) ≡ true
 
 -- every accepted request keeps the relation; a refused one leaves its part, by type
 pub record RelationKept : Type 0 where
-  pub source : (d : Data) (q : DataRequest) (body : List ℕ) → Accepts (λ _ next. Keeps dataWrong dataSide d next) (dataStep d q body)
+  pub source : (d : Data) (q : DataRequest) (body list : List ℕ) → Accepts (λ _ next. Keeps dataWrong dataSide d next) (dataStep d q body list)
   pub tape : (p : TapePart) (q : TapeRequest) (body : List ℕ) → Accepts (λ _ next. Keeps partWrong partSide p next) (tapeStep p q body)
-  pub mover : (p : TapePart) (q : MoverRequest) → Accepts (λ _ next. Keeps partWrong partSide p next) (moverPartStep p q)
+  pub mover : (p : TapePart) (q : MoverRequest) (list : List ℕ) → Accepts (λ _ next. Keeps partWrong partSide p next) (moverPartStep p q list)
   pub joint : (d : Data) (m : Mover) (t : Tape) → dataWrong d ≡ false → moverWrong m t ≡ false
-      → sameFlag (dataJoined (d .state)) (moverJoined (m .state)) ≡ true → (q : JointRequest) → Accepts (λ _ next. JointKeeps t next) (jointStep d m t q)
+      → sameFlag (dataPartnered d) (moverPartnered m) ≡ true → (q : JointRequest) (made : Bool) → Accepts (λ _ next. JointKeeps t next) (jointStep d m t q made)
 
 -- "Stop: HALTED to IDLE, all variables of its own end reset but the record size."
 pub record Stopped (m next : Mover) : Type 0 where
@@ -72,13 +74,15 @@ pub record ReadRules : Type 0 where
   pub sought : (m : Mover) (offset length : ℕ) → Accepts (λ _ next. (next .seek ≡ offset) × (next .left ≡ length)) (moverRead m offset length)
   pub handed : (n : ℕ) (m : Mover) → (moverHands n m .seek ≡ m .seek + n) × (moverHands n m .left ≡ m .left - n)
   pub continued : (m : Mover) (t : Tape) → Accepts (λ _ next. next .origin ≡ t .position) (moverContinue m t)
-  pub source-connected : (d : Data) (m : Mover) (t : Tape) (address : ℕ)
-      → Accepts (λ _ next. next .mover .origin ≡ t .position) (dataConnect d m t address)
-  pub mover-connected : (d : Data) (m : Mover) (t : Tape) (mode address : ℕ)
-      → Accepts (λ _ next. next .mover .origin ≡ t .position) (moverConnect d m t mode address)
+  -- by LOCAL; a data connect by TCP leaves the mover, see `TcpRules`
+  pub source-connected : (d : Data) (m : Mover) (t : Tape) (count : ℕ) (made : Bool)
+      → Accepts (λ _ next. next .mover .origin ≡ t .position) (dataConnect d m t localAddress count made)
+  pub mover-connected : (d : Data) (m : Mover) (t : Tape) (mode address count : ℕ) (made : Bool)
+      → Accepts (λ _ next. next .mover .origin ≡ t .position) (moverConnect d m t mode address count made)
 
 pub record Promises : Type 0 where
   pub relation : RelationKept
   pub windows : WindowRules
   pub reads : ReadRules
   pub endless : EndlessRules
+  pub tcp : TcpRules

@@ -8,19 +8,21 @@ use Rattle.rules_parts.specs.declared.types.Data.{Data}
 use Rattle.rules_parts.specs.declared.types.Mover.{Mover}
 use Rattle.rules_parts.specs.declared.types.Tape.{Tape}
 use Rattle.rules_parts.specs.declared.types.Session.{Session}
-use Rattle.rules_parts.specs.Names.{dataConnected, moverListening, moverActive, moverPaused, moverHalted, toTapeMode, largestSize, top, endless}
-use Rattle.rules_parts.specs.Parts.{dataJoined, moverJoined, holdsTape, unwritable, pastTop, windowEnd, lengthWrong}
+use Rattle.rules_parts.specs.Names.{dataIdle, dataConnected, moverIdle, moverListening, moverActive, moverPaused, moverHalted, toTapeMode, largestSize, top, endless}
+use Rattle.rules_parts.specs.Parts.{dataPartnered, moverPartnered, addressWrong, holdsTape, unwritable, pastTop, windowEnd, lengthWrong}
 
 -- ---- each is true where something is wrong
+-- a state that is none; an address type that is none, or TCP in IDLE
 unfoldable pub dataWrong : Data → Bool
-dataWrong d = ltb dataConnected (d .state)
+dataWrong d = choose (ltb dataConnected (d .state)) true (addressWrong (d .address) (eqb (d .state) dataIdle))
 
--- numbers of the mover that no rule can use: a state, a record size, a seek position whose bytes left pass 2^64 - 1
+-- numbers of the mover that no rule can use: a state, a record size, an address type, a seek position whose bytes left pass 2^64 - 1
 unfoldable pub numbersWrong : Mover → Bool
 numbersWrong m =
     choose (ltb moverHalted (m .state)) true
     (choose (ltb largestSize (m .size)) true
-    (pastTop (m .seek) (m .left)))
+    (choose (addressWrong (m .address) (eqb (m .state) moverIdle)) true
+    (pastTop (m .seek) (m .left))))
 
 -- a window in force that set window would not have accepted
 unfoldable pub windowWrong : ℕ → ℕ → ℕ → Bool
@@ -76,7 +78,7 @@ moverWrong m t =
     (choose (placeWrong m) true
     (originWrong m t)))))
 
--- "Data is CONNECTED or ACTIVE exactly when the mover is ACTIVE or PAUSED"
+-- "Data is CONNECTED or ACTIVE exactly when the mover is ACTIVE or PAUSED": of ends that are so by LOCAL
 unfoldable pub sameFlag : Bool → Bool → Bool
 sameFlag true b = b
 sameFlag false b = not b
@@ -85,7 +87,7 @@ unfoldable pub keeps : Session → Bool
 keeps s =
     choose (dataWrong (s .source)) false
     (choose (moverWrong (s .mover) (s .tape)) false
-    (sameFlag (dataJoined (s .source .state)) (moverJoined (s .mover .state))))
+    (sameFlag (dataPartnered (s .source)) (moverPartnered (s .mover))))
 
 -- ---- the same in words, as facts: what `moverWrong m t ≡ false` says
 pub record Legal (size offset length : ℕ) : Type 0 where
@@ -109,6 +111,7 @@ pub record InWindow (size offset length moved : ℕ) : Type 0 where
 pub record MoverKept (m : Mover) (t : Tape) : Type 0 where
   pub states : m .state ≤ moverHalted
   pub sizes : m .size ≤ largestSize
+  pub types : addressWrong (m .address) (eqb (m .state) moverIdle) ≡ false
   pub seeks : m .seek + m .left ≤ top
   pub window : (m .length ≡ 0 → ⊥) → Legal (m .size) (m .offset) (m .length)
   pub start : m .state ≤ moverListening → m .moved ≡ 0

@@ -108,5 +108,5 @@ withMover p m = record { mover = m; tape = p .tape; image = p .image }
 unfoldable pub tapeStep : TapePart → TapeRequest → List ℕ → Outcome TapePart
 tapeStep p q body = onto (withLoaded p) (deviceStep (p .mover .state) (p .tape) (p .image) q body)
 
-unfoldable pub moverPartStep : TapePart → MoverRequest → Outcome TapePart
-moverPartStep p q = onto (withMover p) (moverStep (p .mover) (p .tape) q)
+unfoldable pub moverPartStep : TapePart → MoverRequest → List ℕ → Outcome TapePart
+moverPartStep p q list = onto (withMover p) (moverStep (p .mover) (p .tape) q list)

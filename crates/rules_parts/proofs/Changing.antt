@@ -27,11 +27,11 @@ pub session-begun : (closed : Bool) (sequence : ℕ) (d : Data) (m : Mover) → 
     → begun closed sequence d m ≡ newSession closed sequence
 session-begun closed sequence d m ed em = ap (λ (k : Data). begun closed sequence k m) ed ∙ ap (begun closed sequence restData) em
 
-abbrev moving : ℕ → ℕ → ℕ → ℕ → ℕ → ℕ → ℕ → ℕ → ℕ → ℕ → ℕ → Mover
-moving state mode pause halt size offset length seek left origin moved =
-    record { state = state; mode = mode; pause = pause; halt = halt; size = size; offset = offset; length = length; moved = moved; seek = seek; left = left; origin = origin }
+abbrev moving : ℕ → ℕ → ℕ → ℕ → ℕ → ℕ → ℕ → ℕ → ℕ → ℕ → ℕ → ℕ → Mover
+moving state mode pause halt size address offset length seek left origin moved =
+    record { state = state; mode = mode; pause = pause; halt = halt; size = size; address = address; offset = offset; length = length; moved = moved; seek = seek; left = left; origin = origin }
 
-pub mover-moved : (state mode pause halt size offset length seek left origin n k : ℕ) → n ≡ k
-    → moving state mode pause halt size offset length seek left origin n ≡ moving state mode pause halt size offset length seek left origin k
-mover-moved state mode pause halt size offset length seek left origin n k e =
-    ap (moving state mode pause halt size offset length seek left origin) e
+pub mover-moved : (state mode pause halt size address offset length seek left origin n k : ℕ) → n ≡ k
+    → moving state mode pause halt size address offset length seek left origin n ≡ moving state mode pause halt size address offset length seek left origin k
+mover-moved state mode pause halt size address offset length seek left origin n k e =
+    ap (moving state mode pause halt size address offset length seek left origin) e

@@ -2,6 +2,7 @@
 use Prim.Native.Nat.{ℕ, _+_, _-_, _%_}
 use mathlib.Core.Bool.{Bool, true, false, not}
 use lib.Dec.{eqb, ltb}
+use Rattle.codes.specs.Codes.{localAddress, tcpAddress}
 use Rattle.xdr.specs.Choose.{choose}
 use Rattle.rules_parts.specs.declared.types.Data.{Data}
 use Rattle.rules_parts.specs.declared.types.Mover.{Mover}
@@ -13,12 +14,12 @@ use Rattle.rules_parts.specs.Names.{dataIdle, dataActive, dataHalted, da
 
 -- the data end at rest
 abbrev pub restData : Data
-restData = record { state = dataIdle; operation = noOperation; reason = 0; processed = 0 }
+restData = record { state = dataIdle; operation = noOperation; reason = 0; address = localAddress; processed = 0 }
 
 -- the mover at rest, with its record size
 abbrev pub restMover : ℕ → Mover
 restMover size =
-    record { state = moverIdle; mode = noMode; pause = 0; halt = 0; size = size; offset = 0; length = 0; moved = 0; seek = 0; left = 0; origin = 0 }
+    record { state = moverIdle; mode = noMode; pause = 0; halt = 0; size = size; address = localAddress; offset = 0; length = 0; moved = 0; seek = 0; left = 0; origin = 0 }
 
 abbrev pub closedTape : Tape
 closedTape = record { opened = false; writable = false; position = 0 }
@@ -48,47 +49,48 @@ abbrev pub shut : Session → Session
 shut s = record { closed = true; first = s .first; login = s .login; sequence = s .sequence; source = s .source; mover = s .mover; tape = s .tape; changer = s .changer }
 
 -- ---- changes of the data end
-abbrev pub dataTo : ℕ → Data → Data
-dataTo state d = record { state = state; operation = d .operation; reason = d .reason; processed = d .processed }
+-- it listens or is joined, by an address of a type
+abbrev pub dataTo : ℕ → ℕ → Data → Data
+dataTo state address d = record { state = state; operation = d .operation; reason = d .reason; address = address; processed = d .processed }
 
 abbrev pub dataStarts : ℕ → Data → Data
-dataStarts operation d = record { state = dataActive; operation = operation; reason = d .reason; processed = d .processed }
+dataStarts operation d = record { state = dataActive; operation = operation; reason = d .reason; address = d .address; processed = d .processed }
 
 abbrev pub dataHalts : ℕ → Data → Data
-dataHalts why d = record { state = dataHalted; operation = d .operation; reason = why; processed = d .processed }
+dataHalts why d = record { state = dataHalted; operation = d .operation; reason = why; address = d .address; processed = d .processed }
 
 -- ---- changes of the mover
-abbrev pub moverListens : ℕ → Mover → Mover
-moverListens mode m =
-    record { state = moverListening; mode = mode; pause = m .pause; halt = m .halt; size = m .size; offset = m .offset; length = m .length; moved = m .moved; seek = m .seek; left = m .left; origin = m .origin }
+abbrev pub moverListens : ℕ → ℕ → Mover → Mover
+moverListens mode address m =
+    record { state = moverListening; mode = mode; pause = m .pause; halt = m .halt; size = m .size; address = address; offset = m .offset; length = m .length; moved = m .moved; seek = m .seek; left = m .left; origin = m .origin }
 
 -- it becomes ACTIVE with the tape at a position, which "stands for the window's offset"
-abbrev pub moverRuns : ℕ → ℕ → Mover → Mover
-moverRuns mode position m =
-    record { state = moverActive; mode = mode; pause = 0; halt = m .halt; size = m .size; offset = m .offset; length = m .length; moved = m .moved; seek = m .seek; left = m .left; origin = position }
+abbrev pub moverRuns : ℕ → ℕ → ℕ → Mover → Mover
+moverRuns mode address position m =
+    record { state = moverActive; mode = mode; pause = 0; halt = m .halt; size = m .size; address = address; offset = m .offset; length = m .length; moved = m .moved; seek = m .seek; left = m .left; origin = position }
 
 -- "A pause voids the window."
 abbrev pub moverPauses : ℕ → Mover → Mover
 moverPauses why m =
-    record { state = moverPaused; mode = m .mode; pause = why; halt = m .halt; size = m .size; offset = 0; length = 0; moved = m .moved; seek = m .seek; left = m .left; origin = m .origin }
+    record { state = moverPaused; mode = m .mode; pause = why; halt = m .halt; size = m .size; address = m .address; offset = 0; length = 0; moved = m .moved; seek = m .seek; left = m .left; origin = m .origin }
 
 abbrev pub moverHalts : ℕ → Mover → Mover
 moverHalts why m =
-    record { state = moverHalted; mode = m .mode; pause = 0; halt = why; size = m .size; offset = m .offset; length = m .length; moved = m .moved; seek = m .seek; left = m .left; origin = m .origin }
+    record { state = moverHalted; mode = m .mode; pause = 0; halt = why; size = m .size; address = m .address; offset = m .offset; length = m .length; moved = m .moved; seek = m .seek; left = m .left; origin = m .origin }
 
 abbrev pub moverWindow : ℕ → ℕ → Mover → Mover
 moverWindow offset length m =
-    record { state = m .state; mode = m .mode; pause = m .pause; halt = m .halt; size = m .size; offset = offset; length = length; moved = m .moved; seek = m .seek; left = m .left; origin = m .origin }
+    record { state = m .state; mode = m .mode; pause = m .pause; halt = m .halt; size = m .size; address = m .address; offset = offset; length = length; moved = m .moved; seek = m .seek; left = m .left; origin = m .origin }
 
 -- "an accepted call voids the window, also with the same size"
 abbrev pub moverSize : ℕ → Mover → Mover
 moverSize size m =
-    record { state = m .state; mode = m .mode; pause = m .pause; halt = m .halt; size = size; offset = 0; length = 0; moved = m .moved; seek = m .seek; left = m .left; origin = m .origin }
+    record { state = m .state; mode = m .mode; pause = m .pause; halt = m .halt; size = size; address = m .address; offset = 0; length = 0; moved = m .moved; seek = m .seek; left = m .left; origin = m .origin }
 
 -- "It sets seek position and bytes left."
 abbrev pub moverSeeks : ℕ → ℕ → Mover → Mover
 moverSeeks seek left m =
-    record { state = m .state; mode = m .mode; pause = m .pause; halt = m .halt; size = m .size; offset = m .offset; length = m .length; moved = m .moved; seek = seek; left = left; origin = m .origin }
+    record { state = m .state; mode = m .mode; pause = m .pause; halt = m .halt; size = m .size; address = m .address; offset = m .offset; length = m .length; moved = m .moved; seek = seek; left = left; origin = m .origin }
 
 -- ---- what moved bytes change. "Both are taken modulo 2^64"
 abbrev pub wrapped : ℕ → ℕ
@@ -96,17 +98,17 @@ wrapped n = n % 18446744073709551616
 
 -- n bytes of the stream were processed
 abbrev pub dataFed : ℕ → Data → Data
-dataFed n d = record { state = d .state; operation = d .operation; reason = d .reason; processed = wrapped (d .processed + n) }
+dataFed n d = record { state = d .state; operation = d .operation; reason = d .reason; address = d .address; processed = wrapped (d .processed + n) }
 
 -- "Bytes moved counts whole records to tape"
 abbrev pub moverRecords : Mover → Mover
 moverRecords m =
-    record { state = m .state; mode = m .mode; pause = m .pause; halt = m .halt; size = m .size; offset = m .offset; length = m .length; moved = wrapped (m .moved + m .size); seek = m .seek; left = m .left; origin = m .origin }
+    record { state = m .state; mode = m .mode; pause = m .pause; halt = m .halt; size = m .size; address = m .address; offset = m .offset; length = m .length; moved = wrapped (m .moved + m .size); seek = m .seek; left = m .left; origin = m .origin }
 
 -- "bytes handed over from tape": "handed over, added to seek position, taken off bytes left"
 abbrev pub moverHands : ℕ → Mover → Mover
 moverHands n m =
-    record { state = m .state; mode = m .mode; pause = m .pause; halt = m .halt; size = m .size; offset = m .offset; length = m .length; moved = wrapped (m .moved + n); seek = m .seek + n; left = m .left - n; origin = m .origin }
+    record { state = m .state; mode = m .mode; pause = m .pause; halt = m .halt; size = m .size; address = m .address; offset = m .offset; length = m .length; moved = wrapped (m .moved + n); seek = m .seek + n; left = m .left - n; origin = m .origin }
 
 -- where a window ends; the end itself is outside. 02 No. 1: all ones is "a window from the offset up to stream position 2^64 - 1, itself
 -- outside, whatever the record size"
@@ -135,6 +137,20 @@ dataJoined state = choose (eqb state dataActive) true (eqb state dataConnected)
 
 unfoldable pub moverJoined : ℕ → Bool
 moverJoined state = choose (eqb state moverActive) true (eqb state moverPaused)
+
+-- 02 No. 14: "A vault end joined by TCP has no local partner, so 01's rules on joined ends .. hold for LOCAL only": joined with the other end
+unfoldable pub dataPartnered : Data → Bool
+dataPartnered d = choose (eqb (d .address) localAddress) (dataJoined (d .state)) false
+
+unfoldable pub moverPartnered : Mover → Bool
+moverPartnered m = choose (eqb (m .address) localAddress) (moverJoined (m .state)) false
+
+-- 02 No. 14: an address type is LOCAL or TCP; and TCP is wrong where it is of no use: in a listen or connect without an address, at an end in IDLE
+unfoldable pub addressWrong : ℕ → Bool → Bool
+addressWrong address useless =
+    choose (eqb address localAddress) false
+    (choose (eqb address tcpAddress) useless
+    true)
 
 -- the mover holds the tape: LISTEN or ACTIVE
 unfoldable pub holdsTape : ℕ → Bool

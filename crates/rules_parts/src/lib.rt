@@ -2,7 +2,7 @@
 // that takes the part and hands back the next. Below the definitions of requests, so that an edit of those does not prove this code again.
 ghost use mathlib.Core.Path.{_≡_};
 ghost use Prim.Native.Nat.{_+_, _≤_};
-ghost use Rattle.rules_parts.specs.Parts.{restData, dataTo, dataStarts, dataHalts, restMover, moverListens, moverRuns, moverPauses, moverHalts, moverWindow, moverSize, moverSeeks, dataFed, moverRecords, moverHands, newSession, withParts, afterMessage, shut, windowEnd, pastTop, lengthWrong, toldIn, dataJoined, moverJoined, holdsTape, unwritable};
+ghost use Rattle.rules_parts.specs.Parts.{restData, dataTo, dataStarts, dataHalts, restMover, moverListens, moverRuns, moverPauses, moverHalts, moverWindow, moverSize, moverSeeks, dataFed, moverRecords, moverHands, newSession, withParts, afterMessage, shut, windowEnd, pastTop, lengthWrong, toldIn, dataJoined, moverJoined, dataPartnered, moverPartnered, addressWrong, holdsTape, unwritable};
 ghost use Rattle.rules_parts.specs.Names.{NamesAre, top};
 ghost use Rattle.rules_parts.specs.Holding.{PartsHold};
 
@@ -25,6 +25,19 @@ pub fn told_in(at: u32, state: u32, reason: u32) -> u32
         return reason;
     }
     0
+}
+
+// Whether an address type is neither LOCAL nor TCP, or is TCP where that is of no use.
+pub fn is_address_wrong(address: u32, useless: bool) -> bool
+    ensures { λ r. ⌜ r ≡ addressWrong address useless ⌝ }
+{
+    if address == codes::LOCAL_ADDRESS {
+        return false;
+    }
+    if address == codes::TCP_ADDRESS {
+        return useless;
+    }
+    true
 }
 
 // The states of the data end, what it runs, and why it halts.
@@ -61,6 +74,7 @@ impl Data {
             state: Data::IDLE,
             operation: Data::NO_OPERATION,
             reason: 0,
+            address: codes::LOCAL_ADDRESS,
             processed: 0,
         }
     }
@@ -73,11 +87,12 @@ impl Data {
             state: Data::ACTIVE,
             operation,
             reason: self.reason,
+            address: self.address,
             processed: self.processed,
         }
     }
 
-    // Whether it is joined with the mover.
+    // Whether it is joined, with the mover or by TCP.
     pub fn is_joined(self) -> bool
         ensures { λ r. ⌜ r ≡ dataJoined (self .state) ⌝ }
     {
@@ -87,14 +102,25 @@ impl Data {
         self.state == Data::CONNECTED
     }
 
-    // Goes to another state.
-    pub fn goes(self, state: u32) -> Data
-        ensures { λ r. ⌜ r ≡ dataTo state self ⌝ }
+    // Whether it is joined with the mover.
+    pub fn is_partnered(self) -> bool
+        ensures { λ r. ⌜ r ≡ dataPartnered self ⌝ }
+    {
+        if self.address == codes::LOCAL_ADDRESS {
+            return self.is_joined();
+        }
+        false
+    }
+
+    // Listens or is joined, by an address of a type.
+    pub fn goes(self, state: u32, address: u32) -> Data
+        ensures { λ r. ⌜ r ≡ dataTo state address self ⌝ }
     {
         Data {
             state,
             operation: self.operation,
             reason: self.reason,
+            address,
             processed: self.processed,
         }
     }
@@ -107,6 +133,7 @@ impl Data {
             state: Data::HALTED,
             operation: self.operation,
             reason: why,
+            address: self.address,
             processed: self.processed,
         }
     }
@@ -119,6 +146,7 @@ impl Data {
             state: self.state,
             operation: self.operation,
             reason: self.reason,
+            address: self.address,
             processed: std::num::wrapping_add_u64(self.processed, n),
         }
     }
@@ -219,7 +247,7 @@ impl Mover {
         state == Mover::ACTIVE
     }
 
-    // Whether it is joined with the data end.
+    // Whether it is joined, with the data end or by TCP.
     pub fn is_joined(self) -> bool
         ensures { λ r. ⌜ r ≡ moverJoined (self .state) ⌝ }
     {
@@ -229,9 +257,19 @@ impl Mover {
         self.state == Mover::PAUSED
     }
 
-    // Waits for the data end, in a mode.
-    pub fn listens(self, mode: u32) -> Mover
-        ensures { λ r. ⌜ r ≡ moverListens mode self ⌝ }
+    // Whether it is joined with the data end.
+    pub fn is_partnered(self) -> bool
+        ensures { λ r. ⌜ r ≡ moverPartnered self ⌝ }
+    {
+        if self.address == codes::LOCAL_ADDRESS {
+            return self.is_joined();
+        }
+        false
+    }
+
+    // Waits for its peer, in a mode, by an address of a type.
+    pub fn listens(self, mode: u32, address: u32) -> Mover
+        ensures { λ r. ⌜ r ≡ moverListens mode address self ⌝ }
     {
         Mover {
             state: Mover::LISTEN,
@@ -239,6 +277,7 @@ impl Mover {
             pause: self.pause,
             halt: self.halt,
             size: self.size,
+            address,
             offset: self.offset,
             length: self.length,
             moved: self.moved,
@@ -248,9 +287,9 @@ impl Mover {
         }
     }
 
-    // Becomes ACTIVE, with the tape at a position.
-    pub fn runs(self, mode: u32, position: usize) -> Mover
-        ensures { λ r. ⌜ r ≡ moverRuns mode position self ⌝ }
+    // Becomes ACTIVE by an address of a type, with the tape at a position.
+    pub fn runs(self, mode: u32, address: u32, position: usize) -> Mover
+        ensures { λ r. ⌜ r ≡ moverRuns mode address position self ⌝ }
     {
         Mover {
             state: Mover::ACTIVE,
@@ -258,6 +297,7 @@ impl Mover {
             pause: 0,
             halt: self.halt,
             size: self.size,
+            address,
             offset: self.offset,
             length: self.length,
             moved: self.moved,
@@ -277,6 +317,7 @@ impl Mover {
             pause: why,
             halt: self.halt,
             size: self.size,
+            address: self.address,
             offset: 0,
             length: 0,
             moved: self.moved,
@@ -296,6 +337,7 @@ impl Mover {
             pause: 0,
             halt: why,
             size: self.size,
+            address: self.address,
             offset: self.offset,
             length: self.length,
             moved: self.moved,
@@ -315,6 +357,7 @@ impl Mover {
             pause: self.pause,
             halt: self.halt,
             size: self.size,
+            address: self.address,
             offset,
             length,
             moved: self.moved,
@@ -334,6 +377,7 @@ impl Mover {
             pause: self.pause,
             halt: self.halt,
             size,
+            address: self.address,
             offset: 0,
             length: 0,
             moved: self.moved,
@@ -353,6 +397,7 @@ impl Mover {
             pause: self.pause,
             halt: self.halt,
             size: self.size,
+            address: self.address,
             offset: self.offset,
             length: self.length,
             moved: self.moved,
@@ -372,6 +417,7 @@ impl Mover {
             pause: self.pause,
             halt: self.halt,
             size: self.size,
+            address: self.address,
             offset: self.offset,
             length: self.length,
             moved: std::num::wrapping_add_u64(self.moved, self.size as u64),
@@ -392,6 +438,7 @@ impl Mover {
             pause: self.pause,
             halt: self.halt,
             size: self.size,
+            address: self.address,
             offset: self.offset,
             length: self.length,
             moved: std::num::wrapping_add_u64(self.moved, n),
@@ -418,6 +465,7 @@ impl Mover {
             pause: 0,
             halt: 0,
             size,
+            address: codes::LOCAL_ADDRESS,
             offset: 0,
             length: 0,
             moved: 0,

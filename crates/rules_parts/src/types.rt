@@ -1,17 +1,18 @@
 // The session and its parts, and what calls return, by value. This file holds nothing but the declarations, so that a host in Rust can include
 // it as it is.
 
-// The data end. The reason is why it halted; processed counts the stream's bytes.
+// The data end. The reason is why it halted; address is the type of its address, LOCAL or TCP; processed counts the stream's bytes.
 #[repr(C)]
 pub struct Data {
     pub state: u32,
     pub operation: u32,
     pub reason: u32,
+    pub address: u32,
     pub processed: u64,
 }
 
 // The mover. A window of length 0 is none, one of length 2^64 - 1 has no end; left is what a mover read has still to be given; origin is the
-// tape's position when the mover last became ACTIVE.
+// tape's position when the mover last became ACTIVE; address is the type of its address.
 #[repr(C)]
 pub struct Mover {
     pub state: u32,
@@ -19,6 +20,7 @@ pub struct Mover {
     pub pause: u32,
     pub halt: u32,
     pub size: u32,
+    pub address: u32,
     pub offset: u64,
     pub length: u64,
     pub moved: u64,

@@ -16,7 +16,7 @@ sub-t5 : tie.Need-sub-t5
 sub-t5 c = search needs
 
 returns : tie.Need-returns
-returns c = mover-moved _ _ _ _ _ _ _ _ _ _ _ _ (c .before .before .wrapping-add-u64 .ensures)
+returns c = mover-moved _ _ _ _ _ _ _ _ _ _ _ _ _ (c .before .before .wrapping-add-u64 .ensures)
 
 pub hands-spec : {M : Type 1} → statement M
 hands-spec = tie.close (tie.spec wrapping-add-u64-requires add-t4 sub-t5 returns)

@@ -13,7 +13,7 @@ wrapping-add-u64-requires : tie.Need-wrapping-add-u64-requires
 wrapping-add-u64-requires c κs = search needs
 
 returns : tie.Need-returns
-returns c = mover-moved _ _ _ _ _ _ _ _ _ _ _ _ (c .wrapping-add-u64 .ensures)
+returns c = mover-moved _ _ _ _ _ _ _ _ _ _ _ _ _ (c .wrapping-add-u64 .ensures)
 
 pub records-spec : {M : Type 1} → statement M
 records-spec = tie.close (tie.spec cast-wrapping-add-u64 wrapping-add-u64-requires returns)
