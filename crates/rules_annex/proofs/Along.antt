@@ -7,10 +7,10 @@ use native.Mathlib.Omega.{arith}
 use native.Mathlib.Nat.{mul-le-mul-right}
 use lib.ListN.{length}
 use lib.Dec.{eqb, ltb}
-use borrow.Author.Tests.{ltb-true, ltb-false}
+use borrow.Author.Tests.{ltb-true, ltb-false, eqb-true}
 use Rattle.xdr.specs.Choose.{choose}
 use Rattle.xdr.proofs.Tests.{by-test, is, isnt}
-use Rattle.tape_ops.specs.Step.{Step}
+use Rattle.tape_ops.specs.Step.{Step, keeping}
 use Rattle.wire_requests.specs.declared.MoverRequest.{MoverRequest}
 use Rattle.wire_requests.specs.declared.MoverRequest.the-variants as MoverRequest
 use Rattle.wire_requests.specs.declared.JointRequest.{JointRequest}
@@ -24,25 +24,25 @@ use Rattle.rules_parts.specs.declared.types.Tape.{Tape}
 use Rattle.rules_parts.specs.declared.types.Session.{Session}
 use Rattle.rules.specs.declared.Ends.{Ends}
 use Rattle.rules.specs.Judge.{Outcome, onto, Accepts}
-use Rattle.rules_parts.specs.Parts.{moverListens, moverRuns, moverPauses, moverHalts, moverWindow, moverSeeks, dataJoined, moverJoined, windowEnd}
+use Rattle.rules_parts.specs.Parts.{moverListens, moverRuns, moverPauses, moverHalts, moverWindow, moverSeeks, dataPartnered, moverPartnered, windowEnd}
 use Rattle.rules.specs.MoverService.{moverState, moverListen, moverContinue, moverStop, busy, setWindow, moverRead, setSize, moverStep}
 use Rattle.rules.specs.TapeService.{withLoaded, withMover, moverPartStep, tapeStep}
-use Rattle.rules.specs.Joint.{dataConnect, moverConnect, dataAborted, dataAbort, moverAborted, moverAbort, moverClose, jointStep}
+use Rattle.rules.specs.Joint.{dataConnect, moverConnect, dataAborted, dataAbort, moverAborted, moverAbort, moverClosed, moverClose, jointStep}
 use Rattle.rules.specs.Relation.{keeps, MoverKept}
-use Rattle.rules.specs.Answer.{Kept, Lent, Answered, answered, isClose, outcome, requestIn, Done, tapePart, withData, withTape, withChanger, withLogin, withEnds}
+use Rattle.rules.specs.Answer.{Kept, Lent, Answered, answered, isClose, outcome, requestIn, Done, tapePart, withData, withPart, withTape, withChanger, withLogin, withEnds}
 use Rattle.rules.specs.Order.{Call}
 use Rattle.rules.proofs.JudgeLaws.{accepts, accepts-any, accepts-map, refusal-says, carried}
 use Rattle.rules_parts.proofs.Ending.{length-right}
 use Rattle.rules.proofs.Kept.{mover-kept}
-use Rattle.rules.proofs.Keeping.{clash, listen-holds}
+use Rattle.rules.proofs.Keeping.{clash, listen-holds, mover-awaits, met}
 use Rattle.rules.proofs.Guarding.{by-guard}
 use Rattle.rules.proofs.Calls.{kept-facts, close-is}
 use Rattle.rules_moves.specs.declared.Move.{Move}
-use Rattle.rules_moves.specs.Moves.{idle, streamEnds, scant, writing, filling, toTape, methodEnd}
-use Rattle.rules_moves.specs.Events.{Moving, movedToTape, methodEnded}
-use Rattle.rules_moves.specs.Sequence.{Asked, ToTape, Ended, step}
+use Rattle.rules_moves.specs.Moves.{idle, streamEnds, scant, writing, filling, toTape, haltsWith, methodEnd, madeAt, lostAt}
+use Rattle.rules_moves.specs.Events.{Moving, movedToTape, methodEnded, connectionMade, connectionLost}
+use Rattle.rules_moves.specs.Sequence.{Asked, ToTape, Ended, Made, Lost, step}
 use Rattle.rules_moves.proofs.Asking.{call-noted}
-use Rattle.rules_moves.proofs.Moving.{times, running, some-taken}
+use Rattle.rules_moves.proofs.Moving.{times, running, some-taken, by-address}
 use Rattle.rules_moves.proofs.Sequence.{Carries, announced-carries}
 use Rattle.rules_annex.specs.Aside.{Aside}
 use Rattle.rules_annex.specs.RoundTrip.{Noted, Window, Read, Reset, Other, moverNote, note, noted, InTurn, askedAfter, endAfter}
@@ -109,8 +109,8 @@ module _ (size asked end given : ℕ) (m : Mover) (p : ℕ) (a : Along size aske
         origin = λ e. absurd (omega arith);
       }
 
-  listens-along : (mode : ℕ) → m .state ≡ 0 → Along size asked end given (moverListens mode m) p
-  listens-along mode e =
+  listens-along : (mode address : ℕ) → m .state ≡ 0 → Along size asked end given (moverListens mode address m) p
+  listens-along mode address e =
       record {
         sized = a .sized;
         seeks = a .seeks;
@@ -122,8 +122,8 @@ module _ (size asked end given : ℕ) (m : Mover) (p : ℕ) (a : Along size aske
         origin = λ z. absurd (omega arith);
       }
 
-  runs-along : (mode : ℕ) (t : Tape) → MoverKept m t → (m .length ≡ 0 → ⊥) → (m .state ≡ 2 → ⊥) → (m .state ≡ 4 → ⊥) → Along size asked end given (moverRuns mode p m) p
-  runs-along mode t k some n2 n4 =
+  runs-along : (mode address : ℕ) (t : Tape) → MoverKept m t → (m .length ≡ 0 → ⊥) → (m .state ≡ 2 → ⊥) → (m .state ≡ 4 → ⊥) → Along size asked end given (moverRuns mode address p m) p
+  runs-along mode address t k some n2 n4 =
       let o : m .offset ≡ given = a .fresh some n2 n4 in
       let z : given % size ≡ 0 = rw (← a .sized, ← o) (k .window some .offsets) in
       record {
@@ -176,39 +176,45 @@ module _ (size asked end given : ℕ) (m : Mover) (t : Tape) (a : Along size ask
   MoverGoes : Noted → Reply → Mover → Type 0
   MoverGoes x _ n = Goes x n
 
-  mover-along : (q : MoverRequest) → Accepts (MoverGoes (moverNote q)) (moverStep m t q)
+  mover-along : (q : MoverRequest) (list : List ℕ) → Accepts (MoverGoes (moverNote q)) (moverStep m t q list)
   unfolding moverStep moverState moverListen moverContinue moverStop setWindow moverRead setSize moverNote MoverGoes Goes askedAfter endAfter
-  mover-along MoverRequest.State = accepts (MoverGoes Other) _ _ _ (λ _ _. a)
-  mover-along (MoverRequest.Listen mode address) = accepts (MoverGoes Other) _ _ _ (λ g _. listens-along size asked end given m _ a mode (is (g 1)))
-  mover-along MoverRequest.Continue =
+  mover-along MoverRequest.State list = accepts (MoverGoes Other) _ _ _ (λ _ _. a)
+  mover-along (MoverRequest.Listen mode address) list = accepts (MoverGoes Other) _ _ _ (λ g _. listens-along size asked end given m _ a mode address (is (g 1)))
+  mover-along MoverRequest.Continue list =
       accepts (MoverGoes Other) _ _ _
-      (λ g _. let e : m .state ≡ 3 = is (g 1) in runs-along size asked end given m _ a (m .mode) t kept (isnt (g 3)) (λ z. omega arith) (λ z. omega arith))
-  mover-along MoverRequest.Stop = accepts (MoverGoes Reset) _ _ _ (λ _ z. absurd z)
-  mover-along (MoverRequest.Window offset length) =
+      (λ g _. let e : m .state ≡ 3 = is (g 1) in runs-along size asked end given m _ a (m .mode) (m .address) t kept (isnt (g 3)) (λ z. omega arith) (λ z. omega arith))
+  mover-along MoverRequest.Stop list = accepts (MoverGoes Reset) _ _ _ (λ _ z. absurd z)
+  mover-along (MoverRequest.Window offset length) list =
       accepts (MoverGoes (Window offset length)) _ _ _
       (λ g z. window-along size asked end given m _ a offset length (not-active (m .state) (g 0)) (length-right (m .size) offset length (g 4) .starts) (z .0) (z .1))
-  mover-along (MoverRequest.Read offset length) =
+  mover-along (MoverRequest.Read offset length) list =
       accepts (MoverGoes (Read offset length)) _ _ _ (λ g z. seeks-along size asked end given m _ a offset length (is (g 4)) z)
-  mover-along (MoverRequest.Size n) = accepts (MoverGoes Reset) _ _ _ (λ _ z. absurd z)
+  mover-along (MoverRequest.Size n) list = accepts (MoverGoes Reset) _ _ _ (λ _ z. absurd z)
 
   EndsGo : Ends → Type 0
   EndsGo e = Along size asked end given (e .mover) (t .position)
 
-  joint-along : (d : Data) (q : JointRequest) → Accepts (λ _ e. EndsGo e) (jointStep d m t q)
-  unfolding jointStep dataAbort dataConnect moverAbort moverClose moverConnect dataAborted moverAborted EndsGo
-  joint-along d JointRequest.DataAbort =
-      accepts (λ _ e. EndsGo e) _ _ _ (λ _. by-test EndsGo (dataJoined (d .state)) _ _ (λ _. halts-along size asked end given m _ a 1) (λ _. a))
-  joint-along d (JointRequest.DataConnect address) =
+  joint-along : (d : Data) (q : JointRequest) (made : Bool) → Accepts (λ _ e. EndsGo e) (jointStep d m t q made)
+  unfolding jointStep dataAbort dataConnect moverAbort moverClose moverConnect dataAborted moverAborted moverClosed EndsGo
+  joint-along d JointRequest.DataAbort made =
+      accepts (λ _ e. EndsGo e) _ _ _ (λ _. by-test EndsGo (dataPartnered d) _ _ (λ _. halts-along size asked end given m _ a 1) (λ _. a))
+  joint-along d (JointRequest.DataConnect address count) made =
       accepts (λ _ e. EndsGo e) _ _ _
-      (λ g. let e : m .state ≡ 1 = is (g 2) in
-      runs-along size asked end given m _ a (m .mode) t kept (kept .hold (listen-holds (m .state) e) .window) (λ z. omega arith) (λ z. omega arith))
-  joint-along d JointRequest.MoverAbort =
+      (λ g. by-test EndsGo (eqb address 1) _ _ (λ _. a)
+      (λ z. let e : m .state ≡ 1 = mover-awaits m (met address _ made (g 2) z) in
+      runs-along size asked end given m _ a (m .mode) 0 t kept (kept .hold (listen-holds (m .state) e) .window) (λ z. omega arith) (λ z. omega arith)))
+  joint-along d JointRequest.MoverAbort made =
       let h = halts-along size asked end given m _ a 2 in
-      accepts (λ _ e. EndsGo e) _ _ _ (λ _. by-test EndsGo (moverJoined (m .state)) _ _ (λ _. h) (λ _. h))
-  joint-along d JointRequest.MoverClose = accepts (λ _ e. EndsGo e) _ _ _ (λ _. halts-along size asked end given m _ a 1)
-  joint-along d (JointRequest.MoverConnect mode address) =
+      accepts (λ _ e. EndsGo e) _ _ _ (λ _. by-test EndsGo (moverPartnered m) _ _ (λ _. h) (λ _. h))
+  joint-along d JointRequest.MoverClose made =
+      let h = halts-along size asked end given m _ a 1 in
+      accepts (λ _ e. EndsGo e) _ _ _ (λ _. by-test EndsGo (moverPartnered m) _ _ (λ _. h) (λ _. h))
+  joint-along d (JointRequest.MoverConnect mode address count) made =
       accepts (λ _ e. EndsGo e) _ _ _
-      (λ g. let e : m .state ≡ 0 = is (g 1) in runs-along size asked end given m _ a mode t kept (isnt (g 4)) (λ z. omega arith) (λ z. omega arith))
+      (λ g. let e : m .state ≡ 0 = is (g 1) in
+      by-test EndsGo (eqb address 1) _ _
+      (λ _. runs-along size asked end given m _ a mode 1 t kept (isnt (g 4)) (λ z. omega arith) (λ z. omega arith))
+      (λ _. runs-along size asked end given m _ a mode 0 t kept (isnt (g 4)) (λ z. omega arith) (λ z. omega arith)))
 
 facts : (s : Session) → keeps s ≡ true → MoverKept (s .mover) (s .tape)
 facts s h = mover-kept (s .mover) (s .tape) (kept-facts s h .mover)
@@ -234,17 +240,17 @@ module _ (size asked end given : ℕ) (w : Kept) (a : Along size asked end given
     outcome-along (Request.Connect q) = off-mover (withLogin w) (λ _ _. a) _
     outcome-along (Request.Config q) = off-mover (withLogin w) (λ _ _. a) _
     outcome-along (Request.Scsi q) = off-mover (withChanger w) (λ _ _. a) _
-    outcome-along (Request.Data q) = off-mover (withData w) (λ _ _. a) _
+    outcome-along (Request.Data q) = off-mover (withData w _) (λ _ _. a) _
     outcome-along (Request.Tape q) =
         carried (DoneLeft Other) (withTape w) _ (carried (λ reply p. DoneLeft Other reply (withTape w p)) (withLoaded (tapePart w)) _
         (accepts-any (λ reply p. DoneLeft Other reply (withTape w (withLoaded (tapePart w) p))) (λ _ _ _. a) _))
     outcome-along (Request.Mover q) =
-        carried (DoneLeft (moverNote q)) (withTape w) _ (carried (λ reply p. DoneLeft (moverNote q) reply (withTape w p)) (withMover (tapePart w)) _
-        (mover-along size asked end given (w .session .mover) (w .session .tape) a (facts (w .session) h) q))
+        carried (DoneLeft (moverNote q)) (withPart w (l .addresses)) _ (carried (λ reply p. DoneLeft (moverNote q) reply (withPart w (l .addresses) p)) (withMover (tapePart w)) _
+        (mover-along size asked end given (w .session .mover) (w .session .tape) a (facts (w .session) h) q (l .addresses)))
     outcome-along (Request.Joint q) =
         carried (DoneLeft Other) (withEnds w) _
         (accepts-map (λ _ e. EndsGo size asked end given (w .session .mover) (w .session .tape) a (facts (w .session) h) e) (λ reply e. DoneLeft Other reply (withEnds w e))
-        (λ _ _ g _. g) _ (joint-along size asked end given (w .session .mover) (w .session .tape) a (facts (w .session) h) (w .session .source) q))
+        (λ _ _ g _. g) _ (joint-along size asked end given (w .session .mover) (w .session .tape) a (facts (w .session) h) (w .session .source) q (l .made)))
 
     close-notes : (q : Request) → isClose q ≡ true → note q ≡ Other
     unfolding note
@@ -268,12 +274,18 @@ module _ (size asked end given : ℕ) (d : Data) (m : Mover) (t : Tape) (l part 
       let s = some-taken last (length part) (m .size) e c (k .runs (g .moded) (g .active) .some) in
       absurd (omega arith)
 
+  halts-feed : (dwhy mwhy : ℕ) → FedNothing (keeping l (haltsWith dwhy mwhy d m t))
+  unfolding haltsWith FedNothing
+  halts-feed dwhy mwhy =
+      let h = halts-along size asked end given m _ a mwhy in
+      by-test (λ (mv : Move). FedNothing (keeping l mv)) (eqb (m .address) 1) _ _ (λ _ _. h) (λ _ _. h)
+
   feed-along : FedNothing (toTape d m t l part last)
   unfolding toTape filling FedNothing
   feed-along =
       by-test FedNothing _ _ _ (λ _ _. a)
-      (λ i. by-test FedNothing _ _ _ (λ _ _. halts-along size asked end given m _ a 5)
-      (λ _. by-test FedNothing _ _ _ (λ _ _. halts-along size asked end given m _ a 1)
+      (λ i. by-test FedNothing _ _ _ (λ _. halts-feed 4 5)
+      (λ _. by-test FedNothing _ _ _ (λ _. halts-feed 1 1)
       (λ e. by-test FedNothing _ _ _ (λ _ _. pauses-along size asked end given m _ a 5)
       (λ _. by-test FedNothing _ _ _ (λ _ _. a)
       (λ c. by-test FedNothing _ _ _ (λ _ _. pauses-along size asked end given m _ a 1)
@@ -302,7 +314,25 @@ module _ (size asked end given : ℕ) (w : Kept) (a : Along size asked end given
 
   end-along : (ok : Bool) → GoingBy (methodEnd ok (w .session .source) (w .session .mover) (w .session .tape))
   unfolding methodEnd Going GoingBy
-  end-along ok = by-test GoingBy (eqb (w .session .source .state) 1) _ _ (λ _. halts-along size asked end given _ _ a 1) (λ _. a)
+  end-along ok =
+      by-test GoingBy (eqb (w .session .source .state) 1) _ _
+      (λ _. by-test GoingBy (eqb (w .session .source .address) 1) _ _ (λ _. a) (λ _. halts-along size asked end given _ _ a 1)) (λ _. a)
+
+  made-along : (mover : Bool) → GoingBy (madeAt mover (w .session .source) (w .session .mover) (w .session .tape))
+  unfolding madeAt Going GoingBy
+  made-along true =
+      let m = w .session .mover in
+      by-test GoingBy _ _ _
+      (λ g. let e : m .state ≡ 1 = eqb-true (m .state) 1 (by-address (m .address) _ g .1) in
+      let k = facts (w .session) h in
+      runs-along size asked end given m _ a (m .mode) (m .address) (w .session .tape) k (k .hold (listen-holds (m .state) e) .window) (λ z. omega arith) (λ z. omega arith))
+      (λ _. a)
+  made-along false = by-test GoingBy _ _ _ (λ _. a) (λ _. a)
+
+  lost-along : (mover : Bool) → GoingBy (lostAt mover (w .session .source) (w .session .mover) (w .session .tape))
+  unfolding lostAt Going GoingBy
+  lost-along true = by-test GoingBy _ _ _ (λ _. halts-along size asked end given _ _ a 1) (λ _. a)
+  lost-along false = by-test GoingBy _ _ _ (λ _. a) (λ _. a)
 
   pub ended-along : (l : Lent) (ok : Bool) → Along size asked end given (step (Ended l ok) w .session .mover) (step (Ended l ok) w .session .tape .position)
   unfolding step methodEnded Going
@@ -312,6 +342,24 @@ module _ (size asked end given : ℕ) (w : Kept) (a : Along size asked end given
       position-along size asked end given _ _ _ (aside-stays w h (Ended l ok) tt .position)
       (by-guard (λ (b : Answered). Going (b .next .session .mover)) s (l .room) _ _ (λ _. a)
       (λ _. carried-along mv (w .image) _ (announced-carries w l mv (w .image)) (end-along ok)))
+
+  pub joined-along : (l : Lent) (mover : Bool) → Along size asked end given (step (Made l mover) w .session .mover) (step (Made l mover) w .session .tape .position)
+  unfolding step connectionMade Going
+  joined-along l mover =
+      let s = w .session in
+      let mv = madeAt mover (s .source) (s .mover) (s .tape) in
+      position-along size asked end given _ _ _ (aside-stays w h (Made l mover) tt .position)
+      (by-guard (λ (b : Answered). Going (b .next .session .mover)) s (l .room) _ _ (λ _. a)
+      (λ _. carried-along mv (w .image) _ (announced-carries w l mv (w .image)) (made-along mover)))
+
+  pub parted-along : (l : Lent) (mover : Bool) → Along size asked end given (step (Lost l mover) w .session .mover) (step (Lost l mover) w .session .tape .position)
+  unfolding step connectionLost Going
+  parted-along l mover =
+      let s = w .session in
+      let mv = lostAt mover (s .source) (s .mover) (s .tape) in
+      position-along size asked end given _ _ _ (aside-stays w h (Lost l mover) tt .position)
+      (by-guard (λ (b : Answered). Going (b .next .session .mover)) s (l .room) _ _ (λ _. a)
+      (λ _. carried-along mv (w .image) _ (announced-carries w l mv (w .image)) (lost-along mover)))
 
   MovedNothing : Moving → Type 0
   MovedNothing e = e .count ≡ 0 → Going (e .answer .next .session .mover)

@@ -14,7 +14,7 @@ use Rattle.tape_writing.specs.Writing.{fillTo}
 use Rattle.rules.specs.Relation.{keeps}
 use Rattle.rules.specs.Answer.{Kept}
 use Rattle.rules.proofs.Keeping.{clash}
-use Rattle.rules_moves.specs.Sequence.{Event, Asked, ToTape, FromTape, Ended, Inserted, Renumbered, step, runs}
+use Rattle.rules_moves.specs.Sequence.{Event, Asked, ToTape, FromTape, Ended, Made, Lost, Inserted, Renumbered, step, runs}
 use Rattle.rules_moves.proofs.Sequence.{stepped}
 use Rattle.rules_annex.specs.Aside.{Untouched}
 use Rattle.rules_annex.specs.RoundTrip.{filledUp, Backs}
@@ -125,6 +125,10 @@ taped size stream taken rest w (Asked c ∷ es) h b a =
     taped size stream taken rest (step (Asked c) w) es (stepped w h (Asked c) .kept) (same-backed size stream taken rest w _ (aside-stays w h (Asked c) (a .0)) b) (a .1)
 taped size stream taken rest w (Ended l ok ∷ es) h b a =
     taped size stream taken rest (step (Ended l ok) w) es (stepped w h (Ended l ok) .kept) (same-backed size stream taken rest w _ (aside-stays w h (Ended l ok) (a .0)) b) (a .1)
+taped size stream taken rest w (Made l mover ∷ es) h b a =
+    taped size stream taken rest (step (Made l mover) w) es (stepped w h (Made l mover) .kept) (same-backed size stream taken rest w _ (aside-stays w h (Made l mover) (a .0)) b) (a .1)
+taped size stream taken rest w (Lost l mover ∷ es) h b a =
+    taped size stream taken rest (step (Lost l mover) w) es (stepped w h (Lost l mover) .kept) (same-backed size stream taken rest w _ (aside-stays w h (Lost l mover) (a .0)) b) (a .1)
 taped size stream taken rest w (FromTape l dest ∷ es) h b a =
     taped size stream taken rest (step (FromTape l dest) w) es (stepped w h (FromTape l dest) .kept)
     (same-backed size stream taken rest w _ (aside-stays w h (FromTape l dest) (a .0)) b) (a .1)
@@ -153,6 +157,10 @@ stuck size rest w (Asked c ∷ es) h f b =
     stuck size rest (step (Asked c) w) es (stepped w h (Asked c) .kept) (same-stuck w _ (aside-stays w h (Asked c) (b .0)) f) (b .1)
 stuck size rest w (Ended l ok ∷ es) h f b =
     stuck size rest (step (Ended l ok) w) es (stepped w h (Ended l ok) .kept) (same-stuck w _ (aside-stays w h (Ended l ok) (b .0)) f) (b .1)
+stuck size rest w (Made l mover ∷ es) h f b =
+    stuck size rest (step (Made l mover) w) es (stepped w h (Made l mover) .kept) (same-stuck w _ (aside-stays w h (Made l mover) (b .0)) f) (b .1)
+stuck size rest w (Lost l mover ∷ es) h f b =
+    stuck size rest (step (Lost l mover) w) es (stepped w h (Lost l mover) .kept) (same-stuck w _ (aside-stays w h (Lost l mover) (b .0)) f) (b .1)
 stuck size rest w (FromTape l dest ∷ es) h f b =
     stuck size rest (step (FromTape l dest) w) es (stepped w h (FromTape l dest) .kept) (same-stuck w _ (aside-stays w h (FromTape l dest) (b .0)) f) (b .1)
 stuck size rest w (Inserted image ∷ es) h f b =

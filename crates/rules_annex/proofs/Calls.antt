@@ -13,7 +13,7 @@ use Rattle.tape_image.specs.Sound.{Placed}
 use Rattle.tape_image.proofs.Laws.{placed}
 use Rattle.tape_writing.specs.Writing.{Room, roomFor, written, fillTo}
 use Rattle.tape_writing.proofs.Laws.{room-facts}
-use Rattle.tape_ops.specs.Step.{Step}
+use Rattle.tape_ops.specs.Step.{Step, keeping}
 use Rattle.wire_requests.specs.declared.Request.{Request}
 use Rattle.wire_requests.specs.declared.Request.the-variants as Request
 use Rattle.wire_replies.specs.declared.Reply.{Reply}
@@ -23,16 +23,16 @@ use Rattle.rules_parts.specs.declared.types.Tape.{Tape}
 use Rattle.rules.specs.Judge.{Outcome, onto, Accepts}
 use Rattle.rules.specs.TapeService.{withMover, moverPartStep}
 use Rattle.rules.specs.Relation.{keeps, MoverKept}
-use Rattle.rules.specs.Answer.{Kept, Lent, Answered, answered, outcome, requestIn, Done, tapePart, withData, withTape, withChanger, withLogin, withEnds}
+use Rattle.rules.specs.Answer.{Kept, Lent, Answered, silent, guarded, answered, outcome, requestIn, Done, tapePart, withData, withPart, withChanger, withLogin, withEnds}
 use Rattle.rules.proofs.JudgeLaws.{accepts-any, carried, refusal-says}
 use Rattle.rules.proofs.Kept.{mover-kept}
 use Rattle.rules.proofs.Keeping.{clash}
 use Rattle.rules.proofs.Guarding.{by-guard}
 use Rattle.rules.proofs.Calls.{kept-facts, call-holds}
 use Rattle.rules_moves.specs.declared.Move.{Move}
-use Rattle.rules_moves.specs.Moves.{idle, streamEnds, scant, writing, filling, toTape, methodEnd}
-use Rattle.rules_moves.specs.Events.{Moving, announced, movedToTape, methodEnded}
-use Rattle.rules_moves.specs.Sequence.{Event, Asked, ToTape, FromTape, Ended, Inserted, Renumbered, step}
+use Rattle.rules_moves.specs.Moves.{idle, streamEnds, scant, writing, filling, toTape, haltsWith, methodEnd, madeAt, lostAt}
+use Rattle.rules_moves.specs.Events.{Moving, announced, movedToTape, methodEnded, connectionMade, connectionLost}
+use Rattle.rules_moves.specs.Sequence.{Event, Asked, ToTape, FromTape, Ended, Made, Lost, Inserted, Renumbered, step}
 use Rattle.rules_moves.proofs.Moving.{running, some-taken}
 use Rattle.rules_moves.proofs.Sequence.{Carries, announced-carries}
 use Rattle.rules_annex.specs.Aside.{Untouched, AsideRequest, Aside}
@@ -62,10 +62,10 @@ module _ (w : Kept) (l : Lent) (r : List ℕ) where
   request-stays (Request.Connect q) e a = call-stays (rw e (off-tape (withLogin w) (λ _. record { position = refl; image = refl }) _))
   request-stays (Request.Config q) e a = call-stays (rw e (off-tape (withLogin w) (λ _. record { position = refl; image = refl }) _))
   request-stays (Request.Scsi q) e a = call-stays (rw e (off-tape (withChanger w) (λ _. record { position = refl; image = refl }) _))
-  request-stays (Request.Data q) e a = call-stays (rw e (off-tape (withData w) (λ _. record { position = refl; image = refl }) _))
+  request-stays (Request.Data q) e a = call-stays (rw e (off-tape (withData w _) (λ _. record { position = refl; image = refl }) _))
   request-stays (Request.Mover q) e a =
-      call-stays (rw e (carried Staying (withTape w) _ (carried (λ reply p. Staying reply (withTape w p)) (withMover (tapePart w)) _
-      (accepts-any (λ reply p. Staying reply (withTape w (withMover (tapePart w) p))) (λ _ _. record { position = refl; image = refl }) _))))
+      call-stays (rw e (carried Staying (withPart w (l .addresses)) _ (carried (λ reply p. Staying reply (withPart w (l .addresses) p)) (withMover (tapePart w)) _
+      (accepts-any (λ reply p. Staying reply (withPart w (l .addresses) (withMover (tapePart w) p))) (λ _ _. record { position = refl; image = refl }) _))))
   request-stays (Request.Joint q) e a = call-stays (rw e (off-tape (withEnds w) (λ _. record { position = refl; image = refl }) _))
   request-stays Request.Unknown e a = call-stays (rw e (refusal-says Staying _))
   request-stays Request.Bad e a = call-stays (rw e (refusal-says Staying _))
@@ -76,17 +76,40 @@ TapeStays t mv = mv .tape ≡ t
 
 end-stays : (ok : Bool) (d : Data) (m : Mover) (t : Tape) → TapeStays t (methodEnd ok d m t)
 unfolding methodEnd TapeStays
-end-stays ok d m t = by-test (TapeStays t) (eqb (d .state) 1) _ _ (λ _. refl) (λ _. refl)
+end-stays ok d m t =
+    by-test (TapeStays t) (eqb (d .state) 1) _ _ (λ _. by-test (TapeStays t) (eqb (d .address) 1) _ _ (λ _. refl) (λ _. refl)) (λ _. refl)
+
+made-stays : (mover : Bool) (d : Data) (m : Mover) (t : Tape) → TapeStays t (madeAt mover d m t)
+unfolding madeAt TapeStays
+made-stays true d m t = by-test (TapeStays t) _ _ _ (λ _. refl) (λ _. refl)
+made-stays false d m t = by-test (TapeStays t) _ _ _ (λ _. refl) (λ _. refl)
+
+lost-stays : (mover : Bool) (d : Data) (m : Mover) (t : Tape) → TapeStays t (lostAt mover d m t)
+unfolding lostAt TapeStays
+lost-stays true d m t = by-test (TapeStays t) _ _ _ (λ _. refl) (λ _. refl)
+lost-stays false d m t = by-test (TapeStays t) _ _ _ (λ _. refl) (λ _. refl)
+
+-- a call that announces a move which leaves the tape
+announced-stays : (w : Kept) (l : Lent) (mv : Move) → TapeStays (w .session .tape) mv
+    → Untouched w (guarded (w .session) (l .room) (λ code. silent code w) (announced w l mv (w .image)) .next)
+unfolding TapeStays
+announced-stays w l mv e =
+    let c = announced-carries w l mv (w .image) in
+    by-guard (λ (a : Answered). Untouched w (a .next)) (w .session) (l .room) _ _
+    (λ _. record { position = refl; image = refl })
+    (λ _. record { position = ap (λ (t : Tape). t .position) (c .tape ∙ e); image = c .image-end })
 
 ended-stays : (w : Kept) (l : Lent) (ok : Bool) → Untouched w (methodEnded w l ok .next)
-unfolding methodEnded TapeStays
-ended-stays w l ok =
-    let s = w .session in
-    let mv = methodEnd ok (s .source) (s .mover) (s .tape) in
-    let c = announced-carries w l mv (w .image) in
-    by-guard (λ (a : Answered). Untouched w (a .next)) s (l .room) _ _
-    (λ _. record { position = refl; image = refl })
-    (λ _. record { position = ap (λ (t : Tape). t .position) (c .tape ∙ end-stays ok (s .source) (s .mover) (s .tape)); image = c .image-end })
+unfolding methodEnded
+ended-stays w l ok = announced-stays w l _ (end-stays ok (w .session .source) (w .session .mover) (w .session .tape))
+
+joined-stays : (w : Kept) (l : Lent) (mover : Bool) → Untouched w (connectionMade w l mover .next)
+unfolding connectionMade
+joined-stays w l mover = announced-stays w l _ (made-stays mover (w .session .source) (w .session .mover) (w .session .tape))
+
+parted-stays : (w : Kept) (l : Lent) (mover : Bool) → Untouched w (connectionLost w l mover .next)
+unfolding connectionLost
+parted-stays w l mover = announced-stays w l _ (lost-stays mover (w .session .source) (w .session .mover) (w .session .tape))
 
 -- ---- a move to tape: nothing, or one record
 pub record WroteOne (size p : ℕ) (l part : List ℕ) (last : Bool) (l′ : List ℕ) (p′ n : ℕ) : Type 0 where
@@ -147,12 +170,16 @@ module _ (d : Data) (m : Mover) (t : Tape) (l part : List ℕ) (last : Bool) (k 
         position = refl;
       })
 
+  halts-stand : (dwhy mwhy : ℕ) → Feeds (keeping l (haltsWith dwhy mwhy d m t))
+  unfolding haltsWith Feeds
+  halts-stand dwhy mwhy = by-test (λ (mv : Move). Feeds (keeping l mv)) (eqb (m .address) 1) _ _ (λ _. stands) (λ _. stands)
+
   to-fed : Feeds (toTape d m t l part last)
   unfolding toTape filling Feeds
   to-fed =
       by-test Feeds _ _ _ (λ _. stands)
-      (λ i. by-test Feeds _ _ _ (λ _. stands)
-      (λ f. by-test Feeds _ _ _ (λ _. stands)
+      (λ i. by-test Feeds _ _ _ (λ _. halts-stand 4 5)
+      (λ f. by-test Feeds _ _ _ (λ _. halts-stand 1 1)
       (λ e. by-test Feeds _ _ _ (λ _. stands)
       (λ _. by-test Feeds _ _ _ (λ _. stands)
       (λ c. by-test Feeds _ _ _ (λ _. stands)
@@ -187,6 +214,8 @@ pub aside-stays : (w : Kept) → keeps (w .session) ≡ true → (e : Event) →
 unfolding step
 aside-stays w h (Asked c) a = request-stays w (c .lent) (c .ask .request) (requestIn (c .ask .request)) refl a
 aside-stays w h (Ended l ok) a = ended-stays w l ok
+aside-stays w h (Made l mover) a = joined-stays w l mover
+aside-stays w h (Lost l mover) a = parted-stays w l mover
 aside-stays w h (ToTape l part last) a = let s = fed-stays _ _ _ _ _ _ _ _ (to-tape-fed w part last h l) a in record { position = s .1; image = s .0 }
 aside-stays w h (FromTape l dest) a = a .1
 aside-stays w h (Inserted image) a = record { position = refl; image = a }

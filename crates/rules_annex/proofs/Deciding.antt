@@ -14,7 +14,7 @@ use Rattle.wire_requests.specs.declared.Request.{Request}
 use Rattle.wire_requests.specs.declared.Request.the-variants as Request
 use Rattle.rules.specs.Answer.{Kept, requestIn}
 use Rattle.rules_moves.specs.Events.{Moving, movedToTape, movedFromTape}
-use Rattle.rules_moves.specs.Sequence.{Event, Asked, ToTape, FromTape, Ended, Inserted, Renumbered, step}
+use Rattle.rules_moves.specs.Sequence.{Event, Asked, ToTape, FromTape, Ended, Made, Lost, Inserted, Renumbered, step}
 use Rattle.rules_annex.specs.Aside.{Untouched, AsideRequest, Aside, Asides, AtSize}
 use Rattle.rules_annex.specs.Used.{Feeds}
 use Rattle.rules_annex.specs.RoundTrip.{Backs, Noted, Window, Read, Reset, Other, noted, InTurn, askedAfter, endAfter, Recovers}
@@ -63,6 +63,8 @@ request-aside Request.Bad w v h = tt
 unfoldable pub aside : Event → Kept → Bool
 aside (Asked c) w = asideRequest (requestIn (c .ask .request)) w (step (Asked c) w)
 aside (Ended l ok) w = true
+aside (Made l mover) w = true
+aside (Lost l mover) w = true
 aside (ToTape l part last) w = eqb (movedToTape w l part last .count) 0
 aside (FromTape l dest) w = choose (eqb (movedFromTape w l dest .count) 0) (untouched w (step (FromTape l dest) w)) false
 aside (Inserted image) w = sameBytes image (w .image)
@@ -72,6 +74,8 @@ is-aside : (e : Event) (w : Kept) → aside e w ≡ true → Aside e w
 unfolding aside
 is-aside (Asked c) w h = request-aside (requestIn (c .ask .request)) w (step (Asked c) w) h
 is-aside (Ended l ok) w h = tt
+is-aside (Made l mover) w h = tt
+is-aside (Lost l mover) w h = tt
 is-aside (ToTape l part last) w h = eqb-true (movedToTape w l part last .count) 0 h
 is-aside (FromTape l dest) w h =
     let b = both (eqb (movedFromTape w l dest .count) 0) h in
@@ -116,6 +120,8 @@ backs size rest w (ToTape l part last ∷ es) =
     false) false) false
 backs size rest w (Asked c ∷ es) = choose (aside (Asked c) w) (backs size rest (step (Asked c) w) es) false
 backs size rest w (Ended l ok ∷ es) = choose (aside (Ended l ok) w) (backs size rest (step (Ended l ok) w) es) false
+backs size rest w (Made l mover ∷ es) = choose (aside (Made l mover) w) (backs size rest (step (Made l mover) w) es) false
+backs size rest w (Lost l mover ∷ es) = choose (aside (Lost l mover) w) (backs size rest (step (Lost l mover) w) es) false
 backs size rest w (FromTape l dest ∷ es) = choose (aside (FromTape l dest) w) (backs size rest (step (FromTape l dest) w) es) false
 backs size rest w (Inserted image ∷ es) = choose (aside (Inserted image) w) (backs size rest (step (Inserted image) w) es) false
 backs size rest w (Renumbered n ∷ es) = choose (aside (Renumbered n) w) (backs size rest (step (Renumbered n) w) es) false
@@ -138,6 +144,8 @@ backs-hold size rest w (ToTape l part last ∷ es) h =
     )
 backs-hold size rest w (Asked c ∷ es) h = let b = both (aside (Asked c) w) h in (is-aside (Asked c) w (b .0), backs-hold size rest (step (Asked c) w) es (b .1))
 backs-hold size rest w (Ended l ok ∷ es) h = let b = both (aside (Ended l ok) w) h in (is-aside (Ended l ok) w (b .0), backs-hold size rest (step (Ended l ok) w) es (b .1))
+backs-hold size rest w (Made l mover ∷ es) h = let b = both (aside (Made l mover) w) h in (is-aside (Made l mover) w (b .0), backs-hold size rest (step (Made l mover) w) es (b .1))
+backs-hold size rest w (Lost l mover ∷ es) h = let b = both (aside (Lost l mover) w) h in (is-aside (Lost l mover) w (b .0), backs-hold size rest (step (Lost l mover) w) es (b .1))
 backs-hold size rest w (FromTape l dest ∷ es) h =
     let b = both (aside (FromTape l dest) w) h in
     (is-aside (FromTape l dest) w (b .0), backs-hold size rest (step (FromTape l dest) w) es (b .1))
@@ -154,6 +162,8 @@ backs-feed size rest w [] b = tt
 backs-feed size rest w (ToTape l part last ∷ es) b = (b .2, backs-feed size _ (step (ToTape l part last) w) es (b .3))
 backs-feed size rest w (Asked c ∷ es) b = (b .0, backs-feed size rest (step (Asked c) w) es (b .1))
 backs-feed size rest w (Ended l ok ∷ es) b = (b .0, backs-feed size rest (step (Ended l ok) w) es (b .1))
+backs-feed size rest w (Made l mover ∷ es) b = (b .0, backs-feed size rest (step (Made l mover) w) es (b .1))
+backs-feed size rest w (Lost l mover ∷ es) b = (b .0, backs-feed size rest (step (Lost l mover) w) es (b .1))
 backs-feed size rest w (FromTape l dest ∷ es) b = (b .0, backs-feed size rest (step (FromTape l dest) w) es (b .1))
 backs-feed size rest w (Inserted image ∷ es) b = (b .0, backs-feed size rest (step (Inserted image) w) es (b .1))
 backs-feed size rest w (Renumbered n ∷ es) b = (b .0, backs-feed size rest (step (Renumbered n) w) es (b .1))
@@ -181,6 +191,8 @@ recovers total asked end given w (Asked c ∷ es) =
     (recovers total (askedAfter asked (noted w c)) (endAfter end (noted w c)) given (step (Asked c) w) es)
     false) false
 recovers total asked end given w (Ended l ok ∷ es) = choose (aside (Ended l ok) w) (recovers total asked end given (step (Ended l ok) w) es) false
+recovers total asked end given w (Made l mover ∷ es) = choose (aside (Made l mover) w) (recovers total asked end given (step (Made l mover) w) es) false
+recovers total asked end given w (Lost l mover ∷ es) = choose (aside (Lost l mover) w) (recovers total asked end given (step (Lost l mover) w) es) false
 recovers total asked end given w (ToTape l part last ∷ es) = choose (aside (ToTape l part last) w) (recovers total asked end given (step (ToTape l part last) w) es) false
 recovers total asked end given w (Inserted image ∷ es) = choose (aside (Inserted image) w) (recovers total asked end given (step (Inserted image) w) es) false
 recovers total asked end given w (Renumbered n ∷ es) = choose (aside (Renumbered n) w) (recovers total asked end given (step (Renumbered n) w) es) false
@@ -196,6 +208,12 @@ recovers-hold total asked end given w (Asked c ∷ es) h =
 recovers-hold total asked end given w (Ended l ok ∷ es) h =
     let b = both (aside (Ended l ok) w) h in
     (is-aside (Ended l ok) w (b .0), recovers-hold total asked end given (step (Ended l ok) w) es (b .1))
+recovers-hold total asked end given w (Made l mover ∷ es) h =
+    let b = both (aside (Made l mover) w) h in
+    (is-aside (Made l mover) w (b .0), recovers-hold total asked end given (step (Made l mover) w) es (b .1))
+recovers-hold total asked end given w (Lost l mover ∷ es) h =
+    let b = both (aside (Lost l mover) w) h in
+    (is-aside (Lost l mover) w (b .0), recovers-hold total asked end given (step (Lost l mover) w) es (b .1))
 recovers-hold total asked end given w (ToTape l part last ∷ es) h =
     let b = both (aside (ToTape l part last) w) h in
     (is-aside (ToTape l part last) w (b .0), recovers-hold total asked end given (step (ToTape l part last) w) es (b .1))

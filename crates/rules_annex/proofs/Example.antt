@@ -13,19 +13,21 @@ use Rattle.wire_frame.specs.Frame.{wellFramed, recordBytes}
 use Rattle.wire_frame.specs.Messages.{look, rowOf}
 use Rattle.wire_layouts.specs.Layout as layout
 use Rattle.wire_layouts.specs.Scans.{put, puts, summed, scanned}
+use Rattle.wire_layouts.specs.AddressLists.{isTcp}
 use Rattle.wire_requests.specs.Bodies.{decoded, connectBody, tapeBody, dataBody, moverBody, jointBody}
 use Rattle.wire_replies.specs.Replies.{opaques, bodyBytes, shapeOf, headerError, replyBytes}
 use Rattle.rules.specs.Answer.{guarded, noticed, outcome, needsLogin, isLocked, verdict, isUnread, refusing, settled, isClose, judged, requested, answered}
 use Rattle.rules.specs.Connection.{connectOpen, matches, clientAuth, connectStep}
 use Rattle.rules.specs.DataService.{dump, dataStart, dataStop, dataStep}
-use Rattle.rules.specs.Joint.{dataConnect, jointStep}
+use Rattle.rules.specs.Addresses.{listening, unmet}
+use Rattle.rules.specs.Joint.{moverAwaits, dataConnect, jointStep}
 use Rattle.rules.specs.Judge.{judge, onto, isAccepted}
 use Rattle.rules.specs.MoverService.{offsetWrong, moverListen, moverContinue, moverStop, moverRead, busy, elsewhere, setWindow, setSize, moverStep}
-use Rattle.rules_parts.specs.Parts.{windowEnd, pastTop, lengthWrong, dataJoined, moverJoined, holdsTape, unwritable}
+use Rattle.rules_parts.specs.Parts.{windowEnd, pastTop, lengthWrong, dataJoined, moverJoined, dataPartnered, moverPartnered, addressWrong, holdsTape, unwritable}
 use Rattle.rules.specs.Relation.{dataWrong, numbersWrong, windowWrong, startWrong, holdWrong, strays, resumeWrong, placeWrong, originWrong, moverWrong, sameFlag, keeps}
 use Rattle.rules.specs.TapeService.{tape0, tapeOpen, isRefusal, protects, tapeMtio, tapeWrite, deviceStep, tapeStep, moverPartStep}
 use Rattle.rules_moves.specs.Events.{movedToTape, movedFromTape}
-use Rattle.rules_moves.specs.Moves.{idle, streamEnds, scant, windowUsed, filling, toTape, outside, seekFrom, amount, reading, onFound, seeking, fromTape}
+use Rattle.rules_moves.specs.Moves.{idle, streamEnds, scant, windowUsed, filling, toTape, outside, seekFrom, amount, reading, onFound, seeking, fromTape, fedBy, haltsWith}
 use Rattle.rules_moves.specs.Sequence.{Asked, step, runs, isHeard, moverAsked, dataAsked, jointAsked, asked, moveShown, seen}
 use Rattle.rules_moves.specs.Counts.{trace, recordsIn, sum}
 use Rattle.rules_annex.specs.RoundTrip.{padding, filledUp, handedOver, moverNote, note, noted, askedAfter, endAfter}
@@ -45,7 +47,7 @@ unfolding
     protects tapeMtio tapeWrite deviceStep tapeStep moverPartStep movedToTape movedFromTape idle streamEnds scant windowUsed filling toTape
     outside seekFrom amount reading onFound seeking fromTape step runs isHeard moverAsked dataAsked jointAsked asked moveShown seen trace recordsIn sum
     padding filledUp handedOver moverNote note noted askedAfter endAfter call blank
-    untouched asideRequest aside asides atSize lasts backs inTurn recovers
+    dataPartnered moverPartnered addressWrong listening unmet moverAwaits isTcp fedBy haltsWith untouched asideRequest aside asides atSize lasts backs inTurn recovers
 example-holds =
     record {
       trip = record {

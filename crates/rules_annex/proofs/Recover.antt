@@ -25,15 +25,16 @@ use Rattle.rules.proofs.Keeping.{active-holds}
 use Rattle.rules.proofs.Guarding.{by-guard}
 use Rattle.rules.proofs.Calls.{kept-facts}
 use Rattle.rules_moves.specs.declared.Found.{Found}
-use Rattle.rules_moves.specs.Moves.{idle, outside, ordinal, inRecord, seekFrom, amount, Handing, reading, onFound, sought, seeking, fromTape}
+use Rattle.rules_moves.specs.declared.Move.{Move}
+use Rattle.rules_moves.specs.Moves.{idle, outside, ordinal, inRecord, seekFrom, amount, Handing, untouched, haltsWith, reading, onFound, sought, seeking, fromTape}
 use Rattle.rules_moves.specs.Events.{Moving, announced, movedFromTape}
-use Rattle.rules_moves.specs.Sequence.{Event, Asked, ToTape, FromTape, Ended, Inserted, Renumbered, step}
+use Rattle.rules_moves.specs.Sequence.{Event, Asked, ToTape, FromTape, Ended, Made, Lost, Inserted, Renumbered, step}
 use Rattle.rules_moves.proofs.Moving.{before-end, running}
 use Rattle.rules_moves.proofs.Sequence.{Carries, announced-carries, stepped}
 use Rattle.rules_annex.specs.RoundTrip.{Recovers, handedOver, noted, Noted, Window, Read, Reset, Other, askedAfter}
 use Rattle.rules_annex.proofs.Calls.{aside-stays}
 use Rattle.rules_annex.proofs.Records.{bytes-length, bytes-part, Holds}
-use Rattle.rules_annex.proofs.Along.{Along, halts-along, pauses-along, asked-along, ended-along, fed-along}
+use Rattle.rules_annex.proofs.Along.{Along, halts-along, pauses-along, asked-along, ended-along, joined-along, parted-along, fed-along}
 
 -- ---- the walk finds its record among records
 walk-by : (l : List ℕ) (n i k : ℕ) (f : Found) → (entryLen l i ≡ 0 → ⊥) → (b : Bool) → eqb k 0 ≡ b
@@ -106,6 +107,12 @@ module _ (asked end : ℕ) (l bytes : List ℕ) (n : ℕ) (d : Data) (m : Mover)
   nothing : (m′ : Mover) (p′ : ℕ) → Along (m .size) asked end (m .seek) m′ p′ → Gives (m .size) asked end (m .seek) bytes 0 b m′ p′
   nothing m′ p′ c = record { handed = refl; along = rw (add-zero (m .seek)) c }
 
+  halts-nothing : (dwhy mwhy : ℕ) → Giving (untouched b (haltsWith dwhy mwhy d m t))
+  unfolding haltsWith Giving
+  halts-nothing dwhy mwhy =
+      let h = nothing _ _ (halts-along (m .size) asked end (m .seek) m (t .position) a mwhy) in
+      by-test (λ (mv : Move). Giving (untouched b mv)) (eqb (m .address) 1) _ _ (λ _. h) (λ _. h)
+
   module _ (active : m .state ≡ 2) (left : 1 ≤ m .left) (room : 1 ≤ length b) (low : m .offset ≤ m .seek) (high : m .seek < windowEnd (m .offset) (m .length)) where
     legal : Legal (m .size) (m .offset) (m .length)
     legal = k .window (k .hold (active-holds (m .state) active) .window)
@@ -169,7 +176,7 @@ module _ (asked end : ℕ) (l bytes : List ℕ) (n : ℕ) (d : Data) (m : Mover)
     unfolding reading Giving taken
     reading-gives =
         by-test Giving (not (eqb (entryLen l (m .origin + ordinal m)) (m .size))) _ _
-        (λ _. nothing _ _ (halts-along (m .size) asked end (m .seek) m (t .position) a 5))
+        (λ _. halts-nothing 4 5)
         (λ _. record { handed = hands-handed; along = hands-along })
 
     found : sought m l ≡ Found.Target (m .origin + ordinal m)
@@ -186,7 +193,7 @@ module _ (asked end : ℕ) (l bytes : List ℕ) (n : ℕ) (d : Data) (m : Mover)
   unfolding fromTape seeking outside Giving
   from-gives =
       by-test Giving (idle 1 2 d m) _ _ (λ _. nothing _ _ a)
-      (λ i. by-test Giving (faulty l (t .position)) _ _ (λ _. nothing _ _ (halts-along (m .size) asked end (m .seek) m (t .position) a 5))
+      (λ i. by-test Giving (faulty l (t .position)) _ _ (λ _. halts-nothing 4 5)
       (λ _. by-test Giving (eqb (m .left) 0) _ _ (λ _. nothing _ _ a)
       (λ left. by-test Giving (eqb (length b) 0) _ _ (λ _. nothing _ _ a)
       (λ room. by-test Giving (outside (m .seek) (m .offset) (m .length)) _ _ (λ _. nothing _ _ (pauses-along (m .size) asked end (m .seek) m (t .position) a 3))
@@ -253,6 +260,8 @@ asked-below total asked end given w (Asked c ∷ es) r =
     let b = more-asked asked (noted w c) in
     omega arith
 asked-below total asked end given w (Ended l ok ∷ es) r = asked-below total asked end given (step (Ended l ok) w) es (r .1)
+asked-below total asked end given w (Made l mover ∷ es) r = asked-below total asked end given (step (Made l mover) w) es (r .1)
+asked-below total asked end given w (Lost l mover ∷ es) r = asked-below total asked end given (step (Lost l mover) w) es (r .1)
 asked-below total asked end given w (ToTape l part last ∷ es) r = asked-below total asked end given (step (ToTape l part last) w) es (r .1)
 asked-below total asked end given w (Inserted image ∷ es) r = asked-below total asked end given (step (Inserted image) w) es (r .1)
 asked-below total asked end given w (Renumbered n ∷ es) r = asked-below total asked end given (step (Renumbered n) w) es (r .1)
@@ -288,6 +297,12 @@ module _ (size : ℕ) (bytes : List ℕ) (n : ℕ) (some : 1 ≤ size) where
   recovered asked end given w (Ended l ok ∷ es) h k a r =
       recovered asked end given (step (Ended l ok) w) es (stepped w h (Ended l ok) .kept) (holds-in size (w .image) _ n bytes (aside-stays w h (Ended l ok) (r .0) .image) k)
       (ended-along size asked end given w a h l ok) (r .1)
+  recovered asked end given w (Made l mover ∷ es) h k a r =
+      recovered asked end given (step (Made l mover) w) es (stepped w h (Made l mover) .kept) (holds-in size (w .image) _ n bytes (aside-stays w h (Made l mover) (r .0) .image) k)
+      (joined-along size asked end given w a h l mover) (r .1)
+  recovered asked end given w (Lost l mover ∷ es) h k a r =
+      recovered asked end given (step (Lost l mover) w) es (stepped w h (Lost l mover) .kept) (holds-in size (w .image) _ n bytes (aside-stays w h (Lost l mover) (r .0) .image) k)
+      (parted-along size asked end given w a h l mover) (r .1)
   recovered asked end given w (ToTape l part last ∷ es) h k a r =
       recovered asked end given (step (ToTape l part last) w) es (stepped w h (ToTape l part last) .kept)
       (holds-in size (w .image) _ n bytes (aside-stays w h (ToTape l part last) (r .0) .image) k) (fed-along size asked end given w a h l part last (r .0)) (r .1)

@@ -14,7 +14,7 @@ use Rattle.rules.specs.Relation.{keeps}
 use Rattle.rules.specs.Answer.{Kept}
 use Rattle.rules.specs.Order.{Call}
 use Rattle.rules.proofs.Keeping.{clash}
-use Rattle.rules_moves.specs.Sequence.{Event, Asked, ToTape, FromTape, Ended, Inserted, Renumbered, step, runs}
+use Rattle.rules_moves.specs.Sequence.{Event, Asked, ToTape, FromTape, Ended, Made, Lost, Inserted, Renumbered, step, runs}
 use Rattle.rules_moves.proofs.Sequence.{stepped}
 use Rattle.rules_annex.specs.Aside.{Untouched, Aside, Asides}
 use Rattle.rules_annex.specs.RoundTrip.{filledUp, Backs, handedBy, handedOver, ComesOut}
@@ -81,6 +81,8 @@ rest-along size first m p some e z =
 aside-hands : (e : Event) (w : Kept) → Aside e w → handedBy e w ≡ []
 aside-hands (Asked c) w a = refl
 aside-hands (Ended l ok) w a = refl
+aside-hands (Made l mover) w a = refl
+aside-hands (Lost l mover) w a = refl
 aside-hands (ToTape l part last) w a = refl
 aside-hands (FromTape l dest) w a = rw (a .0) refl
 aside-hands (Inserted image) w a = refl
@@ -96,6 +98,8 @@ backs-hands size rest w [] fs b = refl
 backs-hands size rest w (ToTape l part last ∷ es) fs b = backs-hands size _ (step (ToTape l part last) w) es fs (b .3)
 backs-hands size rest w (Asked c ∷ es) fs b = backs-hands size rest (step (Asked c) w) es fs (b .1)
 backs-hands size rest w (Ended l ok ∷ es) fs b = backs-hands size rest (step (Ended l ok) w) es fs (b .1)
+backs-hands size rest w (Made l mover ∷ es) fs b = backs-hands size rest (step (Made l mover) w) es fs (b .1)
+backs-hands size rest w (Lost l mover ∷ es) fs b = backs-hands size rest (step (Lost l mover) w) es fs (b .1)
 backs-hands size rest w (FromTape l dest ∷ es) fs b =
     more-hands (FromTape l dest) w (es ++ fs) (b .0) ∙ backs-hands size rest (step (FromTape l dest) w) es fs (b .1)
 backs-hands size rest w (Inserted image ∷ es) fs b = backs-hands size rest (step (Inserted image) w) es fs (b .1)

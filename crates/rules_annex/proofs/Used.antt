@@ -23,10 +23,11 @@ use Rattle.wire_requests.specs.declared.MoverRequest.the-variants as MoverReque
 use Rattle.wire_requests.specs.declared.Request.{Request}
 use Rattle.wire_requests.specs.declared.Request.the-variants as Request
 use Rattle.rules_parts.specs.declared.types.Mover.{Mover}
-use Rattle.rules.specs.Answer.{Kept, requestIn}
+use Rattle.rules.specs.Answer.{Kept, Lent, requestIn}
 use Rattle.rules.specs.Order.{Call}
-use Rattle.rules_moves.specs.Sequence.{Event, Asked, ToTape, FromTape, Ended, Inserted, Renumbered, step, runs, Seen, Wrote, moverAsked, dataAsked, jointAsked, asked, moveShown, seen}
+use Rattle.rules_moves.specs.Sequence.{Event, Asked, ToTape, FromTape, Ended, Made, Lost, Inserted, Renumbered, step, runs, Seen, Wrote, moverAsked, dataAsked, jointAsked, asked, moveShown, seen}
 use Rattle.rules_moves.specs.Counts.{trace, recordsIn, sum}
+use Rattle.rules_moves.proofs.Counts.{by-made}
 use Rattle.rules_moves.proofs.Moving.{shown-moved}
 use Rattle.rules_moves.proofs.Sequence.{stepped}
 use Rattle.rules_annex.specs.Aside.{Untouched}
@@ -66,8 +67,8 @@ data-none (DataRequest.Listen address) = refl
 
 joint-none : (p : ℕ) (q : JointRequest) → recordsIn (jointAsked p q) ≡ 0
 unfolding jointAsked recordsIn
-joint-none p (JointRequest.DataConnect address) = refl
-joint-none p (JointRequest.MoverConnect mode address) = refl
+joint-none p (JointRequest.DataConnect address count) = by-test (λ (x : Seen). recordsIn x ≡ 0) (eqb address 1) _ _ (λ _. refl) (λ _. refl)
+joint-none p (JointRequest.MoverConnect mode address count) = refl
 joint-none p JointRequest.DataAbort = refl
 joint-none p JointRequest.MoverAbort = refl
 joint-none p JointRequest.MoverClose = refl
@@ -87,6 +88,10 @@ request-none w Request.Bad = refl
 asked-none : (w : Kept) (c : Call) → recordsIn (seen (Asked c) w) ≡ 0
 unfolding seen Writes recordsIn
 asked-none w c = by-test (Writes 0) _ _ _ (λ _. by-test (Writes 0) _ _ _ (λ _. request-none w (requestIn (c .ask .request))) (λ _. refl)) (λ _. refl)
+
+made-none : (w : Kept) (l : Lent) (mover : Bool) → recordsIn (seen (Made l mover) w) ≡ 0
+unfolding seen recordsIn
+made-none w l mover = by-made (λ (x : Seen). recordsIn x ≡ 0) _ _ _ refl refl
 
 -- ---- one record more
 module _ (size p : ℕ) (l part : List ℕ) (last : Bool) (l′ : List ℕ) (p′ n : ℕ) (o : WroteOne size p l part last l′ p′ n) where
@@ -165,6 +170,14 @@ used-grows w size h p (Asked c ∷ es) f =
     grows-more size w e es g (used-grows (step e w) size (stepped w h e .kept) (g .at-end) es (f .1))
 used-grows w size h p (Ended l ok ∷ es) f =
     let e = Ended l ok in
+    let g : Grows size w e = aside-grown size w (step e w) _ refl p (aside-stays w h e (f .0)) in
+    grows-more size w e es g (used-grows (step e w) size (stepped w h e .kept) (g .at-end) es (f .1))
+used-grows w size h p (Made l mover ∷ es) f =
+    let e = Made l mover in
+    let g : Grows size w e = aside-grown size w (step e w) _ (made-none w l mover) p (aside-stays w h e (f .0)) in
+    grows-more size w e es g (used-grows (step e w) size (stepped w h e .kept) (g .at-end) es (f .1))
+used-grows w size h p (Lost l mover ∷ es) f =
+    let e = Lost l mover in
     let g : Grows size w e = aside-grown size w (step e w) _ refl p (aside-stays w h e (f .0)) in
     grows-more size w e es g (used-grows (step e w) size (stepped w h e .kept) (g .at-end) es (f .1))
 used-grows w size h p (FromTape l dest ∷ es) f =

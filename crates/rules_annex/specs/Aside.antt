@@ -6,7 +6,7 @@ use Rattle.wire_requests.specs.declared.Request.{Request}
 use Rattle.wire_requests.specs.declared.Request.the-variants as Request
 use Rattle.rules.specs.Answer.{Kept, requestIn}
 use Rattle.rules_moves.specs.Events.{Moving, movedToTape, movedFromTape}
-use Rattle.rules_moves.specs.Sequence.{Event, Asked, ToTape, FromTape, Ended, Inserted, Renumbered, step}
+use Rattle.rules_moves.specs.Sequence.{Event, Asked, ToTape, FromTape, Ended, Made, Lost, Inserted, Renumbered, step}
 
 -- the tape stands where it stood, and the cartridge is as it was
 pub record Untouched (w v : Kept) : Type 0 where
@@ -31,6 +31,8 @@ AsideRequest Request.Bad w v = Unit {0}
 abbrev pub Aside : Event → Kept → Type 0
 Aside (Asked c) w = AsideRequest (requestIn (c .ask .request)) w (step (Asked c) w)
 Aside (Ended l ok) w = Unit {0}
+Aside (Made l mover) w = Unit {0}
+Aside (Lost l mover) w = Unit {0}
 Aside (ToTape l part last) w = movedToTape w l part last .count ≡ 0
 Aside (FromTape l dest) w = (movedFromTape w l dest .count ≡ 0) × Untouched w (step (FromTape l dest) w)
 Aside (Inserted image) w = image ≡ w .image

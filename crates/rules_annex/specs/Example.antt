@@ -21,7 +21,7 @@ use Rattle.rules_annex.specs.Used.{Feeds}
 use Rattle.rules_annex.specs.RoundTrip.{Trip, calls, handedOver}
 
 unfoldable pub call : ℕ → List ℕ → Call
-call message body = record { ask = record { request = recordBytes 7 0 0 message 0 0 body }; lent = lending }
+call message body = record { ask = record { request = recordBytes 7 0 0 message 0 0 body; addresses = [] }; lent = lending }
 
 abbrev pub asks : ℕ → List ℕ → Event
 asks message body = Asked (call message body)

@@ -18,7 +18,7 @@ use Rattle.rules.specs.Relation.{keeps}
 use Rattle.rules.specs.Answer.{Kept, verdict, requestIn}
 use Rattle.rules.specs.Order.{Call}
 use Rattle.rules_moves.specs.Events.{movedToTape, movedFromTape}
-use Rattle.rules_moves.specs.Sequence.{Event, Asked, ToTape, FromTape, Ended, Inserted, Renumbered, step, runs, isHeard}
+use Rattle.rules_moves.specs.Sequence.{Event, Asked, ToTape, FromTape, Ended, Made, Lost, Inserted, Renumbered, step, runs, isHeard}
 use Rattle.rules_annex.specs.Aside.{Aside, Asides, AtSize}
 
 -- ---- "the stream, followed only by the zeros that fill its last record"
@@ -41,6 +41,8 @@ Backs size rest w (ToTape l part last ∷ es) =
     × Backs size (drop (movedToTape w l part last .count) rest) (step (ToTape l part last) w) es
 Backs size rest w (Asked c ∷ es) = Aside (Asked c) w × Backs size rest (step (Asked c) w) es
 Backs size rest w (Ended l ok ∷ es) = Aside (Ended l ok) w × Backs size rest (step (Ended l ok) w) es
+Backs size rest w (Made l mover ∷ es) = Aside (Made l mover) w × Backs size rest (step (Made l mover) w) es
+Backs size rest w (Lost l mover ∷ es) = Aside (Lost l mover) w × Backs size rest (step (Lost l mover) w) es
 Backs size rest w (FromTape l dest ∷ es) = Aside (FromTape l dest) w × Backs size rest (step (FromTape l dest) w) es
 Backs size rest w (Inserted image ∷ es) = Aside (Inserted image) w × Backs size rest (step (Inserted image) w) es
 Backs size rest w (Renumbered n ∷ es) = Aside (Renumbered n) w × Backs size rest (step (Renumbered n) w) es
@@ -115,6 +117,8 @@ Recovers total asked end given w (Asked c ∷ es) =
     × InTurn asked end given (noted w c)
     × Recovers total (askedAfter asked (noted w c)) (endAfter end (noted w c)) given (step (Asked c) w) es
 Recovers total asked end given w (Ended l ok ∷ es) = Aside (Ended l ok) w × Recovers total asked end given (step (Ended l ok) w) es
+Recovers total asked end given w (Made l mover ∷ es) = Aside (Made l mover) w × Recovers total asked end given (step (Made l mover) w) es
+Recovers total asked end given w (Lost l mover ∷ es) = Aside (Lost l mover) w × Recovers total asked end given (step (Lost l mover) w) es
 Recovers total asked end given w (ToTape l part last ∷ es) = Aside (ToTape l part last) w × Recovers total asked end given (step (ToTape l part last) w) es
 Recovers total asked end given w (Inserted image ∷ es) = Aside (Inserted image) w × Recovers total asked end given (step (Inserted image) w) es
 Recovers total asked end given w (Renumbered n ∷ es) = Aside (Renumbered n) w × Recovers total asked end given (step (Renumbered n) w) es
@@ -125,6 +129,8 @@ handedBy (FromTape l dest) w = take (movedFromTape w l dest .count) (movedFromTa
 handedBy (Asked c) w = []
 handedBy (ToTape l part last) w = []
 handedBy (Ended l ok) w = []
+handedBy (Made l mover) w = []
+handedBy (Lost l mover) w = []
 handedBy (Inserted image) w = []
 handedBy (Renumbered n) w = []
 

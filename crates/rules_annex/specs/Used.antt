@@ -8,7 +8,7 @@ use Rattle.tape_image.specs.Image.{count, used}
 use Rattle.rules.specs.Relation.{keeps}
 use Rattle.rules.specs.Answer.{Kept}
 use Rattle.rules_moves.specs.Events.{movedToTape}
-use Rattle.rules_moves.specs.Sequence.{Event, Asked, ToTape, FromTape, Ended, Inserted, Renumbered, step, runs}
+use Rattle.rules_moves.specs.Sequence.{Event, Asked, ToTape, FromTape, Ended, Made, Lost, Inserted, Renumbered, step, runs}
 use Rattle.rules_moves.specs.Counts.{trace, recordsIn, sum}
 use Rattle.rules_annex.specs.Aside.{Aside, AtSize}
 
@@ -18,6 +18,8 @@ Feeds size w [] = Unit {0}
 Feeds size w (ToTape l part last ∷ es) = AtSize size w (movedToTape w l part last) × Feeds size (step (ToTape l part last) w) es
 Feeds size w (Asked c ∷ es) = Aside (Asked c) w × Feeds size (step (Asked c) w) es
 Feeds size w (Ended l ok ∷ es) = Aside (Ended l ok) w × Feeds size (step (Ended l ok) w) es
+Feeds size w (Made l mover ∷ es) = Aside (Made l mover) w × Feeds size (step (Made l mover) w) es
+Feeds size w (Lost l mover ∷ es) = Aside (Lost l mover) w × Feeds size (step (Lost l mover) w) es
 Feeds size w (FromTape l dest ∷ es) = Aside (FromTape l dest) w × Feeds size (step (FromTape l dest) w) es
 Feeds size w (Inserted image ∷ es) = Aside (Inserted image) w × Feeds size (step (Inserted image) w) es
 Feeds size w (Renumbered n ∷ es) = Aside (Renumbered n) w × Feeds size (step (Renumbered n) w) es

@@ -2,10 +2,11 @@
 use Prim.Native.Nat.{ℕ}
 use mathlib.Core.Bool.{Bool, true, false, not}
 use mathlib.Core.List.{List}
-use mathlib.Core.Path.{_≡_, refl}
+use mathlib.Core.Path.{_≡_, refl, sym, ap}
 use lib.Dec.{eqb, ltb}
+use borrow.Author.Tests.{eqb-true}
 use Rattle.xdr.specs.Choose.{choose}
-use Rattle.xdr.proofs.Tests.{by-test}
+use Rattle.xdr.proofs.Tests.{by-test, unless}
 use Rattle.wire_frame.specs.Frame.{wellFramed, kindOf, bodyOf}
 use Rattle.wire_requests.specs.declared.DataRequest.{DataRequest}
 use Rattle.wire_requests.specs.declared.DataRequest.the-variants as DataRequest
@@ -25,18 +26,34 @@ use Rattle.rules_parts.specs.declared.types.Session.{Session}
 use Rattle.rules.specs.declared.Ends.{Ends}
 use Rattle.rules_parts.specs.Names.{leastRoom}
 use Rattle.rules.specs.Judge.{Outcome, refuse, accept, onto, isAccepted, Accepts}
-use Rattle.rules_parts.specs.Parts.{dataJoined, moverJoined, afterMessage, shut}
+use Rattle.rules_parts.specs.Parts.{dataTo, moverRuns, addressWrong, afterMessage, shut}
 use Rattle.rules.specs.DataService.{dataState, dataListen, dataStart, dataStop, dataStep}
 use Rattle.rules.specs.MoverService.{moverState, moverListen, moverContinue, moverStop, setWindow, moverRead, setSize, moverStep}
 use Rattle.rules.specs.TapeService.{withLoaded, withMover, moverPartStep, tapeStep}
-use Rattle.rules.specs.Joint.{dataConnect, moverConnect, dataAborted, dataAbort, moverAborted, moverAbort, moverClose, jointStep}
+use Rattle.rules.specs.Joint.{moverAwaits, dataConnect, moverConnect, dataAborted, dataAbort, moverAborted, moverAbort, moverClosed, moverClose, jointStep}
 use Rattle.rules.specs.Relation.{keeps}
 use Rattle.rules.specs.Answer.{Kept, Lent, held, Answered, guarded, answered, requested, judged, isClose, settled, verdict, outcome, closing}
-use Rattle.rules.specs.Answer.{Done, tapePart, withData, withTape, withChanger, withLogin, withEnds, requestIn}
+use Rattle.rules.specs.Answer.{Done, tapePart, withData, withPart, withTape, withChanger, withLogin, withEnds, requestIn}
+use Rattle.rules.proofs.Keeping.{clash, met}
 use Rattle.rules.proofs.JudgeLaws.{judged-by, accepts, accepts-any, refusal-says, carried}
 use Rattle.rules.proofs.Calls.{noticed-holds, close-is}
-use Rattle.rules_moves.specs.Sequence.{Seen, Sized, Windowed, Sought, MoverStopped, DataStopped, Began, Nothing, partsRegister, registerOf, after, FitsRegister, isHeard}
+use Rattle.rules_moves.specs.Sequence.{Seen, Sized, Windowed, Sought, MoverStopped, DataStopped, Listened, Joined, Began, Nothing, partsRegister, withOrigin, withAddress, registerOf, after, FitsRegister, isHeard}
 use Rattle.rules_moves.specs.Sequence.{moverAsked, dataAsked, jointAsked, asked}
+
+-- ---- of a connect: the type of the end that awaits it, and of one that is not TCP
+awaits-local : (m : Mover) → moverAwaits m ≡ true → m .address ≡ 0
+unfolding moverAwaits
+awaits-local m h = by-test (λ (b : Bool). b ≡ true → m .address ≡ 0) (eqb (m .address) 0) _ _ (λ e _. eqb-true (m .address) 0 e) (λ _ z. clash false refl z) h
+
+pub local-type : (address : ℕ) (useless : Bool) → addressWrong address useless ≡ false → eqb address 1 ≡ false → address ≡ 0
+unfolding addressWrong
+local-type address useless h e =
+    by-test (λ (b : Bool). b ≡ false → address ≡ 0) (eqb address 0) _ _ (λ z _. eqb-true address 0 z) (λ _ z. clash true (unless (eqb address 1) _ z e) refl) h
+
+both-ways : {A B : Type 0} (b : Bool) (P : A → B → Type 0) (x y : A) (u v : B) → (b ≡ true → P x u) → (b ≡ false → P y v) → P (choose b x y) (choose b u v)
+unfolding choose
+both-ways true P x y u v f g = f refl
+both-ways false P x y u v f g = g refl
 
 -- ---- the mover and the data end: what is shown makes the next register, and fits the one before
 module _ (d : Data) (m : Mover) where
@@ -46,39 +63,55 @@ module _ (d : Data) (m : Mover) where
   MoverShown : Seen → Reply → Mover → Type 0
   MoverShown x _ n = Shown x d n
 
-  mover-shown : (t : Tape) (q : MoverRequest) → Accepts (MoverShown (moverAsked (t .position) q)) (moverStep m t q)
+  mover-shown : (t : Tape) (q : MoverRequest) (list : List ℕ) → Accepts (MoverShown (moverAsked (t .position) q)) (moverStep m t q list)
   unfolding moverStep moverState moverListen moverContinue moverStop setWindow moverRead setSize moverAsked after MoverShown Shown
-  mover-shown t MoverRequest.State = accepts (MoverShown Nothing) _ _ _ (λ _. (refl, tt))
-  mover-shown t (MoverRequest.Listen mode address) = accepts (MoverShown Nothing) _ _ _ (λ _. (refl, tt))
-  mover-shown t MoverRequest.Continue = accepts (MoverShown (Began (t .position))) _ _ _ (λ _. (refl, tt))
-  mover-shown t MoverRequest.Stop = accepts (MoverShown MoverStopped) _ _ _ (λ _. (refl, tt))
-  mover-shown t (MoverRequest.Window offset length) = accepts (MoverShown (Windowed offset length)) _ _ _ (λ _. (refl, tt))
-  mover-shown t (MoverRequest.Read offset length) = accepts (MoverShown (Sought offset length)) _ _ _ (λ _. (refl, tt))
-  mover-shown t (MoverRequest.Size size) = accepts (MoverShown (Sized size)) _ _ _ (λ _. (refl, tt))
+  mover-shown t MoverRequest.State list = accepts (MoverShown Nothing) _ _ _ (λ _. (refl, tt))
+  mover-shown t (MoverRequest.Listen mode address) list = accepts (MoverShown (Listened address)) _ _ _ (λ _. (refl, tt))
+  mover-shown t MoverRequest.Continue list = accepts (MoverShown (Began (t .position))) _ _ _ (λ _. (refl, tt))
+  mover-shown t MoverRequest.Stop list = accepts (MoverShown MoverStopped) _ _ _ (λ _. (refl, tt))
+  mover-shown t (MoverRequest.Window offset length) list = accepts (MoverShown (Windowed offset length)) _ _ _ (λ _. (refl, tt))
+  mover-shown t (MoverRequest.Read offset length) list = accepts (MoverShown (Sought offset length)) _ _ _ (λ _. (refl, tt))
+  mover-shown t (MoverRequest.Size size) list = accepts (MoverShown (Sized size)) _ _ _ (λ _. (refl, tt))
 
   DataShown : Seen → Reply → Data → Type 0
   DataShown x _ e = Shown x e m
 
-  data-shown : (q : DataRequest) (body : List ℕ) → Accepts (DataShown (dataAsked q)) (dataStep d q body)
+  data-shown : (q : DataRequest) (body list : List ℕ) → Accepts (DataShown (dataAsked q)) (dataStep d q body list)
   unfolding dataStep dataState dataListen dataStart dataStop dataAsked after DataShown Shown
-  data-shown DataRequest.State body = accepts (DataShown Nothing) _ _ _ (λ _. (refl, tt))
-  data-shown (DataRequest.Backup name) body = accepts (DataShown Nothing) _ _ _ (λ _. (refl, tt))
-  data-shown (DataRequest.Recover name) body = accepts (DataShown Nothing) _ _ _ (λ _. (refl, tt))
-  data-shown DataRequest.Stop body = accepts (DataShown DataStopped) _ _ _ (λ _. (refl, tt))
-  data-shown (DataRequest.Listen address) body = accepts (DataShown Nothing) _ _ _ (λ _. (refl, tt))
+  data-shown DataRequest.State body list = accepts (DataShown Nothing) _ _ _ (λ _. (refl, tt))
+  data-shown (DataRequest.Backup name) body list = accepts (DataShown Nothing) _ _ _ (λ _. (refl, tt))
+  data-shown (DataRequest.Recover name) body list = accepts (DataShown Nothing) _ _ _ (λ _. (refl, tt))
+  data-shown DataRequest.Stop body list = accepts (DataShown DataStopped) _ _ _ (λ _. (refl, tt))
+  data-shown (DataRequest.Listen address) body list = accepts (DataShown Nothing) _ _ _ (λ _. (refl, tt))
 
   EndsShown : Seen → Reply → Ends → Type 0
   EndsShown x _ e = Shown x (e .source) (e .mover)
 
-  joint-shown : (t : Tape) (q : JointRequest) → Accepts (EndsShown (jointAsked (t .position) q)) (jointStep d m t q)
-  unfolding jointStep dataAbort dataConnect moverAbort moverClose moverConnect dataAborted moverAborted jointAsked after EndsShown Shown
-  joint-shown t JointRequest.DataAbort =
-      accepts (EndsShown Nothing) _ _ _ (λ _. by-test (EndsShown Nothing Reply.Plain) (dataJoined (d .state)) _ _ (λ _. (refl, tt)) (λ _. (refl, tt)))
-  joint-shown t (JointRequest.DataConnect address) = accepts (EndsShown (Began (t .position))) _ _ _ (λ _. (refl, tt))
-  joint-shown t JointRequest.MoverAbort =
-      accepts (EndsShown Nothing) _ _ _ (λ _. by-test (EndsShown Nothing Reply.Plain) (moverJoined (m .state)) _ _ (λ _. (refl, tt)) (λ _. (refl, tt)))
-  joint-shown t JointRequest.MoverClose = accepts (EndsShown Nothing) _ _ _ (λ _. (refl, tt))
-  joint-shown t (JointRequest.MoverConnect mode address) = accepts (EndsShown (Began (t .position))) _ _ _ (λ _. (refl, tt))
+  -- by LOCAL the mover's type was LOCAL, since it awaited the connect
+  began-local : (position mode : ℕ) → m .address ≡ 0 → Shown (Began position) (dataTo 4 0 d) (moverRuns mode 0 position m)
+  unfolding after Shown
+  began-local position mode e = (ap (λ (a : ℕ). withAddress a (withOrigin position (partsRegister d m))) (sym e), tt)
+
+  -- one end or both halted: the register is as it was
+  aborted : (b : Bool) (x y : Ends) → partsRegister (x .source) (x .mover) ≡ partsRegister d m → partsRegister (y .source) (y .mover) ≡ partsRegister d m
+      → EndsShown Nothing Reply.Plain (choose b x y)
+  unfolding after EndsShown Shown
+  aborted b x y e f = by-test (EndsShown Nothing Reply.Plain) b x y (λ _. (e, tt)) (λ _. (f, tt))
+
+  joint-shown : (t : Tape) (q : JointRequest) (made : Bool) → Accepts (EndsShown (jointAsked (t .position) q)) (jointStep d m t q made)
+  unfolding jointStep dataAbort dataConnect moverAbort moverClose moverConnect dataAborted moverAborted moverClosed jointAsked after EndsShown Shown
+  joint-shown t JointRequest.DataAbort made = accepts (EndsShown Nothing) _ _ _ (λ _. aborted _ _ _ refl refl)
+  joint-shown t (JointRequest.DataConnect address count) made =
+      accepts (EndsShown (choose (eqb address 1) Nothing (Began (t .position)))) _ _ _
+      (λ g. both-ways (eqb address 1) (λ x (e : Ends). EndsShown x Reply.Plain e) _ _ _ _ (λ _. (refl, tt))
+      (λ e. began-local (t .position) (m .mode) (awaits-local m (met address _ made (g 2) e))))
+  joint-shown t JointRequest.MoverAbort made = accepts (EndsShown Nothing) _ _ _ (λ _. aborted _ _ _ refl refl)
+  joint-shown t JointRequest.MoverClose made = accepts (EndsShown Nothing) _ _ _ (λ _. aborted _ _ _ refl refl)
+  joint-shown t (JointRequest.MoverConnect mode address count) made =
+      accepts (EndsShown (Joined address (t .position))) _ _ _
+      (λ g. by-test (EndsShown (Joined address (t .position)) Reply.Plain) (eqb address 1) _ _
+      (λ e. (ap (λ (a : ℕ). withAddress a (withOrigin (t .position) (partsRegister d m))) (sym (eqb-true address 1 e)), tt))
+      (λ e. (ap (λ (a : ℕ). withAddress a (withOrigin (t .position) (partsRegister d m))) (sym (local-type address _ (g 6) e)), tt)))
 
 -- ---- two values behind one guard
 guards-two : {A B : Type 0} (P : A → B → Type 0) (a b c : Bool) (i : ℕ → A) (j : ℕ → B) (x : A) (y : B) → ((code : ℕ) → P (i code) (j code)) → P x y
@@ -167,14 +200,14 @@ module _ (k : Kept) (l : Lent) (r : List ℕ) where
       carried (DoneLeft Nothing) (withTape k) _ (carried (λ reply p. DoneLeft Nothing reply (withTape k p)) (withLoaded (tapePart k)) _
       (accepts-any (λ reply p. DoneLeft Nothing reply (withTape k (withLoaded (tapePart k) p))) (λ _ _. (refl, tt)) _))
   outcome-left (Request.Data q) =
-      carried (DoneLeft (dataAsked q)) (withData k) _ (data-shown (k .session .source) (k .session .mover) q (bodyOf r))
+      carried (DoneLeft (dataAsked q)) (withData k (l .addresses)) _ (data-shown (k .session .source) (k .session .mover) q (bodyOf r) (l .addresses))
   outcome-left (Request.Mover q) =
       let x = moverAsked (k .session .tape .position) q in
-      carried (DoneLeft x) (withTape k) _ (carried (λ reply p. DoneLeft x reply (withTape k p)) (withMover (tapePart k)) _
-      (mover-shown (k .session .source) (k .session .mover) (k .session .tape) q))
+      carried (DoneLeft x) (withPart k (l .addresses)) _ (carried (λ reply p. DoneLeft x reply (withPart k (l .addresses) p)) (withMover (tapePart k)) _
+      (mover-shown (k .session .source) (k .session .mover) (k .session .tape) q (l .addresses)))
   outcome-left (Request.Joint q) =
       carried (DoneLeft (jointAsked (k .session .tape .position) q)) (withEnds k) _
-      (joint-shown (k .session .source) (k .session .mover) (k .session .tape) q)
+      (joint-shown (k .session .source) (k .session .mover) (k .session .tape) q (l .made))
 
   -- a close shows nothing
   close-shows : (q : Request) → isClose q ≡ true → asked k q ≡ Nothing

@@ -13,34 +13,34 @@ use Rattle.wire_frame.specs.Frame.{wellFramed, recordBytes}
 use Rattle.wire_frame.specs.Messages.{look, rowOf}
 use Rattle.wire_layouts.specs.Layout as layout
 use Rattle.wire_layouts.specs.Scans.{put, puts, summed, scanned}
-use Rattle.wire_requests.specs.Bodies.{decoded, connectBody, tapeBody, dataBody, moverBody, jointBody}
-use Rattle.wire_replies.specs.Replies.{opaques, bodyBytes, shapeOf, headerError, replyBytes, noticeNumber, noticeWords, noticeBytes}
+use Rattle.wire_layouts.specs.AddressLists.{isTcp, lendable}
+use Rattle.wire_requests.specs.Bodies.{decoded, connectBody, configBody, tapeBody, dataBody, moverBody, jointBody}
+use Rattle.wire_replies.specs.Replies.{opaques, bodyBytes, addressWords, shapeOf, headerError, replyBytes, noticeNumber, noticeWords, noticeBytes}
 use Rattle.rules.specs.Answer.{guarded, noticed, outcome, needsLogin, isLocked, verdict, isUnread, refusing, settled, isClose, judged, requested, answered}
 use Rattle.rules.specs.Calls.{opening}
-use Rattle.rules.specs.Connection.{connectOpen, matches, clientAuth, connectStep}
-use Rattle.rules.specs.DataService.{dump, dataStart, dataState, dataStop, dataStep}
-use Rattle.rules.specs.Joint.{dataConnect, moverConnect, atRest, moverAborted, moverAbort, moverClose, jointStep}
+use Rattle.rules.specs.Connection.{connectOpen, matches, clientAuth, connectStep, configStep}
+use Rattle.rules.specs.Addresses.{listening, unmet}
+use Rattle.rules.specs.DataService.{dump, dataListen, dataStart, dataState, dataStop, dataStep}
+use Rattle.rules.specs.Joint.{dataAwaits, moverAwaits, dataConnect, moverConnect, atRest, moverAborted, moverAbort, moverClosed, moverClose, jointStep}
 use Rattle.rules.specs.Judge.{judge, onto}
 use Rattle.rules.specs.MoverService.{recordNumber, moverState, offsetWrong, moverListen, moverContinue, moverStop, busy, elsewhere}
 use Rattle.rules.specs.MoverService.{setWindow, moverRead, setSize, moverStep}
-use Rattle.rules_parts.specs.Parts.{windowEnd, pastTop, lengthWrong, toldIn, dataJoined, moverJoined, holdsTape, unwritable}
+use Rattle.rules_parts.specs.Parts.{windowEnd, pastTop, lengthWrong, toldIn, dataJoined, moverJoined, dataPartnered, moverPartnered, addressWrong, holdsTape, unwritable}
 use Rattle.rules.specs.Relation.{dataWrong, numbersWrong, windowWrong, startWrong, holdWrong, strays, resumeWrong, placeWrong}
 use Rattle.rules.specs.Relation.{originWrong, moverWrong, sameFlag, keeps}
 use Rattle.rules.specs.TapeService.{tape0, tapeOpen, isRefusal, protects, tapeState, tapeMtio, deviceStep, tapeStep, moverPartStep}
 use Rattle.rules_moves.specs.Cases.{wordsBytes, wire, wide, runLine, runCase, notices, expect, streamed}
-use Rattle.rules_moves.specs.Events.{movedToTape, movedFromTape, methodEnded}
-use Rattle.rules_moves.specs.Examples.{ExamplesHold}
+use Rattle.rules_moves.specs.Events.{movedToTape, movedFromTape, methodEnded, connectionMade, connectionLost}
 use Rattle.rules_moves.specs.RecoverCases.{RecoverCasesHold}
-use Rattle.rules_moves.specs.FirstSizeCases.{FirstSizeCasesHold}
-use Rattle.rules_moves.specs.EndlessCases.{EndlessCasesHold}
-use Rattle.rules_moves.specs.Moves.{idle, streamEnds, scant, windowUsed, filling, toTape, outside, seekFrom, amount, reading, onFound, seeking, fromTape, methodEnd}
+use Rattle.rules_moves.specs.TcpCases.{TcpCasesHold}
+use Rattle.rules_moves.specs.Moves.{idle, streamEnds, scant, windowUsed, filling, toTape, outside, seekFrom, amount, reading, onFound, seeking, fromTape, methodEnd, fedBy, haltsWith, atTcp, madeAt, lostAt}
 
-pub cases-hold : ExamplesHold × RecoverCasesHold × FirstSizeCasesHold × EndlessCasesHold
+pub cases-hold : RecoverCasesHold × TcpCasesHold
 unfolding
     choose allOf be32 be32s word be64 hyper overlay sameBytes allZero opaqueAt opaque
     entryBytes headerOk tableOk isSound faulty marksBefore recordsSince aheadOf passes positionAfter leftAfter stops walk spacing
     kept roomFor withEntry written fillTo least mtioStep standingAt wellFramed recordBytes look rowOf layout.pieceOf layout.partAt layout.prepend
-    layout.andPart layout.andGot layout.partsAt layout.timesAt layout.single layout.counted layout.fieldAt layout.andValue layout.andRead
+    layout.andPart layout.andGot layout.partsAt layout.timesAt layout.single layout.counted layout.itemsOf layout.elementAt layout.fieldAt layout.andValue layout.andRead
     layout.readAs put puts summed scanned decoded connectBody tapeBody dataBody moverBody jointBody opaques bodyBytes shapeOf headerError
     replyBytes noticeNumber noticeWords noticeBytes guarded noticed outcome needsLogin isLocked verdict isUnread refusing settled
     isClose judged requested answered opening connectOpen matches clientAuth connectStep dump dataStart dataState dataStop
@@ -49,10 +49,7 @@ unfolding
     numbersWrong windowWrong startWrong holdWrong strays resumeWrong placeWrong originWrong moverWrong sameFlag keeps tape0
     tapeOpen isRefusal protects tapeState tapeMtio deviceStep tapeStep moverPartStep movedToTape movedFromTape methodEnded wordsBytes
     wire wide runLine runCase notices expect streamed idle streamEnds scant windowUsed filling toTape outside seekFrom amount reading onFound
-    seeking fromTape methodEnd moverConnect atRest moverAborted moverAbort
-cases-hold = (
-  refl,
-  refl,
-  record { fresh = refl; handed-in = refl },
-  record { cases = refl; legal = (refl, refl); record-more = refl; empty-part = refl; short-part = refl; stream-over = refl },
-)
+    seeking fromTape methodEnd moverConnect atRest moverAborted moverAbort moverClosed dataAwaits moverAwaits dataListen
+    addressWrong dataPartnered moverPartnered listening unmet isTcp lendable addressWords configBody configStep fedBy haltsWith atTcp madeAt lostAt
+    connectionMade connectionLost
+cases-hold = (refl, refl)

@@ -25,7 +25,7 @@ use Rattle.rules.proofs.Calls.{kept-facts}
 use Rattle.rules_moves.specs.declared.Move.{Move}
 use Rattle.rules_moves.specs.Moves.{pauses, idle, streamEnds, scant, writing, windowUsed, filling, toTape}
 use Rattle.rules_moves.specs.Sequence.{Event, step, runs}
-use Rattle.rules_moves.specs.Sequence.{Seen, Sized, Windowed, Sought, MoverStopped, DataStopped, Began, Paused, Wrote, Handed, Nothing, Register, after, seen, registerOf}
+use Rattle.rules_moves.specs.Sequence.{Seen, Sized, Windowed, Sought, MoverStopped, DataStopped, Listened, Joined, Began, Paused, Wrote, Handed, Nothing, Register, after, seen, registerOf}
 use Rattle.rules_moves.specs.Counts.{trace, recordsIn, sum, IsToTape}
 use Rattle.rules_moves.specs.Endless.{AtFour, EndlessMoves}
 use Rattle.rules_moves.proofs.Moving.{times, whole-more}
@@ -94,7 +94,9 @@ below-after r (Windowed o n) i h = absurd i
 below-after r (Sought o n) i h = absurd i
 below-after r MoverStopped i h = absurd i
 below-after r DataStopped i h = absurd i
-below-after r (Began position) i h = absurd i
+below-after r (Began position) i h = h
+below-after r (Listened address) i h = absurd i
+below-after r (Joined address position) i h = absurd i
 
 below-top : (w : Kept) → keeps (w .session) ≡ true → w .session .mover .moved ≤ top → (es : List Event) → Each IsToTape es → runs w es .session .mover .moved ≤ top
 unfolding runs

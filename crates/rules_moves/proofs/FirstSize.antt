@@ -35,15 +35,16 @@ use Rattle.rules_parts.specs.declared.types.Tape.{Tape}
 use Rattle.rules_parts.specs.declared.types.Session.{Session}
 use Rattle.rules.specs.Judge.{Test, test, Outcome, refuse, accept, judge, onto, isAccepted, Accepts, Refuses}
 use Rattle.codes.specs.Codes.{otherNotListening}
-use Rattle.rules_parts.specs.Names.{dataListening}
 use Rattle.rules.specs.MoverService.{offsetWrong, joinTests, moverListen, moverContinue, busy, setWindow, setSize, moverStep}
-use Rattle.rules.specs.Joint.{moverConnect, jointStep}
+use Rattle.rules.specs.Addresses.{connectWrong, listening, unmet}
+use Rattle.rules.specs.Joint.{dataAwaits, moverConnect, jointStep}
 use Rattle.rules.specs.TapeService.{withMover, moverPartStep}
 use Rattle.rules.specs.Relation.{keeps}
 use Rattle.rules.specs.Answer.{Kept, Lent, held, Answered, answered, judged, isClose, settled, halting, noticed, replying, silent, verdict, outcome}
-use Rattle.rules.specs.Answer.{Done, tapePart, withTape, withEnds, requestIn, needsLogin, isLocked, isUnread, refusing}
+use Rattle.rules.specs.Answer.{Done, tapePart, withPart, withEnds, requestIn, needsLogin, isLocked, isUnread, refusing}
 use Rattle.rules.specs.Order.{isOneOf}
 use Rattle.rules.specs.Calls.{opening, isNumber}
+use Rattle.rules_parts.proofs.Addressing.{mover-same}
 use Rattle.rules.proofs.JudgeLaws.{judged-by, accepts, carried, refuses-onto}
 use Rattle.rules.proofs.Kept.{mover-kept, kept-mover}
 use Rattle.rules.proofs.Keeping.{clash, idle-free, size-kept}
@@ -51,13 +52,13 @@ use Rattle.rules.proofs.Services.{one-of}
 use Rattle.rules.proofs.Calls.{by-call, kept-facts, facts-kept, calls-keep}
 use Rattle.rules.proofs.Leaving.{small-number, noticed-reply}
 use Rattle.rules.proofs.Numbers.{refusal-right}
-use Rattle.rules_moves.specs.Sequence.{Event, Asked, ToTape, FromTape, Ended, Inserted, Renumbered, step, runs, isHeard, seen}
-use Rattle.rules_moves.specs.Sequence.{Seen, Sized, Windowed, Sought, MoverStopped, DataStopped, Began, Paused, Wrote, Handed, Nothing}
+use Rattle.rules_moves.specs.Sequence.{Event, Asked, ToTape, FromTape, Ended, Made, Lost, Inserted, Renumbered, step, runs, isHeard, seen}
+use Rattle.rules_moves.specs.Sequence.{Seen, Sized, Windowed, Sought, MoverStopped, DataStopped, Listened, Joined, Began, Paused, Wrote, Handed, Nothing}
 use Rattle.rules_moves.specs.Sequence.{Register, registerOf, after, moverAsked, dataAsked, jointAsked, asked}
 use Rattle.rules_moves.specs.FirstSize.{askingWindow, afterOpen, errorTold, Unready, no-window, inside, Cause, at-listen, at-connect, at-continue}
 use Rattle.rules_moves.specs.FirstSize.{unsized, Unsized, MayJoin, Gets26, HandedIn, FirstSize}
 use Rattle.rules_moves.proofs.Sequence.{stepped, moves-keep}
-use Rattle.rules_moves.proofs.Counts.{by-shown}
+use Rattle.rules_moves.proofs.Counts.{by-shown, by-made}
 
 -- ---- a size that is seen is not 0
 abbrev Sizes : Seen → Type 0
@@ -66,6 +67,8 @@ Sizes (Windowed o n) = Unit {0}
 Sizes (Sought o n) = Unit {0}
 Sizes MoverStopped = Unit {0}
 Sizes DataStopped = Unit {0}
+Sizes (Listened address) = Unit {0}
+Sizes (Joined address position) = Unit {0}
 Sizes (Began position) = Unit {0}
 Sizes Paused = Unit {0}
 Sizes (Wrote n k) = Unit {0}
@@ -82,7 +85,7 @@ module _ (k : Kept) (l : Lent) (r : List ℕ) where
   some-size : (n : ℕ) → Accepts (λ _ _. 1 ≤ n) (verdict k l r (Request.Mover (MoverRequest.Size n)))
   unfolding verdict outcome moverPartStep moverStep setSize
   some-size n =
-      judged-by (λ _ _. 1 ≤ n) _ _ (λ _. carried (λ _ _. 1 ≤ n) (withTape k) _ (carried (λ _ _. 1 ≤ n) (withMover (tapePart k)) _
+      judged-by (λ _ _. 1 ≤ n) _ _ (λ _. carried (λ _ _. 1 ≤ n) (withPart k _) _ (carried (λ _ _. 1 ≤ n) (withMover (tapePart k)) _
       (accepts (λ _ _. 1 ≤ n) _ _ _ (λ clear. let z : n ≡ 0 → ⊥ = eqb-false n 0 (clear 1) in omega arith))))
 
   mover-sizes : (q : MoverRequest) → isAccepted (verdict k l r (Request.Mover q)) ≡ true → Sizes (moverAsked (k .session .tape .position) q)
@@ -105,8 +108,8 @@ module _ (k : Kept) (l : Lent) (r : List ℕ) where
 
   joint-sizes : (q : JointRequest) → Sizes (jointAsked (k .session .tape .position) q)
   unfolding jointAsked
-  joint-sizes (JointRequest.DataConnect address) = tt
-  joint-sizes (JointRequest.MoverConnect mode address) = tt
+  joint-sizes (JointRequest.DataConnect address count) = by-test Sizes (eqb address 1) _ _ (λ _. tt) (λ _. tt)
+  joint-sizes (JointRequest.MoverConnect mode address count) = tt
   joint-sizes JointRequest.DataAbort = tt
   joint-sizes JointRequest.MoverAbort = tt
   joint-sizes JointRequest.MoverClose = tt
@@ -132,6 +135,8 @@ seen-sizes (Asked c) w =
 seen-sizes (ToTape l stream last) w = by-shown Sizes _ _ _ _ tt tt tt
 seen-sizes (FromTape l dest) w = by-shown Sizes _ _ _ _ tt tt tt
 seen-sizes (Ended l ok) w = tt
+seen-sizes (Made l mover) w = by-made Sizes _ _ _ tt tt
+seen-sizes (Lost l mover) w = tt
 seen-sizes (Inserted image) w = tt
 seen-sizes (Renumbered n) w = tt
 
@@ -142,6 +147,8 @@ size-after r (Windowed o n) s h = h
 size-after r (Sought o n) s h = h
 size-after r MoverStopped s h = h
 size-after r DataStopped s h = h
+size-after r (Listened address) s h = h
+size-after r (Joined address position) s h = h
 size-after r (Began position) s h = h
 size-after r Paused s h = h
 size-after r (Wrote n k) s h = h
@@ -217,9 +224,9 @@ module _ (m : Mover) (n : 1 ≤ m .size) where
       by-test (λ (b : Bool). b ≡ true → Unready m mode) (eqb mode 0) _ _
       (λ e h. inside (eqb-true mode 0 e) (λ z. clash (not (eqb (m .offset) 0)) (eq-not z) h)) (λ _ h. clash false refl h)
 
-  join-tells : (q : Request) (t : Tape) (mode address : ℕ) → (Unready m mode → Cause m q) → Tells (Means q) (joinTests m t mode address)
+  join-tells : (q : Request) (t : Tape) (mode : ℕ) (wrong : Bool) → (Unready m mode → Cause m q) → Tells (Means q) (joinTests m t mode wrong)
   unfolding Means
-  join-tells q t mode address c = (
+  join-tells q t mode wrong c = (
     other q _ 6 (λ z. omega arith),
     (
       other q _ 19 (λ z. omega arith),
@@ -253,12 +260,12 @@ module _ (m : Mover) (n : 1 ≤ m .size) where
 -- ---- causes are of other requests
 not-window : (m : Mover) (q : Request) → Cause m q → (offset length : ℕ) → q ≡ Request.Mover (MoverRequest.Window offset length) → ⊥
 not-window m q (at-listen mode address u) offset length e = let z : _≡_ {A = ℕ} 0 1 = cc in omega arith
-not-window m q (at-connect mode address u) offset length e = let z : _≡_ {A = ℕ} 0 1 = cc in omega arith
+not-window m q (at-connect mode address count u) offset length e = let z : _≡_ {A = ℕ} 0 1 = cc in omega arith
 not-window m q (at-continue u) offset length e = let z : _≡_ {A = ℕ} 0 1 = cc in omega arith
 
 not-bad : (m : Mover) (q : Request) → Cause m q → q ≡ Request.Bad → ⊥
 not-bad m q (at-listen mode address u) e = let z : _≡_ {A = ℕ} 0 1 = cc in omega arith
-not-bad m q (at-connect mode address u) e = let z : _≡_ {A = ℕ} 0 1 = cc in omega arith
+not-bad m q (at-connect mode address count u) e = let z : _≡_ {A = ℕ} 0 1 = cc in omega arith
 not-bad m q (at-continue u) e = let z : _≡_ {A = ℕ} 0 1 = cc in omega arith
 
 -- ---- a reply with the number first in its body
@@ -313,6 +320,12 @@ module _ (k : Kept) (l : Lent) (r : List ℕ) where
       (by-test (Explained q) (isClose q) _ _ (λ _. none-told q 0 _)
       (λ _. settled-explained q (verdict k l r q) h (refusal-right k l r q) (a .refused) (a .accepted)))
 
+-- what a listen answers has its number first
+listening-first : (address : ℕ) → (placeOf (listening address) ≡ 0) × (numberOf (listening address) ≡ 0)
+unfolding listening placeOf numberOf
+listening-first address =
+    by-test (λ (reply : Reply). (placeOf reply ≡ 0) × (numberOf reply ≡ 0)) (eqb address 1) _ _ (λ _. (refl, refl)) (λ _. (refl, refl))
+
 -- ---- what a message's body is read as, where it decodes
 module _ (P : Request → Type 0) (b : List ℕ) where
   listen-read : ((mode address : ℕ) → P (Request.Mover (MoverRequest.Listen mode address))) → P Request.Bad
@@ -329,10 +342,10 @@ module _ (P : Request → Type 0) (b : List ℕ) where
   unfolding decoded moverBody
   window-read h z = by-test P _ _ _ (λ _. h _ _) (λ _. z)
 
-  connect-read : ((mode address : ℕ) → P (Request.Joint (JointRequest.MoverConnect mode address))) → P Request.Bad
+  connect-read : ((mode address count : ℕ) → P (Request.Joint (JointRequest.MoverConnect mode address count))) → P Request.Bad
       → P (decoded (Message.Joint JointKind.MoverConnect) b)
   unfolding decoded jointBody
-  connect-read h z = by-test P _ _ _ (λ _. h _ _) (λ _. z)
+  connect-read h z = by-test P _ _ _ (λ _. h _ _ _) (λ _. z)
 
 -- ---- the four requests, on a session that has a record size
 module _ (k : Kept) (l : Lent) (r : List ℕ) (n : 1 ≤ k .session .mover .size) where
@@ -343,17 +356,17 @@ module _ (k : Kept) (l : Lent) (r : List ℕ) (n : 1 ≤ k .session .mover .size
   logged-in : (q : Request) (o : Outcome Done) (b : Bool) → Refuses (Mean q) o → Refuses (Mean q) (judge (test b 4 ∷ []) o)
   logged-in q o b h = refuses-told (Mean q) _ o (λ _ z. absurd (omega arith), tt) h
 
-  mover-asks : (q : MoverRequest) → Refuses (Mean (Request.Mover q)) (moverStep (k .session .mover) (k .session .tape) q)
-      → Accepts First (moverStep (k .session .mover) (k .session .tape) q) → Asks k l r (Request.Mover q)
+  mover-asks : (q : MoverRequest) → Refuses (Mean (Request.Mover q)) (moverStep (k .session .mover) (k .session .tape) q (l .addresses))
+      → Accepts First (moverStep (k .session .mover) (k .session .tape) q (l .addresses)) → Asks k l r (Request.Mover q)
   unfolding verdict outcome moverPartStep
   mover-asks q h a =
       record {
-        refused = logged-in (Request.Mover q) _ _ (refuses-onto (Mean (Request.Mover q)) (withTape k) _ (refuses-onto (Mean (Request.Mover q)) (withMover (tapePart k)) _ h));
-        accepted = judged-by First _ _ (λ _. carried First (withTape k) _ (carried First (withMover (tapePart k)) _ a));
+        refused = logged-in (Request.Mover q) _ _ (refuses-onto (Mean (Request.Mover q)) (withPart k _) _ (refuses-onto (Mean (Request.Mover q)) (withMover (tapePart k)) _ h));
+        accepted = judged-by First _ _ (λ _. carried First (withPart k _) _ (carried First (withMover (tapePart k)) _ a));
       }
 
-  joint-asks : (q : JointRequest) → Refuses (Mean (Request.Joint q)) (jointStep (k .session .source) (k .session .mover) (k .session .tape) q)
-      → Accepts First (jointStep (k .session .source) (k .session .mover) (k .session .tape) q) → Asks k l r (Request.Joint q)
+  joint-asks : (q : JointRequest) → Refuses (Mean (Request.Joint q)) (jointStep (k .session .source) (k .session .mover) (k .session .tape) q (l .made))
+      → Accepts First (jointStep (k .session .source) (k .session .mover) (k .session .tape) q (l .made)) → Asks k l r (Request.Joint q)
   unfolding verdict outcome
   joint-asks q h a =
       record {
@@ -377,8 +390,8 @@ module _ (k : Kept) (l : Lent) (r : List ℕ) (n : 1 ≤ k .session .mover .size
   listen-asks : (mode address : ℕ) → Asks k l r (Request.Mover (MoverRequest.Listen mode address))
   unfolding moverStep moverListen placeOf numberOf Means
   listen-asks mode address =
-      mover-asks _ (accept-told (Mean _) _ _ _ (join-tells (k .session .mover) n _ (k .session .tape) mode address (at-listen mode address)))
-      (accepts First _ _ _ (λ _. (refl, refl)))
+      mover-asks _ (accept-told (Mean _) _ _ _ (join-tells (k .session .mover) n _ (k .session .tape) mode _ (at-listen mode address)))
+      (accepts First _ _ _ (λ _. listening-first address))
 
   continue-asks : Asks k l r (Request.Mover MoverRequest.Continue)
   unfolding moverStep moverContinue placeOf numberOf
@@ -388,14 +401,14 @@ module _ (k : Kept) (l : Lent) (r : List ℕ) (n : 1 ≤ k .session .mover .size
         (λ _ z. absurd (omega arith), (λ _ z. absurd (omega arith), (λ h _. at-continue (eqb-true (k .session .mover .length) 0 h), tt))),
       )) (accepts First _ _ _ (λ _. (refl, refl)))
 
-  connect-asks : (mode address : ℕ) → Asks k l r (Request.Joint (JointRequest.MoverConnect mode address))
+  connect-asks : (mode address count : ℕ) → Asks k l r (Request.Joint (JointRequest.MoverConnect mode address count))
   unfolding jointStep moverConnect placeOf numberOf Means
-  connect-asks mode address =
-      let q = Request.Joint (JointRequest.MoverConnect mode address) in
-      let tests = joinTests (k .session .mover) (k .session .tape) mode address in
-      let listening = test (not (eqb (k .session .source .state) dataListening)) otherNotListening ∷ [] in
-      let tells = join-tells (k .session .mover) n q (k .session .tape) mode address (at-connect mode address) in
-      joint-asks (JointRequest.MoverConnect mode address)
+  connect-asks mode address count =
+      let q = Request.Joint (JointRequest.MoverConnect mode address count) in
+      let tests = joinTests (k .session .mover) (k .session .tape) mode (connectWrong address count) in
+      let listening = test (unmet address (dataAwaits (k .session .source)) (l .made)) otherNotListening ∷ [] in
+      let tells = join-tells (k .session .mover) n q (k .session .tape) mode (connectWrong address count) (at-connect mode address count) in
+      joint-asks (JointRequest.MoverConnect mode address count)
       (accept-told (Mean q) (tests ++ listening) _ _ (tells-more (Mean q) tests listening tells (λ _ z. absurd (omega arith), tt)))
       (accepts First _ _ _ (λ _. (refl, refl)))
 
@@ -438,7 +451,7 @@ unsized-kept s h i =
     (record {
       source = f .source;
       mover = kept-mover (unsized s .mover) (s .tape) (size-kept (s .mover) (s .tape) 0 i (idle-free (s .mover .state) i) (omega arith) (mover-kept (s .mover) (s .tape) (f .mover)));
-      joined = f .joined;
+      joined = rw (mover-same (s .mover) (unsized s .mover) refl refl) (f .joined);
     })
 
 module _ (k : Kept) (l : Lent) (r : List ℕ) (u : Unsized k l r) where
@@ -459,9 +472,9 @@ module _ (k : Kept) (l : Lent) (r : List ℕ) (u : Unsized k l r) where
     listen-26 address e =
         gets _ e refl (rw (u .known)) (rw (yes-not (j .opened), eq-not (j .idle), j .writes, eq-eqb (k .session .mover .size) 0 (u .size)) refl)
 
-    connect-26 : (address : ℕ) → requestIn r ≡ Request.Joint (JointRequest.MoverConnect mode address) → Gets26 k l r
+    connect-26 : (address count : ℕ) → requestIn r ≡ Request.Joint (JointRequest.MoverConnect mode address count) → Gets26 k l r
     unfolding isUnread isLocked needsLogin outcome jointStep moverConnect judge onto choose
-    connect-26 address e =
+    connect-26 address count e =
         gets _ e refl (rw (u .known)) (rw (yes-not (j .opened), eq-not (j .idle), j .writes, eq-eqb (k .session .mover .size) 0 (u .size)) refl)
 
 handed-in : HandedIn
@@ -471,7 +484,7 @@ handed-in =
       never = λ s h i image l r z. calls-keep .never (held (unsized s) image) l r (unsized-kept s h i) z;
       window = λ k l r offset length u e b. window-26 k l r u offset length e b;
       listen = λ k l r mode address u e j. listen-26 k l r u mode j address e;
-      connect = λ k l r mode address u e j. connect-26 k l r u mode j address e;
+      connect = λ k l r mode address count u e j. connect-26 k l r u mode j address count e;
     }
 
 pub first-size : FirstSize

@@ -1,6 +1,7 @@
 -- `Asking` has what a request shows and leaves of the register, `Moving` what a move shows and leaves, `Sequence` what holds over any
 -- sequence of calls, `Counts` what the counts are after it, `Endless` windows with no end, `Modes` each call in the other's mode, `FirstSize` the
--- record size from a fresh session on, `Cases` the computed cases.
+-- record size from a fresh session on, `Cases` the computed cases, `Apart` that one end by TCP leaves the other, `TcpMoves` what
+-- a move or an event of such an end comes to.
 pub mod Asking
 pub mod Moving
 pub mod Sequence
@@ -9,3 +10,5 @@ pub mod Endless
 pub mod Modes
 pub mod FirstSize
 pub mod Cases
+pub mod Apart
+pub mod TcpMoves

@@ -20,23 +20,34 @@ use Rattle.rules_parts.specs.declared.types.Data.{Data}
 use Rattle.rules_parts.specs.declared.types.Mover.{Mover}
 use Rattle.rules_parts.specs.declared.types.Tape.{Tape}
 use Rattle.rules_parts.specs.Names.{top, endless}
-use Rattle.rules_parts.specs.Parts.{wrapped, moverPauses, moverHalts, moverRecords, moverHands, dataJoined, moverJoined, holdsTape, windowEnd}
+use Rattle.rules_parts.specs.Parts.{wrapped, dataFed, moverPauses, moverHalts, moverRecords, moverHands, dataJoined, moverJoined, dataPartnered, moverPartnered}
+use Rattle.rules_parts.specs.Parts.{addressWrong, holdsTape, windowEnd}
 use Rattle.rules.specs.TapeService.{movedTo}
 use Rattle.rules.specs.Relation.{dataWrong, moverWrong, sameFlag, Legal, Held, InWindow, MoverKept}
 use Rattle.rules_parts.proofs.Ending.{end-endless, end-other}
+use Rattle.rules_parts.proofs.Addressing.{right-busy, source-alone, mover-alone, source-same, mover-same}
+use Rattle.rules.specs.declared.Ends.{Ends}
+use Rattle.rules.specs.Joint.{halted, sourceAlone, moverAlone}
+use Rattle.rules.specs.Promises.{JointKeeps}
 use Rattle.rules.proofs.Kept.{mover-kept, kept-mover}
-use Rattle.rules.proofs.Keeping.{clash, active-holds, halts-kept}
+use Rattle.rules.proofs.Keeping.{clash, active-holds, listen-holds, runs-kept, halt, halt-data, halt-mover}
 use Rattle.rules_moves.specs.declared.Move.{Move}
 use Rattle.rules_moves.specs.declared.Found.{Found}
-use Rattle.rules_moves.specs.Moves.{still, pauses, halts, takes, hands, idle, streamEnds, scant, writing, windowUsed, filling, toTape}
-use Rattle.rules_moves.specs.Moves.{outside, ordinal, inRecord, seekFrom, amount, Handing, untouched, reading, onFound, sought, seeking, fromTape, methodEnd}
-use Rattle.rules_moves.specs.Sequence.{Seen, Wrote, Handed, Paused, Nothing, partsRegister, after, FitsRegister, moveShown, imageAfter, HandedFrom, destAfter, countOf}
+use Rattle.rules_moves.specs.Moves.{still, pauses, halts, haltsSource, haltsMover, haltsWith, fedBy, takes, hands, idle, streamEnds, scant, writing, windowUsed, filling, toTape}
+use Rattle.rules_moves.specs.Moves.{outside, ordinal, inRecord, seekFrom, amount, Handing, untouched, reading, onFound, sought, seeking, fromTape, methodEnd, sourceMade, moverMade, atTcp, madeAt, lostAt}
+use Rattle.rules_moves.specs.Sequence.{Seen, Wrote, Handed, Paused, Nothing, partsRegister, withCounts, withSeek, processedBy, after, FitsRegister, moveShown, madeShown, imageAfter}
+use Rattle.rules_moves.specs.Sequence.{HandedFrom, destAfter, countOf}
 
 -- the relation, on the parts that a move may change
 pub record PartsKept (d : Data) (m : Mover) (t : Tape) : Type 0 where
   pub source : dataWrong d ≡ false
   pub mover : moverWrong m t ≡ false
-  pub joined : sameFlag (dataJoined (d .state)) (moverJoined (m .state)) ≡ true
+  pub joined : sameFlag (dataPartnered d) (moverPartnered m) ≡ true
+
+both-so : (a b : Bool) → choose a b false ≡ true → (a ≡ true) × (b ≡ true)
+unfolding choose
+both-so true b h = (refl, h)
+both-so false b h = absurd (let z : _≡_ {A = ℕ} 0 1 = cc in omega arith)
 
 -- ---- what is shown of a move
 module _ (m : Mover) (x : Seen) where
@@ -58,6 +69,16 @@ module _ (m : Mover) (x : Seen) where
   unfolding moveShown choose
   shown-moved next n h = let z : n ≡ 0 → ⊥ = λ e. omega arith in rw (ne-eqb n 0 z) refl
 
+-- what the data end has processed after a move of n bytes
+fed-by : (b : Bool) (n : ℕ) (d : Data) → choose b d (dataFed n d) .processed ≡ choose b (d .processed) (wrapped (d .processed + n))
+unfolding choose
+fed-by true n d = refl
+fed-by false n d = refl
+
+fed-processed : (m : Mover) (n : ℕ) (d : Data) → fedBy m n d .processed ≡ processedBy (m .address) (d .processed) n
+unfolding fedBy processedBy
+fed-processed m n d = fed-by (eqb (m .address) 1) n d
+
 -- a move's result: what is shown of it fits, the register after it, and the bytes told
 pub record Turn (d : Data) (m : Mover) (what : ℕ → Seen) (mv : Move) : Type 0 where
   pub fits : FitsRegister (partsRegister d m) (moveShown m (mv .mover) (mv .count) (what (mv .count)))
@@ -77,31 +98,42 @@ module _ (d : Data) (m : Mover) (what : ℕ → Seen) where
   unfolding after countOf
   halts-turn t dwhy mwhy = turn-by (halts dwhy mwhy d m t) Nothing (shown-halt m (what 0) (moverHalts mwhy m) refl) tt refl refl
 
+  mover-halts-turn : (t : Tape) (why : ℕ) → Turn d m what (haltsMover why d m t)
+  unfolding after countOf
+  mover-halts-turn t why = turn-by (haltsMover why d m t) Nothing (shown-halt m (what 0) (moverHalts why m) refl) tt refl refl
+
   pauses-turn : (t : Tape) (why : ℕ) → m .state ≡ 2 → Turn d m what (pauses why d m t)
   unfolding after countOf
   pauses-turn t why e = turn-by (pauses why d m t) Paused (shown-pause m (what 0) why e) tt refl refl
 
 -- ---- the relation after each
-pub record Running (mode operation : ℕ) (d : Data) (m : Mover) : Type 0 where
+pub record Running (mode : ℕ) (m : Mover) : Type 0 where
   pub active : m .state ≡ 2
   pub moded : m .mode ≡ mode
-  pub feeding : d .state ≡ 1
 
-pub running : (mode operation : ℕ) (d : Data) (m : Mover) → idle mode operation d m ≡ false → Running mode operation d m
+pub running : (mode operation : ℕ) (d : Data) (m : Mover) → idle mode operation d m ≡ false → Running mode m
 unfolding idle
 running mode operation d m h =
     let a = none-of _ h in
     let b = none-of _ (a .1) in
-    let c = none-of _ (b .1) in
-    record { active = is (a .0); moded = is (b .0); feeding = is (c .0) }
+    record { active = is (a .0); moded = is (b .0) }
 
 module _ (d : Data) (m : Mover) (t : Tape) (k : PartsKept d m t) where
   facts : MoverKept m t
   facts = mover-kept m t (k .mover)
 
+  -- as a joint request halts them
+  halted-parts : (ends : Ends) → JointKeeps t ends → PartsKept (ends .source) (ends .mover) t
+  halted-parts ends j = record { source = j .source; mover = j .mover; joined = j .joined }
+
   halts-keep : (dwhy mwhy : ℕ) → PartsKept (halts dwhy mwhy d m t .source) (halts dwhy mwhy d m t .mover) t
-  unfolding dataWrong dataJoined moverJoined sameFlag choose
-  halts-keep dwhy mwhy = record { source = refl; mover = kept-mover (moverHalts mwhy m) t (halts-kept m t mwhy facts); joined = refl }
+  halts-keep dwhy mwhy = halted-parts (halted dwhy mwhy d m) (halt d m t (k .source) (k .mover) (k .joined) dwhy mwhy)
+
+  source-halts-keep : (why : ℕ) → dataPartnered d ≡ false → PartsKept (haltsSource why d m t .source) (haltsSource why d m t .mover) t
+  source-halts-keep why h = halted-parts (sourceAlone why d m) (halt-data d m t (k .source) (k .mover) (k .joined) why h)
+
+  mover-halts-keep : (why : ℕ) → moverPartnered m ≡ false → PartsKept (haltsMover why d m t .source) (haltsMover why d m t .mover) t
+  mover-halts-keep why h = halted-parts (moverAlone why d m) (halt-mover d m t (k .source) (k .mover) (k .joined) why h)
 
   paused-kept : (u : Tape) (why : ℕ) → MoverKept (moverPauses why m) u
   unfolding holdsTape choose
@@ -110,6 +142,7 @@ module _ (d : Data) (m : Mover) (t : Tape) (k : PartsKept d m t) where
       record {
         states = omega arith;
         sizes = f .sizes;
+        types = right-busy (m .address) _ (f .types);
         seeks = f .seeks;
         window = λ n. absurd (n refl);
         start = λ e. absurd (omega arith);
@@ -122,7 +155,18 @@ module _ (d : Data) (m : Mover) (t : Tape) (k : PartsKept d m t) where
 
   pauses-keep : (u : Tape) (why : ℕ) → m .state ≡ 2 → PartsKept d (moverPauses why m) u
   unfolding moverJoined choose
-  pauses-keep u why e = record { source = k .source; mover = kept-mover (moverPauses why m) u (paused-kept u why); joined = rw e at (k .joined) }
+  pauses-keep u why e =
+      let same : moverPartnered (moverPauses why m) ≡ moverPartnered m = mover-same m (moverPauses why m) refl (ap moverJoined (sym e)) in
+      record { source = k .source; mover = kept-mover (moverPauses why m) u (paused-kept u why); joined = rw same (k .joined) }
+
+  -- the data end after bytes were moved: its state and type are as they were
+  fed-wrong : (n : ℕ) → dataWrong (fedBy m n d) ≡ false
+  unfolding fedBy dataWrong
+  fed-wrong n = by-test (λ (e : Data). dataWrong e ≡ false) (eqb (m .address) 1) _ _ (λ _. k .source) (λ _. k .source)
+
+  fed-partner : (n : ℕ) → dataPartnered (fedBy m n d) ≡ dataPartnered d
+  unfolding fedBy
+  fed-partner n = by-test (λ (e : Data). dataPartnered e ≡ dataPartnered d) (eqb (m .address) 1) _ _ (λ _. refl) (λ _. source-same d (dataFed n d) refl refl)
 
 -- ---- to tape
 -- whole records before the window's end: one more fits
@@ -161,16 +205,19 @@ module _ (d : Data) (m : Mover) (t : Tape) (l s : List ℕ) (k : PartsKept d m t
   unfolding imageAfter
   still-to = record { turn = still-turn d m _ t; image = rw (shown-still m (Wrote (m .size) 0)) refl; there = omega arith; kept = k; sound = λ h. h }
 
-  halts-to : (dwhy mwhy : ℕ) → ToTurn d m t l s (keeping l (halts dwhy mwhy d m t))
-  unfolding imageAfter
+  halts-to : (dwhy mwhy : ℕ) → ToTurn d m t l s (keeping l (haltsWith dwhy mwhy d m t))
+  unfolding imageAfter haltsWith
   halts-to dwhy mwhy =
-      record {
-        turn = halts-turn d m _ t dwhy mwhy;
-        image = rw (shown-halt m (Wrote (m .size) 0) (moverHalts mwhy m) refl) refl;
+      let e = shown-halt m (Wrote (m .size) 0) (moverHalts mwhy m) refl in
+      by-test (λ (mv : Move). ToTurn d m t l s (keeping l mv)) (eqb (m .address) 1) _ _
+      (λ a. record {
+        turn = mover-halts-turn d m _ t mwhy;
+        image = rw e refl;
         there = omega arith;
-        kept = halts-keep d m t k dwhy mwhy;
+        kept = mover-halts-keep d m t k mwhy (mover-alone m (eqb-true (m .address) 1 a));
         sound = λ h. h;
-      }
+      })
+      (λ _. record { turn = halts-turn d m _ t dwhy mwhy; image = rw e refl; there = omega arith; kept = halts-keep d m t k dwhy mwhy; sound = λ h. h })
 
   pauses-to : (why : ℕ) → m .state ≡ 2 → ToTurn d m t l s (keeping l (pauses why d m t))
   unfolding imageAfter
@@ -183,7 +230,7 @@ module _ (d : Data) (m : Mover) (t : Tape) (l s : List ℕ) (k : PartsKept d m t
         sound = λ h. h;
       }
 
-  module _ (r : Running 0 1 d m) (n : ℕ) (some : 1 ≤ n) (part : n ≤ m .size) (room : m .moved + m .size ≤ windowEnd (m .offset) (m .length)) where
+  module _ (r : Running 0 m) (n : ℕ) (some : 1 ≤ n) (part : n ≤ m .size) (room : m .moved + m .size ≤ windowEnd (m .offset) (m .length)) where
     held : Held m t
     held = facts d m t k .hold (active-holds (m .state) (r .active))
 
@@ -198,7 +245,8 @@ module _ (d : Data) (m : Mover) (t : Tape) (l s : List ℕ) (k : PartsKept d m t
     takes-turn =
         let w = facts d m t k .runs (r .moded) (r .active) in
         turn-by d m _ (takes n d m t) (Wrote (m .size) n) (shown-moved m (Wrote (m .size) n) (moverRecords m) n some)
-        (record { window = held .window; exact = refl; some = some; part = part; from = w .from; to = room }) refl refl
+        (record { window = held .window; exact = refl; some = some; part = part; from = w .from; to = room })
+        (ap (λ (p : ℕ). withCounts (wrapped (m .moved + m .size)) p (partsRegister d m)) (fed-processed m n d)) refl
 
     takes-kept : MoverKept (moverRecords m) (movedTo (t .position + 1) t)
     takes-kept =
@@ -209,6 +257,7 @@ module _ (d : Data) (m : Mover) (t : Tape) (l s : List ℕ) (k : PartsKept d m t
         record {
           states = f .states;
           sizes = f .sizes;
+          types = f .types;
           seeks = f .seeks;
           window = f .window;
           start = λ z. absurd (omega arith);
@@ -220,8 +269,9 @@ module _ (d : Data) (m : Mover) (t : Tape) (l s : List ℕ) (k : PartsKept d m t
         }
 
     takes-keep : PartsKept (takes n d m t .source) (takes n d m t .mover) (takes n d m t .tape)
-    unfolding dataWrong
-    takes-keep = record { source = k .source; mover = kept-mover _ _ takes-kept; joined = k .joined }
+    takes-keep =
+        let same = mover-same m (moverRecords m) refl refl in
+        record { source = fed-wrong d m t k n; mover = kept-mover _ _ takes-kept; joined = rw (fed-partner d m t k n, same) (k .joined) }
 
   length-taken : length (fillTo (take (least (length s) (m .size)) s) (m .size)) ≡ m .size
   length-taken = length-fill _ (m .size) (let a = least-left (length s) (m .size) in let b = least-right (length s) (m .size) in simp length-take (omega arith))
@@ -310,18 +360,26 @@ module _ (d : Data) (m : Mover) (t : Tape) (l b : List ℕ) (k : PartsKept d m t
   unfolding destAfter
   still-from = record { turn = still-turn d m _ t; dest-end = rw (shown-still m (Handed 0)) refl; room = omega arith; source = λ z. absurd (z refl); kept = k }
 
-  halts-from : (dwhy mwhy : ℕ) → FromTurn d m t l b (untouched b (halts dwhy mwhy d m t))
-  unfolding destAfter
+  halts-from : (dwhy mwhy : ℕ) → FromTurn d m t l b (untouched b (haltsWith dwhy mwhy d m t))
+  unfolding destAfter haltsWith
   halts-from dwhy mwhy =
       let e = shown-halt m (Handed 0) (moverHalts mwhy m) refl in
-      record { turn = halts-turn d m _ t dwhy mwhy; dest-end = rw e refl; room = omega arith; source = λ z. absurd (z refl); kept = halts-keep d m t k dwhy mwhy }
+      by-test (λ (mv : Move). FromTurn d m t l b (untouched b mv)) (eqb (m .address) 1) _ _
+      (λ a. record {
+        turn = mover-halts-turn d m _ t mwhy;
+        dest-end = rw e refl;
+        room = omega arith;
+        source = λ z. absurd (z refl);
+        kept = mover-halts-keep d m t k mwhy (mover-alone m (eqb-true (m .address) 1 a));
+      })
+      (λ _. record { turn = halts-turn d m _ t dwhy mwhy; dest-end = rw e refl; room = omega arith; source = λ z. absurd (z refl); kept = halts-keep d m t k dwhy mwhy })
 
   pauses-from : (u : Tape) (why : ℕ) → m .state ≡ 2 → FromTurn d m t l b (untouched b (pauses why d m u))
   unfolding destAfter
   pauses-from u why e =
       record { turn = pauses-turn d m _ u why e; dest-end = rw (shown-pause m (Handed 0) why e) refl; room = omega arith; source = λ z. absurd (z refl); kept = pauses-keep d m t k u why e }
 
-  module _ (r : Running 1 2 d m) (n i : ℕ) (some : 1 ≤ n) (asked : n ≤ m .left) (low : m .offset ≤ m .seek) (high : m .seek + n ≤ windowEnd (m .offset) (m .length))
+  module _ (r : Running 1 m) (n i : ℕ) (some : 1 ≤ n) (asked : n ≤ m .left) (low : m .offset ≤ m .seek) (high : m .seek + n ≤ windowEnd (m .offset) (m .length))
       (part : inRecord m + n ≤ m .size) (at : i ≡ m .origin + ordinal m) where
     hands-held : Held m t
     hands-held = facts d m t k .hold (active-holds (m .state) (r .active))
@@ -330,7 +388,8 @@ module _ (d : Data) (m : Mover) (t : Tape) (l b : List ℕ) (k : PartsKept d m t
     unfolding after countOf
     hands-turn =
         turn-by d m _ (hands n i d m t) (Handed n) (shown-moved m (Handed n) (moverHands n m) n some)
-        (record { window = hands-held .window; some = some; asked = asked; part = part; from = low; to = high }) refl refl
+        (record { window = hands-held .window; some = some; asked = asked; part = part; from = low; to = high })
+        (ap (λ (p : ℕ). withCounts (wrapped (m .moved + n)) p (withSeek (m .seek + n) (m .left - n) (partsRegister d m))) (fed-processed m n d)) refl
 
     hands-kept : MoverKept (moverHands n m) (movedTo (i + 1) t)
     hands-kept =
@@ -341,6 +400,7 @@ module _ (d : Data) (m : Mover) (t : Tape) (l b : List ℕ) (k : PartsKept d m t
         record {
           states = f .states;
           sizes = f .sizes;
+          types = f .types;
           seeks = omega arith;
           window = f .window;
           start = λ z. absurd (omega arith);
@@ -352,8 +412,9 @@ module _ (d : Data) (m : Mover) (t : Tape) (l b : List ℕ) (k : PartsKept d m t
         }
 
     hands-keep : PartsKept (hands n i d m t .source) (hands n i d m t .mover) (hands n i d m t .tape)
-    unfolding dataWrong
-    hands-keep = record { source = k .source; mover = kept-mover _ _ hands-kept; joined = k .joined }
+    hands-keep =
+        let same = mover-same m (moverHands n m) refl refl in
+        record { source = fed-wrong d m t k n; mover = kept-mover _ _ hands-kept; joined = rw (fed-partner d m t k n, same) (k .joined) }
 
   reading-from : (i : ℕ) → idle 1 2 d m ≡ false → (m .left ≡ 0 → ⊥) → (length b ≡ 0 → ⊥) → outside (m .seek) (m .offset) (m .length) ≡ false → i ≡ m .origin + ordinal m → i < count l
       → FromTurn d m t l b (reading i d m t l b)
@@ -415,12 +476,88 @@ pub record EndTurn (d : Data) (m : Mover) (mv : Move) : Type 0 where
   pub register : partsRegister (mv .source) (mv .mover) ≡ partsRegister d m
   pub kept : PartsKept (mv .source) (mv .mover) (mv .tape)
 
+source-halt-turn : (d : Data) (m : Mover) (t : Tape) (why : ℕ) → PartsKept d m t → d .address ≡ 1 → EndTurn d m (haltsSource why d m t)
+source-halt-turn d m t why k e = record { register = refl; kept = source-halts-keep d m t k why (source-alone d e) }
+
 pub end-turn : (ok : Bool) (d : Data) (m : Mover) (t : Tape) → PartsKept d m t → EndTurn d m (methodEnd ok d m t)
 unfolding methodEnd
 end-turn ok d m t k =
-    by-test (EndTurn d m) (eqb (d .state) 1) _ _ (λ _. record { register = refl; kept = halts-keep d m t k (choose ok 1 3) 1 }) (λ _. record { register = refl; kept = k })
+    let why : ℕ = choose ok 1 3 in
+    by-test (EndTurn d m) (eqb (d .state) 1) _ _
+    (λ _. by-test (EndTurn d m) (eqb (d .address) 1) _ _ (λ e. source-halt-turn d m t why k (eqb-true (d .address) 1 e))
+    (λ _. record { register = refl; kept = halts-keep d m t k why 1 }))
+    (λ _. record { register = refl; kept = k })
 
--- where the data end is ACTIVE, both halt
-pub end-halts : (ok : Bool) (d : Data) (m : Mover) (t : Tape) (r : Move) (why : ℕ) → r ≡ halts why 1 d m t → why ≡ choose ok 1 3 → d .state ≡ 1 → r ≡ methodEnd ok d m t
+-- where the data end is ACTIVE, both halt, or it alone
+pub end-halts : (ok : Bool) (d : Data) (m : Mover) (t : Tape) (r : Move) (why : ℕ) → r ≡ choose (eqb (d .address) 1) (haltsSource why d m t) (halts why 1 d m t)
+    → why ≡ choose ok 1 3 → d .state ≡ 1 → r ≡ methodEnd ok d m t
 unfolding methodEnd choose
-end-halts ok d m t r why e w s = rw (eq-eqb (d .state) 1 s) (e ∙ ap (λ (k : ℕ). halts k 1 d m t) w)
+end-halts ok d m t r why e w s =
+    rw (eq-eqb (d .state) 1 s) (e ∙ ap (λ (k : ℕ). choose (eqb (d .address) 1) (haltsSource k d m t) (halts k 1 d m t)) w)
+
+-- ---- connections made and lost
+pub by-address : (address : ℕ) (there : Bool) → atTcp address there ≡ true → (address ≡ 1) × (there ≡ true)
+unfolding atTcp
+by-address address there h =
+    let g = both-so (eqb address 1) there h in
+    (eqb-true address 1 (g .0), g .1)
+
+-- a connection that was made: what is seen of it, and the register and the relation after it
+pub record MadeTurn (d : Data) (m : Mover) (t : Tape) (mv : Move) : Type 0 where
+  pub register : partsRegister (mv .source) (mv .mover) ≡ after (partsRegister d m) (madeShown m (mv .mover) (t .position))
+  pub fits : FitsRegister (partsRegister d m) (madeShown m (mv .mover) (t .position))
+  pub kept : PartsKept (mv .source) (mv .mover) (mv .tape)
+
+module _ (d : Data) (m : Mover) (t : Tape) (k : PartsKept d m t) where
+  -- the mover is as it was: nothing is seen
+  pub shown-same : madeShown m m (t .position) ≡ Nothing
+  unfolding madeShown choose
+  shown-same = by-test (λ (x : Seen). x ≡ Nothing) (eqb (m .state) 2) _ _ (λ _. refl) (λ e. rw e refl)
+
+  made-still : MadeTurn d m t (still d m t)
+  unfolding after
+  made-still = record { register = rw shown-same refl; fits = rw shown-same tt; kept = k }
+
+  made-source : d .address ≡ 1 → d .state ≡ 3 → MadeTurn d m t (sourceMade d m t)
+  unfolding after dataWrong addressWrong dataJoined choose
+  made-source a s =
+      let none = source-alone (sourceMade d m t .source) a in
+      let was = source-alone d a in
+      record {
+        register = rw shown-same refl;
+        fits = rw shown-same tt;
+        kept = record { source = rw a; mover = k .mover; joined = rw (none) (rw was at (k .joined)) };
+      }
+
+  made-mover : m .address ≡ 1 → m .state ≡ 1 → MadeTurn d m t (moverMade d m t)
+  unfolding after madeShown choose
+  made-mover a s =
+      let f = facts d m t k in
+      let h = f .hold (listen-holds (m .state) s) in
+      let none = mover-alone (moverMade d m t .mover) a in
+      let was = mover-alone m a in
+      record {
+        register = rw s refl;
+        fits = rw s tt;
+        kept = record {
+          source = k .source;
+          mover = kept-mover _ t (runs-kept m t (m .mode) (m .address) (right-busy (m .address) _ (f .types)) (h .opened) (h .writes) (h .window)
+              (λ e. f .listens e s ∙ sym (f .start (omega arith))) f);
+          joined = rw none (rw was at (k .joined));
+        };
+      }
+
+  pub made-turn : (mover : Bool) → MadeTurn d m t (madeAt mover d m t)
+  unfolding madeAt
+  made-turn true =
+      by-test (MadeTurn d m t) _ _ _ (λ h. let g = by-address (m .address) _ h in made-mover (g .0) (eqb-true (m .state) 1 (g .1))) (λ _. made-still)
+  made-turn false =
+      by-test (MadeTurn d m t) _ _ _ (λ h. let g = by-address (d .address) _ h in made-source (g .0) (eqb-true (d .state) 3 (g .1))) (λ _. made-still)
+
+  pub lost-turn : (mover : Bool) → EndTurn d m (lostAt mover d m t)
+  unfolding lostAt
+  lost-turn true =
+      by-test (EndTurn d m) _ _ _
+      (λ h. record { register = refl; kept = mover-halts-keep d m t k 1 (mover-alone m (by-address (m .address) _ h .0)) }) (λ _. record { register = refl; kept = k })
+  lost-turn false =
+      by-test (EndTurn d m) _ _ _ (λ h. source-halt-turn d m t 4 k (by-address (d .address) _ h .0)) (λ _. record { register = refl; kept = k })

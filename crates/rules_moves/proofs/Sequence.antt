@@ -21,13 +21,13 @@ use Rattle.rules.proofs.Keeping.{clash}
 use Rattle.rules.proofs.Guarding.{by-guard}
 use Rattle.rules.proofs.Calls.{kept-facts, facts-kept, calls-keep}
 use Rattle.rules_moves.specs.declared.Move.{Move}
-use Rattle.rules_moves.specs.Moves.{Handing, toTape, fromTape, methodEnd}
-use Rattle.rules_moves.specs.Events.{Moving, idling, announced, moved, movedToTape, movedFromTape, methodEnded}
-use Rattle.rules_moves.specs.Sequence.{Event, Asked, ToTape, FromTape, Ended, Inserted, Renumbered, renumbered, step, runs, Wrote, Handed, registerOf, after, FitsRegister, Legitimate}
-use Rattle.rules_moves.specs.Sequence.{toTapeShown, fromTapeShown, seen, imageAfter, destAfter, countOf, ToTapeLeaves, FromTapeLeaves, Leaves, Inside, finished, more, WindowHolds}
+use Rattle.rules_moves.specs.Moves.{Handing, toTape, fromTape, methodEnd, madeAt, lostAt}
+use Rattle.rules_moves.specs.Events.{Moving, idling, announced, moved, movedToTape, movedFromTape, methodEnded, connectionMade, connectionLost}
+use Rattle.rules_moves.specs.Sequence.{Event, Asked, ToTape, FromTape, Ended, Made, Lost, Inserted, Renumbered, renumbered, step, runs, Wrote, Handed, registerOf, after, FitsRegister, Legitimate}
+use Rattle.rules_moves.specs.Sequence.{madeShown, toTapeShown, fromTapeShown, seen, imageAfter, destAfter, countOf, ToTapeLeaves, FromTapeLeaves, Leaves, Inside, finished, more, WindowHolds}
 use Rattle.rules_moves.specs.Keeping.{Idle, Guards, Sounds, MovesKeep}
 use Rattle.rules_moves.proofs.Asking.{asked-left}
-use Rattle.rules_moves.proofs.Moving.{PartsKept, shown-still, ToTurn, to-turn, FromTurn, from-turn, end-turn}
+use Rattle.rules_moves.proofs.Moving.{PartsKept, shown-still, ToTurn, to-turn, FromTurn, from-turn, end-turn, shown-same, made-turn, lost-turn}
 
 -- ---- an answer that carries a move's parts
 pub record Carries (mv : Move) (image : List ℕ) (a : Answered) : Type 0 where
@@ -83,7 +83,7 @@ record ToCall (w : Kept) (stream : List ℕ) (e : Moving) : Type 0 where
   kept : keeps (e .answer .next .session) ≡ true
   sound : isSound (w .image) ≡ true → isSound (e .answer .next .image) ≡ true
 
-parts-kept : (s : Session) → keeps s ≡ true → PartsKept (s .source) (s .mover) (s .tape)
+pub parts-kept : (s : Session) → keeps s ≡ true → PartsKept (s .source) (s .mover) (s .tape)
 parts-kept s h = let f = kept-facts s h in record { source = f .source; mover = f .mover; joined = f .joined }
 
 carried-kept : (mv : Move) (image : List ℕ) (a : Answered) → Carries mv image a → PartsKept (mv .source) (mv .mover) (mv .tape) → keeps (a .next .session) ≡ true
@@ -180,6 +180,39 @@ end-call w h l ok =
     by-guard (EndCall w) s (l .room) _ _ (λ _. record { register = refl; image-end = refl; kept = h })
     (λ _. record { register = rw (c .source, c .mover) (t .register); image-end = c .image-end; kept = carried-kept mv (w .image) _ c (t .kept) })
 
+-- ---- a connection that was made or lost, as a call
+record MadeCall (w : Kept) (a : Answered) : Type 0 where
+  register : registerOf (a .next .session) ≡ after (registerOf (w .session)) (madeShown (w .session .mover) (a .next .session .mover) (w .session .tape .position))
+  fits : FitsRegister (registerOf (w .session)) (madeShown (w .session .mover) (a .next .session .mover) (w .session .tape .position))
+  image-end : a .next .image ≡ w .image
+  kept : keeps (a .next .session) ≡ true
+
+made-call : (w : Kept) → keeps (w .session) ≡ true → (l : Lent) (mover : Bool) → MadeCall w (connectionMade w l mover)
+unfolding connectionMade after
+made-call w h l mover =
+    let s = w .session in
+    let mv = madeAt mover (s .source) (s .mover) (s .tape) in
+    let c = announced-carries w l mv (w .image) in
+    let t = made-turn (s .source) (s .mover) (s .tape) (parts-kept s h) mover in
+    let e = shown-same (s .source) (s .mover) (s .tape) (parts-kept s h) in
+    by-guard (MadeCall w) s (l .room) _ _ (λ _. record { register = rw e refl; fits = rw e tt; image-end = refl; kept = h })
+    (λ _. record {
+      register = rw (c .source, c .mover) (t .register);
+      fits = rw (c .mover) (t .fits);
+      image-end = c .image-end;
+      kept = carried-kept mv (w .image) _ c (t .kept);
+    })
+
+lost-call : (w : Kept) → keeps (w .session) ≡ true → (l : Lent) (mover : Bool) → EndCall w (connectionLost w l mover)
+unfolding connectionLost
+lost-call w h l mover =
+    let s = w .session in
+    let mv = lostAt mover (s .source) (s .mover) (s .tape) in
+    let c = announced-carries w l mv (w .image) in
+    let t = lost-turn (s .source) (s .mover) (s .tape) (parts-kept s h) mover in
+    by-guard (EndCall w) s (l .room) _ _ (λ _. record { register = refl; image-end = refl; kept = h })
+    (λ _. record { register = rw (c .source, c .mover) (t .register); image-end = c .image-end; kept = carried-kept mv (w .image) _ c (t .kept) })
+
 -- ---- the number of the next message set: the relation does not look at it
 renumbered-kept : (n : ℕ) (s : Session) → keeps s ≡ true → keeps (renumbered n s) ≡ true
 unfolding keeps
@@ -213,6 +246,12 @@ stepped w h (FromTape l dest) =
     record { fits = t .fits; register = t .register; leaves = t .leaves; kept = t .kept; sound = λ k _. rw (t .leaves .image) k }
 stepped w h (Ended l ok) =
     let t = end-call w h l ok in
+    record { fits = tt; register = t .register; leaves = t .image-end; kept = t .kept; sound = λ k _. rw (t .image-end) k }
+stepped w h (Made l mover) =
+    let t = made-call w h l mover in
+    record { fits = t .fits; register = t .register; leaves = t .image-end; kept = t .kept; sound = λ k _. rw (t .image-end) k }
+stepped w h (Lost l mover) =
+    let t = lost-call w h l mover in
     record { fits = tt; register = t .register; leaves = t .image-end; kept = t .kept; sound = λ k _. rw (t .image-end) k }
 stepped w h (Inserted image) = record { fits = tt; register = refl; leaves = tt; kept = h; sound = λ _ k. k }
 stepped w h (Renumbered n) =
@@ -256,7 +295,7 @@ moved-guards k l dest mv image dest′ =
     guards (λ (e : Moving). e .answer .code) (Idle k dest) k l _ _ (λ _. refl) (λ code. idles code k dest) (announced-carries k l mv image .code)
 
 pub moves-keep : MovesKeep
-unfolding movedToTape movedFromTape methodEnded
+unfolding movedToTape movedFromTape methodEnded connectionMade connectionLost
 moves-keep =
     record {
       to-tape = λ k l stream last.
@@ -270,6 +309,14 @@ moves-keep =
       method = λ k l ok.
           let s = k .session in
           let c = announced-carries k l (methodEnd ok (s .source) (s .mover) (s .tape)) (k .image) in
+          guards (λ (a : Answered). a .code) (Unmoved k) k l _ _ (λ _. refl) (λ code. unmoved code k) (c .code);
+      made = λ k l mover.
+          let s = k .session in
+          let c = announced-carries k l (madeAt mover (s .source) (s .mover) (s .tape)) (k .image) in
+          guards (λ (a : Answered). a .code) (Unmoved k) k l _ _ (λ _. refl) (λ code. unmoved code k) (c .code);
+      lost = λ k l mover.
+          let s = k .session in
+          let c = announced-carries k l (lostAt mover (s .source) (s .mover) (s .tape)) (k .image) in
           guards (λ (a : Answered). a .code) (Unmoved k) k l _ _ (λ _. refl) (λ code. unmoved code k) (c .code);
       kept = runs-kept;
       sound = runs-sound;

@@ -2,12 +2,12 @@
 -- is sent is compared, byte for byte, and so are the bytes taken or handed over, the destination, the cartridge and the tape's position. What
 -- is expected is written out here, from 004's structures and numbers, and not by the definitions of replies, notices and codes.
 use Prim.Native.Nat.{ℕ, zero, suc, _+_, _-_, _/_, _%_}
-use mathlib.Core.Bool.{Bool}
+use mathlib.Core.Bool.{Bool, false}
 use mathlib.Core.List.{List, [], _∷_, _++_}
 use lib.ListN.{length, take, drop, replicate}
 use Rattle.rules.specs.Answer.{Kept, Lent, held, Answered, answered}
 use Rattle.rules.specs.Calls.{opening}
-use Rattle.rules_moves.specs.Events.{Moving, movedToTape, movedFromTape, methodEnded}
+use Rattle.rules_moves.specs.Events.{Moving, movedToTape, movedFromTape, methodEnded, connectionMade, connectionLost}
 
 -- ---- the bytes of a record
 -- words, each of four bytes, the most significant first
@@ -31,6 +31,11 @@ pub data Notified : Type 0 where
 pub data CaseLine : Type 0 where
   -- a request: its number and the words of its body; the words of the reply's body, and the notices behind it
   Ask : ℕ → List ℕ → List ℕ → List Notified → CaseLine
+  -- a request that is lent a list of addresses, which is words, and whether a connection was made
+  AskLent : List ℕ → Bool → ℕ → List ℕ → List ℕ → List Notified → CaseLine
+  -- a connection that was made, of the mover or else of the data end; one that was lost, and the notices
+  Make : Bool → CaseLine
+  Lose : Bool → List Notified → CaseLine
   -- a move to tape: so many bytes of what is left of the stream, the last part or not; how many are taken, and the notices
   Feed : ℕ → Bool → ℕ → List Notified → CaseLine
   -- a move from tape: the length of the destination; the bytes handed over, and the notices
@@ -74,8 +79,11 @@ pub record Ran : Type 0 where
 abbrev pub stamp : ℕ
 stamp = 33
 
+abbrev pub lentWith : List ℕ → Bool → Lent
+lentWith list made = record { account = record { id = 0x76 ∷ []; password = 0x70 ∷ 0x77 ∷ [] }; time = stamp; room = 36864; addresses = list; made = made }
+
 abbrev pub lending : Lent
-lending = record { account = record { id = 0x76 ∷ []; password = 0x70 ∷ 0x77 ∷ [] }; time = stamp; room = 36864 }
+lending = lentWith [] false
 
 -- a destination before a move
 abbrev pub unused : ℕ → List ℕ
@@ -96,6 +104,10 @@ echoed = 7
 
 unfoldable pub runLine : World → CaseLine → Ran
 runLine w (Ask message body reply notices) = calling w (answered (w .kept) lending (wire echoed 5 0 message 0 body))
+runLine w (AskLent list made message body reply notices) =
+    calling w (answered (w .kept) (lentWith (wordsBytes list) made) (wire echoed 5 0 message 0 body))
+runLine w (Make mover) = calling w (connectionMade (w .kept) lending mover)
+runLine w (Lose mover notices) = calling w (connectionLost (w .kept) lending mover)
 runLine w (Feed n last taken notices) =
     let e = movedToTape (w .kept) lending (take n (w .stream)) last in
     moving e (drop (e .count) (w .stream))
@@ -131,6 +143,10 @@ unfoldable pub expect : ℕ → List CaseLine → List Shown
 expect n [] = []
 expect n (Ask message body reply told ∷ ls) =
     shows (wire n stamp 1 message echoed reply ++ notices (n + 1) told) 0 [] ∷ expect (n + 1 + length told) ls
+expect n (AskLent list made message body reply told ∷ ls) =
+    shows (wire n stamp 1 message echoed reply ++ notices (n + 1) told) 0 [] ∷ expect (n + 1 + length told) ls
+expect n (Make mover ∷ ls) = shows [] 0 [] ∷ expect n ls
+expect n (Lose mover told ∷ ls) = shows (notices n told) 0 [] ∷ expect (n + length told) ls
 expect n (Feed m last taken told ∷ ls) = shows (notices n told) taken [] ∷ expect (n + length told) ls
 expect n (Fetch m handed told ∷ ls) =
     shows (notices n told) (length handed) (handed ++ unused (m - length handed)) ∷ expect (n + length told) ls

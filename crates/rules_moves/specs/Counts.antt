@@ -5,13 +5,16 @@ use Prim.Native.Nat.{ℕ, _+_, _*_, _/_, _%_}
 use mathlib.Core.Bool.{true}
 use mathlib.Core.List.{List, [], _∷_}
 use mathlib.Core.Path.{_≡_}
+use lib.Dec.{eqb}
+use Rattle.codes.specs.Codes.{tcpAddress}
+use Rattle.xdr.specs.Choose.{choose}
 use Rattle.xdr_opaque.specs.Put.{Each}
 use Rattle.rules_parts.specs.Parts.{wrapped}
 use Rattle.rules.specs.MoverService.{recordNumber}
 use Rattle.rules.specs.Relation.{keeps}
 use Rattle.rules.specs.Answer.{Kept}
-use Rattle.rules_moves.specs.Sequence.{Event, Asked, ToTape, FromTape, Ended, Inserted, Renumbered, step, runs}
-use Rattle.rules_moves.specs.Sequence.{Seen, Sized, Windowed, Sought, MoverStopped, DataStopped, Began, Paused, Wrote, Handed, Nothing, Register, registerOf, after, seen, countOf}
+use Rattle.rules_moves.specs.Sequence.{Event, Asked, ToTape, FromTape, Ended, Made, Lost, Inserted, Renumbered, step, runs}
+use Rattle.rules_moves.specs.Sequence.{Seen, Sized, Windowed, Sought, MoverStopped, DataStopped, Listened, Joined, Began, Paused, Wrote, Handed, Nothing, Register, registerOf, after, seen, countOf}
 
 -- what is seen of a list of calls, and the register that is replayed from it
 unfoldable pub trace : Kept → List Event → List Seen
@@ -31,6 +34,8 @@ movedBy (Windowed o n) = 0
 movedBy (Sought o n) = 0
 movedBy MoverStopped = 0
 movedBy DataStopped = 0
+movedBy (Listened address) = 0
+movedBy (Joined address position) = 0
 movedBy (Began position) = 0
 movedBy Paused = 0
 movedBy Nothing = 0
@@ -43,6 +48,8 @@ recordsIn (Windowed o n) = 0
 recordsIn (Sought o n) = 0
 recordsIn MoverStopped = 0
 recordsIn DataStopped = 0
+recordsIn (Listened address) = 0
+recordsIn (Joined address position) = 0
 recordsIn (Began position) = 0
 recordsIn Paused = 0
 recordsIn Nothing = 0
@@ -56,6 +63,8 @@ IsMove (ToTape l stream last) = Unit {0}
 IsMove (FromTape l dest) = Unit {0}
 IsMove (Asked c) = ⊥
 IsMove (Ended l ok) = ⊥
+IsMove (Made l mover) = Unit {0}
+IsMove (Lost l mover) = Unit {0}
 IsMove (Inserted image) = Unit {0}
 IsMove (Renumbered n) = Unit {0}
 
@@ -64,13 +73,19 @@ IsToTape (ToTape l stream last) = Unit {0}
 IsToTape (FromTape l dest) = ⊥
 IsToTape (Asked c) = ⊥
 IsToTape (Ended l ok) = ⊥
+IsToTape (Made l mover) = Unit {0}
+IsToTape (Lost l mover) = Unit {0}
 IsToTape (Inserted image) = Unit {0}
 IsToTape (Renumbered n) = Unit {0}
 
--- after moves either way: `countOf` is what each call told as taken or handed over
+-- of n bytes moved, those that the data end has processed: none by a mover joined by TCP
+unfoldable pub fedOf : ℕ → ℕ → ℕ
+fedOf address n = choose (eqb address tcpAddress) 0 n
+
+-- after moves either way, and connections made and lost: `countOf` is what each call told as taken or handed over
 pub record CountsOfMoves (w : Kept) (es : List Event) : Type 0 where
   pub moved : wrapped (runs w es .session .mover .moved) ≡ wrapped (w .session .mover .moved + sum movedBy (trace w es))
-  pub processed : wrapped (runs w es .session .source .processed) ≡ wrapped (w .session .source .processed + sum countOf (trace w es))
+  pub processed : wrapped (runs w es .session .source .processed) ≡ wrapped (w .session .source .processed + fedOf (w .session .mover .address) (sum countOf (trace w es)))
 
 -- after moves to tape: no count wraps, and the record number goes up by one a record
 pub record CountsOfRecords (w : Kept) (es : List Event) : Type 0 where

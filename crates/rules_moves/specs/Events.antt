@@ -1,16 +1,17 @@
--- The calls without a request ("events" in paper 01): a move to tape, a move from tape, the method's end. What each gives, for any session.
+-- The calls without a request ("events" in paper 01): a move to tape, a move from tape, the method's end, a connection made and one lost. What each gives,
+-- for any session.
 use Prim.Native.Nat.{ℕ}
-use mathlib.Core.Bool.{Bool}
+use mathlib.Core.Bool.{Bool, false}
 use mathlib.Core.List.{List, []}
 use Rattle.wire_replies.specs.declared.Notice.the-variants as Notice
 use Rattle.rules_parts.specs.Parts.{withParts}
 use Rattle.rules.specs.Answer.{Kept, Lent, held, Answered, silent, guarded, halting, noticed}
 use Rattle.rules_moves.specs.declared.Move.{Move}
-use Rattle.rules_moves.specs.Moves.{toTape, fromTape, methodEnd}
+use Rattle.rules_moves.specs.Moves.{toTape, fromTape, methodEnd, madeAt, lostAt}
 
--- what is lent with these calls: a time stamp and the length of the output. No account is lent with a move, and none is looked at
+-- what is lent with these calls: a time stamp and the length of the output. No account and no list is lent with a move, and none is looked at
 abbrev pub stamped : ℕ → ℕ → Lent
-stamped time room = record { account = record { id = []; password = [] }; time = time; room = room }
+stamped time room = record { account = record { id = []; password = [] }; time = time; room = room; addresses = []; made = false }
 
 -- the code, the notices and what is passed on; the bytes taken or handed over; the destination
 pub record Moving : Type 0 where
@@ -62,3 +63,20 @@ movedFromTape k l dest = guarded (k .session) (l .room) (λ code. idling code k 
 
 unfoldable pub methodEnded : Kept → Lent → Bool → Answered
 methodEnded k l ok = guarded (k .session) (l .room) (λ code. silent code k) (finishing k l ok)
+
+-- a connection that was made or lost, of the mover or else of the data end; no image is handed to these
+abbrev pub joining : Kept → Lent → Bool → Answered
+joining k l mover =
+    let s = k .session in
+    announced k l (madeAt mover (s .source) (s .mover) (s .tape)) (k .image)
+
+abbrev pub losing : Kept → Lent → Bool → Answered
+losing k l mover =
+    let s = k .session in
+    announced k l (lostAt mover (s .source) (s .mover) (s .tape)) (k .image)
+
+unfoldable pub connectionMade : Kept → Lent → Bool → Answered
+connectionMade k l mover = guarded (k .session) (l .room) (λ code. silent code k) (joining k l mover)
+
+unfoldable pub connectionLost : Kept → Lent → Bool → Answered
+connectionLost k l mover = guarded (k .session) (l .room) (λ code. silent code k) (losing k l mover)

@@ -45,7 +45,7 @@ pub data Unready (m : Mover) (mode : ℕ) : Type 0 where
 -- the causes of 26 that are left. Set window has none
 pub data Cause (m : Mover) : Request → Type 0 where
   at-listen : (mode address : ℕ) → Unready m mode → Cause m (Request.Mover (MoverRequest.Listen mode address))
-  at-connect : (mode address : ℕ) → Unready m mode → Cause m (Request.Joint (JointRequest.MoverConnect mode address))
+  at-connect : (mode address count : ℕ) → Unready m mode → Cause m (Request.Joint (JointRequest.MoverConnect mode address count))
   at-continue : m .length ≡ 0 → Cause m (Request.Mover MoverRequest.Continue)
 
 -- ---- a record size 0 that is handed in
@@ -78,8 +78,8 @@ pub record HandedIn : Type 0 where
       → busy (k .session .mover .state) ≡ false → Gets26 k l r
   pub listen : (k : Kept) (l : Lent) (r : List ℕ) (mode address : ℕ) → Unsized k l r → requestIn r ≡ Request.Mover (MoverRequest.Listen mode address)
       → MayJoin (k .session) mode → Gets26 k l r
-  pub connect : (k : Kept) (l : Lent) (r : List ℕ) (mode address : ℕ) → Unsized k l r
-      → requestIn r ≡ Request.Joint (JointRequest.MoverConnect mode address) → MayJoin (k .session) mode → Gets26 k l r
+  pub connect : (k : Kept) (l : Lent) (r : List ℕ) (mode address count : ℕ) → Unsized k l r
+      → requestIn r ≡ Request.Joint (JointRequest.MoverConnect mode address count) → MayJoin (k .session) mode → Gets26 k l r
 
 pub record FirstSize : Type 0 where
   pub first : (time room : ℕ) → opening time room .next .session .mover .size ≡ 10240

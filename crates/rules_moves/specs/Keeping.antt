@@ -12,8 +12,8 @@ use Rattle.rules_parts.specs.Names.{leastRoom}
 use Rattle.rules.specs.Relation.{keeps}
 use Rattle.rules.specs.Answer.{Kept, Lent}
 use Rattle.rules.specs.Calls.{Unmoved}
-use Rattle.rules_moves.specs.Events.{Moving, movedToTape, movedFromTape, methodEnded}
-use Rattle.rules_moves.specs.Sequence.{Event, Asked, ToTape, FromTape, Ended, Inserted, Renumbered, runs}
+use Rattle.rules_moves.specs.Events.{Moving, movedToTape, movedFromTape, methodEnded, connectionMade, connectionLost}
+use Rattle.rules_moves.specs.Sequence.{Event, Asked, ToTape, FromTape, Ended, Made, Lost, Inserted, Renumbered, runs}
 
 -- nothing is sent or moved, and session, image and destination are as they were
 pub record Idle (k : Kept) (dest : List ℕ) (e : Moving) : Type 0 where
@@ -38,6 +38,8 @@ Sounds (Asked c) = Unit {0}
 Sounds (ToTape l stream last) = Unit {0}
 Sounds (FromTape l dest) = Unit {0}
 Sounds (Ended l ok) = Unit {0}
+Sounds (Made l mover) = Unit {0}
+Sounds (Lost l mover) = Unit {0}
 Sounds (Renumbered n) = Unit {0}
 
 pub record MovesKeep : Type 0 where
@@ -45,6 +47,8 @@ pub record MovesKeep : Type 0 where
       → Guards k l (movedToTape k l stream last .answer .code) (Idle k [] (movedToTape k l stream last))
   pub from-tape : (k : Kept) (l : Lent) (dest : List ℕ) → Guards k l (movedFromTape k l dest .answer .code) (Idle k dest (movedFromTape k l dest))
   pub method : (k : Kept) (l : Lent) (ok : Bool) → Guards k l (methodEnded k l ok .code) (Unmoved k (methodEnded k l ok))
+  pub made : (k : Kept) (l : Lent) (mover : Bool) → Guards k l (connectionMade k l mover .code) (Unmoved k (connectionMade k l mover))
+  pub lost : (k : Kept) (l : Lent) (mover : Bool) → Guards k l (connectionLost k l mover .code) (Unmoved k (connectionLost k l mover))
   -- every call keeps the relation, so that none is refused with 1002 after it, and leaves a sound image sound; and so do lists of calls
   pub kept : (w : Kept) (es : List Event) → keeps (w .session) ≡ true → keeps (runs w es .session) ≡ true
   pub sound : (w : Kept) (es : List Event) → keeps (w .session) ≡ true → isSound (w .image) ≡ true → Each Sounds es → isSound (runs w es .image) ≡ true

@@ -1,13 +1,13 @@
 pub mod Moves
 pub mod Events
 pub mod Cases
-pub mod Examples
 pub mod RecoverCases
-pub mod EndlessCases
 pub mod Sequence
 pub mod Keeping
 pub mod Counts
 pub mod Endless
 pub mod Modes
+pub mod Apart
+pub mod TcpMoves
 pub mod FirstSize
-pub mod FirstSizeCases
+pub mod TcpCases

@@ -6,6 +6,7 @@ use mathlib.Core.List.{List}
 use mathlib.Core.Path.{_≡_}
 use lib.ListN.{length, take, drop}
 use lib.Dec.{eqb, ltb}
+use Rattle.codes.specs.Codes.{tcpAddress}
 use Rattle.xdr.specs.Choose.{choose, least}
 use Rattle.xdr.specs.Xdr.{overlay}
 use Rattle.tape_image.specs.Image.{count, entryLen, entryBytes, faulty}
@@ -14,12 +15,21 @@ use Rattle.tape_ops.specs.Step.{Step, keeping}
 use Rattle.rules_parts.specs.declared.types.Data.{Data}
 use Rattle.rules_parts.specs.declared.types.Mover.{Mover}
 use Rattle.rules_parts.specs.declared.types.Tape.{Tape}
-use Rattle.rules_parts.specs.Names.{dataActive, moverActive, toTapeMode, fromTapeMode, backupOperation, recoverOperation}
+use Rattle.rules_parts.specs.Names.{dataActive, dataListening, dataConnected, moverListening, moverActive, toTapeMode, fromTapeMode, backupOperation, recoverOperation}
 use Rattle.rules_parts.specs.Names.{dataSuccessful, dataInternalError, dataConnectError, moverConnectClosed, moverMediaError, endOfMedium, endOfFile, seekOutside, endOfWindow}
-use Rattle.rules_parts.specs.Parts.{dataHalts, dataFed, moverPauses, moverHalts, moverRecords, moverHands, windowEnd}
+use Rattle.rules_parts.specs.Parts.{dataTo, dataHalts, dataFed, dataJoined, moverJoined, moverRuns, moverPauses, moverHalts, moverRecords, moverHands, windowEnd}
 use Rattle.rules.specs.TapeService.{movedTo}
 use Rattle.rules_moves.specs.declared.Move.{Move}
 use Rattle.rules_moves.specs.declared.Found.{Found}
+
+-- 02 No. 14: an end joined by TCP "has no local partner"
+abbrev pub byTcp : ℕ → Bool
+byTcp address = eqb address tcpAddress
+
+-- n bytes of the stream were processed: of the joined data end. "A vault end joined by TCP has no local partner", so that no data end's count moves with
+-- such a mover
+unfoldable pub fedBy : Mover → ℕ → Data → Data
+fedBy m n d = choose (byTcp (m .address)) d (dataFed n d)
 
 -- ---- what a move can come to
 abbrev pub still : Data → Mover → Tape → Move
@@ -31,22 +41,35 @@ pauses why d m t = record { count = 0; dwhy = 0; mwhy = 0; pause = why; source =
 abbrev pub halts : ℕ → ℕ → Data → Mover → Tape → Move
 halts dwhy mwhy d m t = record { count = 0; dwhy = dwhy; mwhy = mwhy; pause = 0; source = dataHalts dwhy d; mover = moverHalts mwhy m; tape = t }
 
+-- one end alone
+abbrev pub haltsSource : ℕ → Data → Mover → Tape → Move
+haltsSource why d m t = record { count = 0; dwhy = why; mwhy = 0; pause = 0; source = dataHalts why d; mover = m; tape = t }
+
+abbrev pub haltsMover : ℕ → Data → Mover → Tape → Move
+haltsMover why d m t = record { count = 0; dwhy = 0; mwhy = why; pause = 0; source = d; mover = moverHalts why m; tape = t }
+
+-- a move's halt: of both ends, or, where the mover is joined by TCP, of the mover: "any halt is of one end"
+unfoldable pub haltsWith : ℕ → ℕ → Data → Mover → Tape → Move
+haltsWith dwhy mwhy d m t = choose (byTcp (m .address)) (haltsMover mwhy d m t) (halts dwhy mwhy d m t)
+
 -- a record to tape, n of whose bytes are the stream's: processed "leaves the fill out"
 abbrev pub takes : ℕ → Data → Mover → Tape → Move
-takes n d m t = record { count = n; dwhy = 0; mwhy = 0; pause = 0; source = dataFed n d; mover = moverRecords m; tape = movedTo (t .position + 1) t }
+takes n d m t = record { count = n; dwhy = 0; mwhy = 0; pause = 0; source = fedBy m n d; mover = moverRecords m; tape = movedTo (t .position + 1) t }
 
 -- n bytes of record i from tape: "the tape stands after that record"
 abbrev pub hands : ℕ → ℕ → Data → Mover → Tape → Move
-hands n i d m t = record { count = n; dwhy = 0; mwhy = 0; pause = 0; source = dataFed n d; mover = moverHands n m; tape = movedTo (i + 1) t }
+hands n i d m t = record { count = n; dwhy = 0; mwhy = 0; pause = 0; source = fedBy m n d; mover = moverHands n m; tape = movedTo (i + 1) t }
 
 -- ---- to tape
--- "mover not ACTIVE in mode 0, or data not ACTIVE in a backup"; and likewise from tape, with mode 1 and a recover
+-- "mover not ACTIVE in mode 0, or data not ACTIVE in a backup"; and likewise from tape, with mode 1 and a recover. 02 No. 14, of a mover joined by TCP: "a
+-- move asks only that the mover be ACTIVE in its mode"
 unfoldable pub idle : ℕ → ℕ → Data → Mover → Bool
 idle mode operation d m =
     choose (not (eqb (m .state) moverActive)) true
     (choose (not (eqb (m .mode) mode)) true
+    (choose (byTcp (m .address)) false
     (choose (not (eqb (d .state) dataActive)) true
-    (not (eqb (d .operation) operation))))
+    (not (eqb (d .operation) operation)))))
 
 -- "stream part empty and marked last"
 unfoldable pub streamEnds : Bool → ℕ → Bool
@@ -83,8 +106,8 @@ filling d m t l s last =
 unfoldable pub toTape : Data → Mover → Tape → List ℕ → List ℕ → Bool → Step Move
 toTape d m t l s last =
     choose (idle toTapeMode backupOperation d m) (keeping l (still d m t))
-    (choose (faulty l (t .position)) (keeping l (halts dataConnectError moverMediaError d m t))
-    (choose (streamEnds last (length s)) (keeping l (halts dataSuccessful moverConnectClosed d m t))
+    (choose (faulty l (t .position)) (keeping l (haltsWith dataConnectError moverMediaError d m t))
+    (choose (streamEnds last (length s)) (keeping l (haltsWith dataSuccessful moverConnectClosed d m t))
     (filling d m t l s last)))
 
 -- ---- from tape
@@ -120,7 +143,7 @@ untouched b r = record { move = r; dest = b }
 -- "a target record of another length the halt of (2), tape unmoved. Otherwise the least .. is handed over"
 unfoldable pub reading : ℕ → Data → Mover → Tape → List ℕ → List ℕ → Handing
 reading i d m t l b =
-    choose (not (eqb (entryLen l i) (m .size))) (untouched b (halts dataConnectError moverMediaError d m t))
+    choose (not (eqb (entryLen l i) (m .size))) (untouched b (haltsWith dataConnectError moverMediaError d m t))
     (record {
       move = hands (amount m (length b)) i d m t;
       dest = overlay 0 (take (amount m (length b)) (drop (inRecord m) (entryBytes l i))) b;
@@ -147,7 +170,7 @@ seeking d m t l b =
 unfoldable pub fromTape : Data → Mover → Tape → List ℕ → List ℕ → Handing
 fromTape d m t l b =
     choose (idle fromTapeMode recoverOperation d m) (untouched b (still d m t))
-    (choose (faulty l (t .position)) (untouched b (halts dataConnectError moverMediaError d m t))
+    (choose (faulty l (t .position)) (untouched b (haltsWith dataConnectError moverMediaError d m t))
     (choose (eqb (m .left) 0) (untouched b (still d m t))
     (choose (eqb (length b) 0) (untouched b (still d m t))
     (seeking d m t l b))))
@@ -157,7 +180,31 @@ pub record HandedAs (st : Handing) (r : Move) (b′ : List ℕ) : Type 0 where
   pub is : r ≡ st .move
   pub dest : b′ ≡ st .dest
 
--- ---- "The method's end, while data is ACTIVE, halts it SUCCESSFUL or INTERNAL_ERROR 3 and the mover CONNECT_CLOSED; otherwise it does nothing."
+-- ---- "The method's end, while data is ACTIVE, halts it SUCCESSFUL or INTERNAL_ERROR 3 and the mover CONNECT_CLOSED; otherwise it does nothing." By TCP
+-- it halts data alone
 unfoldable pub methodEnd : Bool → Data → Mover → Tape → Move
 methodEnd ok d m t =
-    choose (eqb (d .state) dataActive) (halts (choose ok dataSuccessful dataInternalError) moverConnectClosed d m t) (still d m t)
+    let why = choose ok dataSuccessful dataInternalError in
+    choose (eqb (d .state) dataActive) (choose (byTcp (d .address)) (haltsSource why d m t) (halts why moverConnectClosed d m t)) (still d m t)
+
+-- ---- 02 No. 14: "events naming an end report made where it listens by TCP, lost where it is joined so; elsewhere they do nothing." An event names the
+-- mover, or else the data end
+abbrev pub sourceMade : Data → Mover → Tape → Move
+sourceMade d m t = record { count = 0; dwhy = 0; mwhy = 0; pause = 0; source = dataTo dataConnected (d .address) d; mover = m; tape = t }
+
+abbrev pub moverMade : Data → Mover → Tape → Move
+moverMade d m t = record { count = 0; dwhy = 0; mwhy = 0; pause = 0; source = d; mover = moverRuns (m .mode) (m .address) (t .position) m; tape = t }
+
+-- an end in a state, by TCP
+unfoldable pub atTcp : ℕ → Bool → Bool
+atTcp address there = choose (byTcp address) there false
+
+-- "Made joins as a connect does"
+unfoldable pub madeAt : Bool → Data → Mover → Tape → Move
+madeAt true d m t = choose (atTcp (m .address) (eqb (m .state) moverListening)) (moverMade d m t) (still d m t)
+madeAt false d m t = choose (atTcp (d .address) (eqb (d .state) dataListening)) (sourceMade d m t) (still d m t)
+
+-- "lost halts as the partner's abort": "data halts CONNECT_ERROR 4, mover halts CONNECT_CLOSED 1"
+unfoldable pub lostAt : Bool → Data → Mover → Tape → Move
+lostAt true d m t = choose (atTcp (m .address) (moverJoined (m .state))) (haltsMover moverConnectClosed d m t) (still d m t)
+lostAt false d m t = choose (atTcp (d .address) (dataJoined (d .state))) (haltsSource dataConnectError d m t) (still d m t)

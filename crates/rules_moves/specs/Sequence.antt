@@ -1,4 +1,4 @@
--- What holds over any sequence of calls (demand 2): requests, moves and the method's end, in any order, with any image handed to any of them,
+-- What holds over any sequence of calls (demand 2): requests, moves, the method's end, connections made and lost, in any order, with any image handed to any of them,
 -- and the number of the next message set to any between them.
 -- What is seen of each call is a value; a register, which is replayed from what was seen and from nothing else, says which window is in
 -- force, what the counts are and what is read next from where; and each thing seen must fit the register.
@@ -8,6 +8,7 @@ use mathlib.Core.List.{List, [], _∷_}
 use mathlib.Core.Path.{_≡_}
 use lib.ListN.{length, take, drop}
 use lib.Dec.{eqb}
+use Rattle.codes.specs.Codes.{localAddress, tcpAddress}
 use Rattle.xdr.specs.Choose.{choose}
 use Rattle.xdr.specs.Xdr.{overlay}
 use Rattle.tape_image.specs.Image.{count, entryLen, entryBytes}
@@ -30,7 +31,7 @@ use Rattle.rules_parts.specs.Parts.{wrapped, windowEnd}
 use Rattle.rules.specs.Relation.{keeps, Legal}
 use Rattle.rules.specs.Answer.{Kept, Lent, held, guarded, verdict, answered, requestIn}
 use Rattle.rules.specs.Order.{Call}
-use Rattle.rules_moves.specs.Events.{Moving, movedToTape, movedFromTape, methodEnded}
+use Rattle.rules_moves.specs.Events.{Moving, movedToTape, movedFromTape, methodEnded, connectionMade, connectionLost}
 
 -- ---- the calls
 pub data Event : Type 0 where
@@ -39,6 +40,9 @@ pub data Event : Type 0 where
   ToTape : Lent → List ℕ → Bool → Event
   FromTape : Lent → List ℕ → Event
   Ended : Lent → Bool → Event
+  -- 02 No. 14: what is lent; of the mover, or else of the data end, a connection was made, or lost
+  Made : Lent → Bool → Event
+  Lost : Lent → Bool → Event
   -- another image is handed to the calls that follow
   Inserted : List ℕ → Event
   -- the host sets the number of the next message, the one thing of a session that is its own to set (include/mossgoblin.h)
@@ -53,6 +57,8 @@ step (Asked c) w = answered w (c .lent) (c .ask .request) .next
 step (ToTape l stream last) w = movedToTape w l stream last .answer .next
 step (FromTape l dest) w = movedFromTape w l dest .answer .next
 step (Ended l ok) w = methodEnded w l ok .next
+step (Made l mover) w = connectionMade w l mover .next
+step (Lost l mover) w = connectionLost w l mover .next
 step (Inserted image) w = held (w .session) image
 step (Renumbered n) w = held (renumbered n (w .session)) (w .image)
 
@@ -68,7 +74,11 @@ pub data Seen : Type 0 where
   Sought : ℕ → ℕ → Seen
   MoverStopped : Seen
   DataStopped : Seen
-  -- the mover became ACTIVE, with the tape at a position: data connect, mover connect or continue was accepted
+  -- mover listen was accepted, by an address of a type
+  Listened : ℕ → Seen
+  -- mover connect was accepted, by an address of a type, with the tape at a position
+  Joined : ℕ → ℕ → Seen
+  -- the mover became ACTIVE, with the tape at a position: data connect by LOCAL or continue was accepted, or its connection was made
   Began : ℕ → Seen
   Paused : Seen
   -- a record of so many bytes was written, so many of them the stream's
@@ -89,7 +99,7 @@ moverAsked position (MoverRequest.Read offset length) = Sought offset length
 moverAsked position MoverRequest.Continue = Began position
 moverAsked position MoverRequest.Stop = MoverStopped
 moverAsked position MoverRequest.State = Nothing
-moverAsked position (MoverRequest.Listen mode address) = Nothing
+moverAsked position (MoverRequest.Listen mode address) = Listened address
 
 unfoldable pub dataAsked : DataRequest → Seen
 dataAsked DataRequest.Stop = DataStopped
@@ -99,8 +109,8 @@ dataAsked (DataRequest.Recover method) = Nothing
 dataAsked (DataRequest.Listen address) = Nothing
 
 unfoldable pub jointAsked : ℕ → JointRequest → Seen
-jointAsked position (JointRequest.DataConnect address) = Began position
-jointAsked position (JointRequest.MoverConnect mode address) = Began position
+jointAsked position (JointRequest.DataConnect address count) = choose (eqb address tcpAddress) Nothing (Began position)
+jointAsked position (JointRequest.MoverConnect mode address count) = Joined address position
 jointAsked position JointRequest.DataAbort = Nothing
 jointAsked position JointRequest.MoverAbort = Nothing
 jointAsked position JointRequest.MoverClose = Nothing
@@ -123,6 +133,10 @@ moveShown m next count what =
     (choose (not (eqb (m .state) moverActive)) Nothing
     (choose (eqb (next .state) moverPaused) Paused Nothing))
 
+-- a connection that was made: a mover that was not ACTIVE and is
+unfoldable pub madeShown : Mover → Mover → ℕ → Seen
+madeShown m next position = choose (eqb (m .state) moverActive) Nothing (choose (eqb (next .state) moverActive) (Began position) Nothing)
+
 abbrev pub toTapeShown : Mover → Moving → Seen
 toTapeShown m e = moveShown m (e .answer .next .session .mover) (e .count) (Wrote (m .size) (e .count))
 
@@ -137,13 +151,16 @@ seen (Asked c) w =
 seen (ToTape l stream last) w = toTapeShown (w .session .mover) (movedToTape w l stream last)
 seen (FromTape l dest) w = fromTapeShown (w .session .mover) (movedFromTape w l dest)
 seen (Ended l ok) w = Nothing
+seen (Made l mover) w = madeShown (w .session .mover) (connectionMade w l mover .next .session .mover) (w .session .tape .position)
+seen (Lost l mover) w = Nothing
 seen (Inserted image) w = Nothing
 seen (Renumbered n) w = Nothing
 
 -- ---- the register: the record size, the window in force (of length 0 there is none), bytes moved and processed; the seek position and the
--- bytes left to read; and the origin, the tape position that stands for the window's offset
+-- bytes left to read; the origin, the tape position that stands for the window's offset; and the type of the mover's address
 pub record Register : Type 0 where
   pub size : ℕ
+  pub address : ℕ
   pub offset : ℕ
   pub length : ℕ
   pub moved : ℕ
@@ -156,6 +173,7 @@ abbrev pub partsRegister : Data → Mover → Register
 partsRegister d m =
     record {
       size = m .size;
+      address = m .address;
       offset = m .offset;
       length = m .length;
       moved = m .moved;
@@ -171,38 +189,48 @@ registerOf s = partsRegister (s .source) (s .mover)
 -- the register with another size; another window; other counts; another seek position and bytes left; another origin
 abbrev pub withSize : ℕ → Register → Register
 withSize n r =
-    record { size = n; offset = r .offset; length = r .length; moved = r .moved; processed = r .processed; seek = r .seek; left = r .left; origin = r .origin }
+    record { size = n; address = r .address; offset = r .offset; length = r .length; moved = r .moved; processed = r .processed; seek = r .seek; left = r .left; origin = r .origin }
 
 abbrev pub withWindow : ℕ → ℕ → Register → Register
 withWindow o n r =
-    record { size = r .size; offset = o; length = n; moved = r .moved; processed = r .processed; seek = r .seek; left = r .left; origin = r .origin }
+    record { size = r .size; address = r .address; offset = o; length = n; moved = r .moved; processed = r .processed; seek = r .seek; left = r .left; origin = r .origin }
 
 abbrev pub withCounts : ℕ → ℕ → Register → Register
 withCounts moved processed r =
-    record { size = r .size; offset = r .offset; length = r .length; moved = moved; processed = processed; seek = r .seek; left = r .left; origin = r .origin }
+    record { size = r .size; address = r .address; offset = r .offset; length = r .length; moved = moved; processed = processed; seek = r .seek; left = r .left; origin = r .origin }
 
 abbrev pub withSeek : ℕ → ℕ → Register → Register
 withSeek seek left r =
-    record { size = r .size; offset = r .offset; length = r .length; moved = r .moved; processed = r .processed; seek = seek; left = left; origin = r .origin }
+    record { size = r .size; address = r .address; offset = r .offset; length = r .length; moved = r .moved; processed = r .processed; seek = seek; left = left; origin = r .origin }
 
 abbrev pub withOrigin : ℕ → Register → Register
 withOrigin position r =
-    record { size = r .size; offset = r .offset; length = r .length; moved = r .moved; processed = r .processed; seek = r .seek; left = r .left; origin = position }
+    record { size = r .size; address = r .address; offset = r .offset; length = r .length; moved = r .moved; processed = r .processed; seek = r .seek; left = r .left; origin = position }
+
+abbrev pub withAddress : ℕ → Register → Register
+withAddress address r =
+    record { size = r .size; address = address; offset = r .offset; length = r .length; moved = r .moved; processed = r .processed; seek = r .seek; left = r .left; origin = r .origin }
+
+-- what the data end has processed after k bytes more of the stream: a mover joined by TCP has no data end
+unfoldable pub processedBy : ℕ → ℕ → ℕ → ℕ
+processedBy address processed k = choose (eqb address tcpAddress) processed (wrapped (processed + k))
 
 -- No window outlives a change of record size, a pause or a stop; only an accepted set window puts one in force. An accepted mover read sets
 -- seek position and bytes left; bytes handed over are "added to seek position, taken off bytes left". "The tape position when the mover became
 -- ACTIVE stands for the window's offset." "Bytes moved counts whole records to tape, bytes handed over from tape; the joined data end's
--- processed count is the same, but to tape it leaves the fill out."
+-- processed count is the same, but to tape it leaves the fill out." The address has the type of the accepted listen or connect, until stop.
 unfoldable pub after : Register → Seen → Register
 after r (Sized n) = withWindow 0 0 (withSize n r)
 after r (Windowed o n) = withWindow o n r
 after r (Sought o n) = withSeek o n r
-after r MoverStopped = withWindow 0 0 (withCounts 0 (r .processed) (withSeek 0 0 (withOrigin 0 r)))
+after r MoverStopped = withWindow 0 0 (withCounts 0 (r .processed) (withSeek 0 0 (withOrigin 0 (withAddress localAddress r))))
 after r DataStopped = withCounts (r .moved) 0 r
+after r (Listened address) = withAddress address r
+after r (Joined address position) = withAddress address (withOrigin position r)
 after r (Began position) = withOrigin position r
 after r Paused = withWindow 0 0 r
-after r (Wrote n k) = withCounts (wrapped (r .moved + n)) (wrapped (r .processed + k)) r
-after r (Handed k) = withCounts (wrapped (r .moved + k)) (wrapped (r .processed + k)) (withSeek (r .seek + k) (r .left - k) r)
+after r (Wrote n k) = withCounts (wrapped (r .moved + n)) (processedBy (r .address) (r .processed) k) r
+after r (Handed k) = withCounts (wrapped (r .moved + k)) (processedBy (r .address) (r .processed) k) (withSeek (r .seek + k) (r .left - k) r)
 after r Nothing = r
 
 -- ---- what is allowed
@@ -240,6 +268,8 @@ FitsRegister r (Windowed o n) = Unit {0}
 FitsRegister r (Sought o n) = Unit {0}
 FitsRegister r MoverStopped = Unit {0}
 FitsRegister r DataStopped = Unit {0}
+FitsRegister r (Listened address) = Unit {0}
+FitsRegister r (Joined address position) = Unit {0}
 FitsRegister r (Began position) = Unit {0}
 FitsRegister r Paused = Unit {0}
 FitsRegister r Nothing = Unit {0}
@@ -258,6 +288,8 @@ imageAfter (Windowed o n) l position stream = l
 imageAfter (Sought o n) l position stream = l
 imageAfter MoverStopped l position stream = l
 imageAfter DataStopped l position stream = l
+imageAfter (Listened address) l position stream = l
+imageAfter (Joined address at) l position stream = l
 imageAfter (Began at) l position stream = l
 imageAfter Paused l position stream = l
 imageAfter Nothing l position stream = l
@@ -270,6 +302,8 @@ destAfter (Windowed o n) r l b = b
 destAfter (Sought o n) r l b = b
 destAfter MoverStopped r l b = b
 destAfter DataStopped r l b = b
+destAfter (Listened address) r l b = b
+destAfter (Joined address position) r l b = b
 destAfter (Began position) r l b = b
 destAfter Paused r l b = b
 destAfter Nothing r l b = b
@@ -282,6 +316,8 @@ countOf (Windowed o n) = 0
 countOf (Sought o n) = 0
 countOf MoverStopped = 0
 countOf DataStopped = 0
+countOf (Listened address) = 0
+countOf (Joined address position) = 0
 countOf (Began position) = 0
 countOf Paused = 0
 countOf Nothing = 0
@@ -320,6 +356,8 @@ abbrev pub Leaves : Register → Kept → Event → Type 0
 Leaves r w (ToTape l stream last) = ToTapeLeaves w stream (movedToTape w l stream last)
 Leaves r w (FromTape l dest) = FromTapeLeaves r w dest (movedFromTape w l dest)
 Leaves r w (Ended l ok) = methodEnded w l ok .next .image ≡ w .image
+Leaves r w (Made l mover) = connectionMade w l mover .next .image ≡ w .image
+Leaves r w (Lost l mover) = connectionLost w l mover .next .image ≡ w .image
 Leaves r w (Asked c) = Unit {0}
 Leaves r w (Inserted image) = Unit {0}
 Leaves r w (Renumbered n) = RenumberedLeaves n w (step (Renumbered n) w)

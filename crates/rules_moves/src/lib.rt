@@ -1,14 +1,14 @@
 // Moving bytes: what a move comes to, and what holds of moves. The definitions are in specs/; the code stands in the crates above.
-ghost use Rattle.rules_moves.specs.Examples.{ExamplesHold};
 ghost use Rattle.rules_moves.specs.RecoverCases.{RecoverCasesHold};
-ghost use Rattle.rules_moves.specs.EndlessCases.{EndlessCasesHold};
 ghost use Rattle.rules_moves.specs.Endless.{EndlessMoves};
 ghost use Rattle.rules_moves.specs.Sequence.{WindowHolds};
 ghost use Rattle.rules_moves.specs.Keeping.{MovesKeep};
 ghost use Rattle.rules_moves.specs.Counts.{CountsHold};
 ghost use Rattle.rules_moves.specs.Modes.{EachItsMode};
 ghost use Rattle.rules_moves.specs.FirstSize.{FirstSize};
-ghost use Rattle.rules_moves.specs.FirstSizeCases.{FirstSizeCasesHold};
+ghost use Rattle.rules_moves.specs.TcpCases.{TcpCasesHold};
+ghost use Rattle.rules_moves.specs.Apart.{TcpApart};
+ghost use Rattle.rules_moves.specs.TcpMoves.{TcpMoves};
 use rules_parts::types::Data;
 use rules_parts::types::Mover;
 use rules_parts::types::Tape;
@@ -33,19 +33,9 @@ pub enum Found {
     End,
 }
 
-// No work: its contract is the examples of paper 01, cases a to j in one statement.
-pub fn examples_hold()
-    ensures { λ r. ⌜ ExamplesHold ⌝ }
-{}
-
-// No work: its contract is a second list of cases in one statement: recovers, and moves at marks, ends and faults.
+// No work: its contract is a list of cases in one statement: recovers, and moves at marks, ends and faults.
 pub fn recover_cases_hold()
     ensures { λ r. ⌜ RecoverCasesHold ⌝ }
-{}
-
-// No work: its contract is a third list of cases in one statement: windows with no end.
-pub fn endless_cases_hold()
-    ensures { λ r. ⌜ EndlessCasesHold ⌝ }
 {}
 
 // No work: its contract is what rule (4) and the counts come to in windows with no end.
@@ -78,7 +68,17 @@ pub fn first_size()
     ensures { λ r. ⌜ FirstSize ⌝ }
 {}
 
-// No work: its contract is a list of cases of the first record size, and of one that is 0, in one statement.
-pub fn first_size_cases_hold()
-    ensures { λ r. ⌜ FirstSizeCasesHold ⌝ }
+// No work: its contract is a list of cases of ends by TCP, in one statement.
+pub fn tcp_cases_hold()
+    ensures { λ r. ⌜ TcpCasesHold ⌝ }
+{}
+
+// No work: its contract is that what happens to one end by TCP never changes the other.
+pub fn tcp_apart()
+    ensures { λ r. ⌜ TcpApart ⌝ }
+{}
+
+// No work: its contract is what moves and events of an end by TCP come to.
+pub fn tcp_moves()
+    ensures { λ r. ⌜ TcpMoves ⌝ }
 {}

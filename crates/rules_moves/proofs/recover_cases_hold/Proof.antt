@@ -6,7 +6,7 @@ use Rattle.rules_moves.proofs.recover_cases_hold.Reads as reads
 use Rattle.rules_moves.proofs.recover_cases_hold.Lts as lts
 
 returns : tie.Need-returns
-returns c = laws.cases-hold .1
+returns c = laws.cases-hold .0
 
 pub recover-cases-hold-spec : {M : Type 1} → statement M
 recover-cases-hold-spec = tie.close (tie.spec returns)

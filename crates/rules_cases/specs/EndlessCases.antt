@@ -9,12 +9,12 @@ use Rattle.rules_parts.specs.declared.types.Session.{Session}
 use Rattle.rules_parts.specs.Parts.{closedChanger}
 use Rattle.rules.specs.Relation.{keeps}
 use Rattle.rules.specs.Answer.{held}
 use Rattle.rules_moves.specs.Cases.{CaseLine, Feed, Fetch, Case, Final, runCase, expect, allPlayed, allWanted, toTapeMode, fromTapeMode, noMode, eom, eof, seek, eow}
 use Rattle.rules_moves.specs.Cases.{connectClosed, successful, backupRuns, fsr, login, sizeLine, windowLine, openTape, listen, connectLine, startBackup, startRecover}
 use Rattle.rules_moves.specs.Cases.{read, continueLine, pauseNotices, haltNotices, moverIdleWords, active, pausedFor, haltedFor, counts, reads, windowWords, moverIs, dataActiveWords, dataHaltedFor, dataIs}
 use Rattle.rules_moves.specs.Cases.{streamed, cartridge}
-use Rattle.rules_moves.specs.Examples.{prepared, blank, asking, streaming, threeRecords}
+use Rattle.rules_cases.specs.Examples.{prepared, blank, asking, streaming, threeRecords}
 use Rattle.rules_moves.specs.RecoverCases.{full, recovering, recoverCase, small, twoRecords, backingUp, backupCase}
 
 -- "length 18446744073709551615, all ones"
 abbrev pub ones : ℕ
@@ -112,13 +112,14 @@ nearTop moved =
       first = false;
       login = record { authorized = true };
       sequence = 9;
-      source = record { state = 1; operation = backupRuns; reason = 0; processed = moved };
+      source = record { state = 1; operation = backupRuns; reason = 0; address = 0; processed = moved };
       mover = record {
         state = 2;
         mode = toTapeMode;
         pause = 0;
         halt = 0;
         size = 1024;
+        address = 0;
         offset = 0;
         length = ones;
         moved = moved;

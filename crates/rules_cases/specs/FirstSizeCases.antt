@@ -7,11 +7,11 @@ use mathlib.Core.Path.{_≡_}
 use lib.ListN.{replicate}
 use Rattle.rules.specs.Answer.{held}
 use Rattle.rules.specs.Calls.{openedSession}
 use Rattle.rules_moves.specs.Cases.{CaseLine, Ask, Feed, Case, Final, tell, allPlayed, allWanted, runCase, expect, toTapeMode, fromTapeMode, noMode, connectClosed, successful}
 use Rattle.rules_moves.specs.Cases.{says, login, sizeLine, windowLine, openTape, listen, connectLine, startBackup, stopMover, stopData, haltNotices}
 use Rattle.rules_moves.specs.Cases.{moverIdleWords, active, counts, reads, windowWords, moverIs, streamed, cartridge}
-use Rattle.rules_moves.specs.Examples.{blank}
+use Rattle.rules_cases.specs.Examples.{blank}
 use Rattle.rules_moves.specs.FirstSize.{unsized}
 
 -- the mover at rest, with a record size and no window
 abbrev pub rests : ℕ → CaseLine

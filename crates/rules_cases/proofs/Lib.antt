@@ -1,0 +1,2 @@
+-- `Cases` has the computed cases.
+pub mod Cases
