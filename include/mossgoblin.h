@@ -1,4 +1,5 @@
-/* The session core of a tape vault that speaks NDMP version 4: five calls, and two functions that look at a cartridge, as C functions of the static library `capi` (`tools/library`).
+/* The session core of a tape vault that speaks NDMP version 4: seven calls, a reader of addresses, and two functions that look at a cartridge, as C
+ * functions of the static library `capi` (`tools/library`).
  *
  * No call asks anything of its caller but that each pointer leads to as many bytes as the length beside it says (a length of 0 may have any
  * pointer), and that no two buffers of a call overlap where one of them is written: image, out and dest are written. Whatever the bytes are, there is
@@ -29,27 +30,30 @@ extern "C" {
 /* The least length of an output. */
 #define MOSSGOBLIN_OUTPUT 36864
 
-/* The data end. State: 0 IDLE, 1 ACTIVE, 2 HALTED, 3 LISTEN, 4 CONNECTED. Operation: 0 none, 1 backup, 2 recover. */
+/* The data end. State: 0 IDLE, 1 ACTIVE, 2 HALTED, 3 LISTEN, 4 CONNECTED. Operation: 0 none, 1 backup, 2 recover. Address is the type of its address, 0
+ * LOCAL, 1 TCP: LOCAL until a listen or connect by TCP is accepted, and then TCP until stop. Processed stays 0 while the end is joined by TCP. */
 struct mossgoblin_data {
     uint32_t state;
     uint32_t operation;
     uint32_t reason;
+    uint32_t address;
     uint64_t processed;
 };
 
 /* The record size of a new session. */
 #define MOSSGOBLIN_FIRST_SIZE 10240
 
-/* The mover. State: 0 IDLE, 1 LISTEN, 2 ACTIVE, 3 PAUSED, 4 HALTED. Mode: 0 to tape, 1 from tape, 2 none. Size is the record size, 1 to 32,768 in every session
- * that these calls give. A window of length 0 is none, and one of length 2^64 - 1 has no end: it goes up to place 2^64 - 1 on the stream, itself outside. Seek is
- * the place on the stream that a mover read has come to, left the bytes that it has still to be given, origin the tape's position when the mover last became
- * ACTIVE. */
+/* The mover. State: 0 IDLE, 1 LISTEN, 2 ACTIVE, 3 PAUSED, 4 HALTED. Mode: 0 to tape, 1 from tape, 2 none. Size is the record size, 1 to 32,768 in every
+ * session that these calls give. A window of length 0 is none, and one of length 2^64 - 1 has no end: it goes up to place 2^64 - 1 on the stream, itself
+ * outside. Seek is the place on the stream that a mover read has come to, left the bytes that it has still to be given, origin the tape's position when the
+ * mover last became ACTIVE. Address is the type of its address, as of the data end. */
 struct mossgoblin_mover {
     uint32_t state;
     uint32_t mode;
     uint32_t pause;
     uint32_t halt;
     uint32_t size;
+    uint32_t address;
     uint64_t offset;
     uint64_t length;
     uint64_t moved;
@@ -114,33 +118,73 @@ struct mossgoblin_cartridge_entry {
     size_t start;
 };
 
+/* The most addresses of a list, and the most bytes of the list that is lent to a listen by TCP. */
+#define MOSSGOBLIN_MOST_ADDRESSES 16
+#define MOSSGOBLIN_MOST_LENT 16384
+
+/* The addresses of a connect by TCP, in the list's order: `count` hosts, each with the port beside it. A host is an IPv4 address as a number: 10.0.0.1 is
+ * 0x0A000001. What is past the count is 0. */
+struct mossgoblin_addresses {
+    uint32_t count;
+    uint32_t hosts[MOSSGOBLIN_MOST_ADDRESSES];
+    uint32_t ports[MOSSGOBLIN_MOST_ADDRESSES];
+};
+
 /* A new session. The notice of the connection status is written to the output, as message number 1. With 1001 the session that comes back is closed. */
 struct mossgoblin_answer mossgoblin_open(uint32_t time, uint8_t *out, size_t out_len);
 
-/* One request: `input` is one whole record, the mark with it, of any bytes. `id` and `password` are the account that a text login is compared with. The image
- * changes only by TAPE write, which writes the record that the client sends, and by MTIO 5, which writes marks: both outside any window of the mover, at the tape's position, and only after login, with the
- * tape open for writing and the mover neither in LISTEN nor ACTIVE. A refused request leaves all but the message counter and the "first request" mark, also at a login. A badly framed record closes the session without a reply, and so does an accepted CONNECT close; a
- * message that is no request is ignored. Everything else is answered: one reply, then its notices. */
+/* One request: `input` is one whole record, the mark with it, of any bytes. `id` and `password` are the account that a text login is compared with.
+ *
+ * `addresses` is what a listen by TCP answers: an XDR list, without the word of the type before it: a count, and of each address host, port, a count of pairs
+ * and the pairs. The host has a port open at each of them. One that does not decode, has no address, more than 16, a port above 65,535 or more than 64 pairs,
+ * or is above MOSSGOBLIN_MOST_LENT bytes is refused with 9. `made` is whether the connection of a connect by TCP was made, to one of the addresses that
+ * mossgoblin_addresses gives: where it was not, the connect is refused with 23, after all else that it can be refused for. Listens and connects by LOCAL, and
+ * all other requests, look at neither. Listens and connects leave the image, and a call keeps nothing: so a host may first ask as if all were well, pass over
+ * that answer, and open no port and connect to nobody where it is a refusal.
+ *
+ * The image changes only by TAPE write, which writes the record that the client sends, and by MTIO 5, which writes marks: both outside any window of the
+ * mover, at the tape's position, and only after login, with the tape open for writing and the mover neither in LISTEN nor ACTIVE. A refused request leaves all
+ * but the message counter and the "first request" mark, also at a login. A badly framed record closes the session without a reply, and so does an accepted
+ * CONNECT close; a message that is no request is ignored. Everything else is answered: one reply, then its notices. */
 struct mossgoblin_answer mossgoblin_request(struct mossgoblin_session session, const uint8_t *id, size_t id_len, const uint8_t *password,
-                                            size_t password_len, uint8_t *image, size_t image_len, const uint8_t *input, size_t input_len,
+                                            size_t password_len, const uint8_t *addresses, size_t addresses_len, bool made,
+                                            uint8_t *image, size_t image_len, const uint8_t *input, size_t input_len,
                                             uint32_t time, uint8_t *out, size_t out_len);
 
-/* One move to tape, in a backup: `stream` is what waits of the stream, `last` whether nothing will follow it. At most one record is written to the image, and `count` bytes
- * of the stream are taken from its front. At the window's end, where a whole record more would pass it, and where the tape is full the mover
- * pauses; an empty last part, or a damaged image, halts both ends. Otherwise nothing happens. A pause and a halt send their notices. It is lent no destination, and hands
- * nothing over. In mode 1, and while the mover is not ACTIVE or the data end not ACTIVE in a backup, it does nothing: count and len are 0, and session and image stay. */
+/* One move to tape, in a backup: `stream` is what waits of the stream, `last` whether nothing will follow it. At most one record is written to the image, and
+ * `count` bytes of the stream are taken from its front. At the window's end, where a whole record more would pass it, and where the tape is full the mover
+ * pauses; an empty last part, or a damaged image, halts both ends. Otherwise nothing happens. A pause and a halt send their notices. It is lent no
+ * destination, and hands nothing over. In mode 1, and while the mover is not ACTIVE or the data end not ACTIVE in a backup, it does nothing: count and len are
+ * 0, and session and image stay. Where the mover is joined by TCP the stream is what its peer sends: then nothing is asked of the data end, which stays as it
+ * is, and a halt is the mover's alone. */
 struct mossgoblin_moved mossgoblin_move_to_tape(struct mossgoblin_session session, uint8_t *image, size_t image_len, const uint8_t *stream,
                                                 size_t stream_len, bool last, uint32_t time, uint8_t *out, size_t out_len);
 
-/* One move from tape, in a recover: of the record that the seek position is in, `count` bytes are written to the front of `dest`; its other bytes stay. The image is only read.
- * Outside the window, at a mark and at the tape's end the mover pauses; a damaged image or a record of another size halts both ends. With nothing left to read and with no room
- * nothing happens. A pause and a halt send their notices. It is lent no stream. In mode 0, and while the mover is not ACTIVE or the data end not ACTIVE in a recover, it does
- * nothing: count and len are 0, and session and destination stay. */
+/* One move from tape, in a recover: of the record that the seek position is in, `count` bytes are written to the front of `dest`; its other bytes stay. The
+ * image is only read. Outside the window, at a mark and at the tape's end the mover pauses; a damaged image or a record of another size halts both ends. With
+ * nothing left to read and with no room nothing happens. A pause and a halt send their notices. It is lent no stream. In mode 0, and while the mover is not
+ * ACTIVE or the data end not ACTIVE in a recover, it does nothing: count and len are 0, and session and destination stay. Where the mover is joined by TCP,
+ * `dest` is what goes to its peer: then nothing is asked of the data end, which stays as it is, and a halt is the mover's alone. */
 struct mossgoblin_moved mossgoblin_move_from_tape(struct mossgoblin_session session, const uint8_t *image, size_t image_len, uint8_t *dest,
                                                   size_t dest_len, uint32_t time, uint8_t *out, size_t out_len);
 
-/* The end of the method that makes or takes the stream, in success or not: while the data end is ACTIVE both ends halt, with their notices; otherwise nothing happens. */
+/* The end of the method that makes or takes the stream, in success or not: while the data end is ACTIVE both ends halt, with their notices; one that is joined
+ * by TCP halts alone. Otherwise nothing happens. */
 struct mossgoblin_answer mossgoblin_end_method(struct mossgoblin_session session, bool ok, uint32_t time, uint8_t *out, size_t out_len);
+
+/* A peer has connected, to the mover where `mover` is set and else to the data end. Where that end is in LISTEN by TCP it is joined: the mover becomes ACTIVE,
+ * with the tape's position as its origin, the data end CONNECTED. Nothing is sent, and the other end stays as it is. Elsewhere nothing happens. */
+struct mossgoblin_answer mossgoblin_made(struct mossgoblin_session session, bool mover, uint32_t time, uint8_t *out, size_t out_len);
+
+/* The connection of the mover, where `mover` is set, and else of the data end was lost. Where that end is joined by TCP it halts, with its notice: the mover,
+ * ACTIVE or PAUSED, by CONNECT_CLOSED 1, the data end, CONNECTED or ACTIVE, by CONNECT_ERROR 4. The other end stays as it is. Elsewhere, in LISTEN too, nothing
+ * happens. */
+struct mossgoblin_answer mossgoblin_lost(struct mossgoblin_session session, bool mover, uint32_t time, uint8_t *out, size_t out_len);
+
+/* The addresses of a record that is a connect by TCP, for the host to make the connection; `input` is as in mossgoblin_request, of any bytes. The count is 0
+ * for every other record: one that is badly framed or no request, another message, another address type, a body that does not decode, an empty list. It is
+ * handed no session, and judges neither state nor login. */
+struct mossgoblin_addresses mossgoblin_addresses(const uint8_t *input, size_t input_len);
 
 /* Whether an image is a sound cartridge. The image is only read. */
 bool mossgoblin_sound(const uint8_t *image, size_t image_len);

@@ -1,5 +1,5 @@
-/* A backup of 3,000 bytes in records of 1,024, from C: the examples g, h and i of the rules. Each step is checked, and the first that is not as the rules
- * say ends the program with 1. */
+/* A backup of 3,000 bytes in records of 1,024, from C: the examples g, h and i of the rules. Then ends by TCP: a record that comes to the mover from a peer,
+ * and a data end that connects to one. Each step is checked, and the first that is not as the rules say ends the program with 1. */
 #include "../../include/mossgoblin.h"
 #include "wire.h"
 
@@ -10,6 +10,10 @@
 static uint8_t image[16 + 4 * 8 + 4096];
 static uint8_t out[MOSSGOBLIN_OUTPUT];
 static struct mossgoblin_session session;
+static uint8_t stream[3000];
+
+/* What a host lends to a listen: one address, 10.0.0.1 and port 10,000, with no pairs. */
+static const uint8_t one_address[] = {0, 0, 0, 1, 10, 0, 0, 1, 0, 0, 39, 16, 0, 0, 0, 0};
 
 static void check(bool holds, const char *what)
 {
@@ -20,15 +24,23 @@ static void check(bool holds, const char *what)
     printf("%s\n", what);
 }
 
-/* A request whose body is words; its reply's error is 0. */
-static void ask(const char *what, uint32_t message, const uint32_t *body, size_t words)
+/* A request whose body is words, lent a list of addresses and whether a connection was made; its reply has the error. Gives the reply's length. */
+static size_t ask_lent(const char *what, uint32_t error, const uint8_t *list, size_t list_len, bool made, uint32_t message, const uint32_t *body,
+                       size_t words)
 {
     uint8_t record[RECORD];
     size_t n = put_request(record, message, body, words);
-    struct mossgoblin_answer a = mossgoblin_request(session, (const uint8_t *)"v", 1, (const uint8_t *)"pw", 2, image, sizeof image, record,
-                                                    n, 0, out, sizeof out);
-    check(a.code == 0 && a.len >= 32 && word(out + 24) == 0 && word(out + 28) == 0, what);
+    struct mossgoblin_answer a = mossgoblin_request(session, (const uint8_t *)"v", 1, (const uint8_t *)"pw", 2, list, list_len, made, image,
+                                                    sizeof image, record, n, 0, out, sizeof out);
+    check(a.code == 0 && a.len >= 32 && word(out + 24) == 0 && word(out + 28) == error, what);
     session = a.session;
+    return a.len;
+}
+
+/* The same, lent no list and no connection; its reply's error is 0. */
+static size_t ask(const char *what, uint32_t message, const uint32_t *body, size_t words)
+{
+    return ask_lent(what, 0, NULL, 0, false, message, body, words);
 }
 
 #define ASK(what, message, ...)                                                     \
@@ -44,9 +56,81 @@ static struct mossgoblin_moved feed(const uint8_t *stream, size_t n, bool last)
     return m;
 }
 
+/* An event that is not refused: what it sends is of this length. */
+static void told(const char *what, struct mossgoblin_answer a, size_t len)
+{
+    check(a.code == 0 && a.len == len, what);
+    session = a.session;
+}
+
+/* The mover listens by TCP and is joined by a peer, whose one record goes to tape; then the peer is lost. The data end is at rest all the while. */
+static void mover_by_tcp(void)
+{
+    const uint32_t by_tcp[] = {0, 1};
+    size_t tape = session.tape.position;
+    ASK("set window", 0xA05, 0, 0, 0, 1024);
+    ask_lent("mover listen by TCP without a list is 9", 9, NULL, 0, false, 0xA01, by_tcp, 2);
+    check(session.mover.state == 0 && session.mover.address == 0, "it stays IDLE");
+    size_t n = ask_lent("mover listen by TCP, lent one address", 0, one_address, sizeof one_address, false, 0xA01, by_tcp, 2);
+    check(n == 36 + sizeof one_address && word(out + 32) == 1 && memcmp(out + 36, one_address, sizeof one_address) == 0,
+          "its reply has the type, and that address");
+    check(session.mover.state == 1 && session.mover.address == 1 && session.source.state == 0, "the mover is in LISTEN by TCP");
+    check(feed(stream, 1024, false).count == 0, "nothing moves yet");
+    told("made, of the data end, does nothing", mossgoblin_made(session, false, 0, out, sizeof out), 0);
+    check(session.mover.state == 1 && session.source.state == 0, "both ends are as they were");
+    told("made, of the mover", mossgoblin_made(session, true, 0, out, sizeof out), 0);
+    check(session.mover.state == 2 && session.mover.origin == tape, "the mover is ACTIVE from the tape's position on");
+
+    struct mossgoblin_moved m = feed(stream, 1024, false);
+    check(m.code == 0 && m.count == 1024 && m.len == 0 && session.mover.moved == 1024, "a record from the peer, with the data end IDLE");
+    check(session.source.state == 0 && session.source.processed == 0, "the data end has processed nothing");
+    struct mossgoblin_cartridge_entry e = mossgoblin_entry(image, sizeof image, tape);
+    check(e.error == 0 && e.len == 1024 && memcmp(image + 48 + e.start, stream, 1024) == 0, "it is on the tape");
+
+    n = ask("mover get state", 0xA00, NULL, 0);
+    check(n == 104 && word(out + 96) == 1 && word(out + 100) == 0, "its address is of type TCP, with no addresses");
+    told("lost, of the mover", mossgoblin_lost(session, true, 0, out, sizeof out), 32);
+    check(word(out + 16) == 0x503 && word(out + 28) == 1 && session.mover.state == 4 && session.source.state == 0,
+          "the mover is halted, CONNECT_CLOSED, and alone");
+    check(session.mover.address == 1, "its address is TCP until stop");
+    told("lost once more does nothing", mossgoblin_lost(session, true, 0, out, sizeof out), 0);
+    ask("mover stop", 0xA04, NULL, 0);
+    check(session.mover.state == 0 && session.mover.address == 0, "its address is LOCAL again");
+}
+
+/* The host is given the addresses of a connect by TCP, and says whether it connected; then the peer is lost. */
+static void data_by_tcp(void)
+{
+    /* type TCP, two addresses: the first with the pair of A and 1 */
+    const uint32_t body[] = {1, 2, 0x0A000001, 10000, 1, 1, 0x41000000, 1, 0x31000000, 0xC0A80101, 65535, 0};
+    const size_t words = sizeof body / sizeof *body;
+    uint8_t record[RECORD];
+    size_t n = put_request(record, 0x40A, body, words);
+    struct mossgoblin_addresses a = mossgoblin_addresses(record, n);
+    check(a.count == 2 && a.hosts[0] == 0x0A000001 && a.ports[0] == 10000 && a.hosts[1] == 0xC0A80101 && a.ports[1] == 65535,
+          "the two addresses of a data connect");
+    bool zeros = true;
+    for (size_t i = 2; i < MOSSGOBLIN_MOST_ADDRESSES; i++)
+        zeros = zeros && a.hosts[i] == 0 && a.ports[i] == 0;
+    check(zeros, "and no more");
+    check(mossgoblin_addresses(record, n - 1).count == 0, "a record that is cut has none");
+    put_word(record + 12, 1);
+    check(mossgoblin_addresses(record, n).count == 0, "a reply has none");
+    n = put_request(record, 0x409, body, words);
+    check(mossgoblin_addresses(record, n).count == 0, "another message has none");
+
+    ask_lent("data connect by TCP that failed is 23", 23, NULL, 0, false, 0x40A, body, words);
+    check(session.source.state == 0 && session.source.address == 0, "it stays IDLE");
+    ask_lent("data connect by TCP that was made", 0, NULL, 0, true, 0x40A, body, words);
+    check(session.source.state == 4 && session.source.address == 1 && session.mover.state == 0, "data is CONNECTED by TCP, and alone");
+    ASK("start backup", 0x401, 4, 0x64756D70, 0);
+    told("lost, of the data end", mossgoblin_lost(session, false, 0, out, sizeof out), 32);
+    check(word(out + 16) == 0x501 && word(out + 28) == 4 && session.source.state == 2 && session.source.processed == 0,
+          "data is halted, CONNECT_ERROR");
+}
+
 int main(void)
 {
-    uint8_t stream[3000];
     for (size_t i = 0; i < sizeof stream; i++)
         stream[i] = i % 251;
     put_word(image, 1);
@@ -94,6 +178,16 @@ int main(void)
 
     a = mossgoblin_end_method(session, true, 0, out, sizeof out);
     check(a.code == 0 && a.len == 0, "the method's end after it does nothing");
+    ask("data stop", 0x407, NULL, 0);
+    ask("mover stop", 0xA04, NULL, 0);
+    mover_by_tcp();
+    data_by_tcp();
+    a = mossgoblin_made(session, true, 0, out, sizeof out - 1);
+    check(a.code == 1001 && a.len == 0 && a.session.source.state == 2, "made: a short output is refused");
+    session.mover.address = 1;
+    a = mossgoblin_lost(session, true, 0, out, sizeof out);
+    check(a.code == 1002 && a.len == 0, "an end by TCP in IDLE is a session that no call gives");
+    session.mover.address = 0;
     session.mover.state = 5;
     a = mossgoblin_end_method(session, true, 0, out, sizeof out);
     check(a.code == 1002 && a.len == 0, "a session that no call gives is refused");

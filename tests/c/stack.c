@@ -21,9 +21,9 @@ static struct mossgoblin_session session;
 /* ---- a call, or one of the same form that does nothing: what both use is the caller's */
 #pragma GCC diagnostic ignored "-Wunused-parameter"
 static struct mossgoblin_answer no_request(struct mossgoblin_session s, const uint8_t *id, size_t id_len,
-                                           const uint8_t *password, size_t password_len, uint8_t *i, size_t i_len,
-                                           const uint8_t *input, size_t input_len, uint32_t time, uint8_t *o,
-                                           size_t o_len)
+                                           const uint8_t *password, size_t password_len, const uint8_t *list,
+                                           size_t list_len, bool made, uint8_t *i, size_t i_len, const uint8_t *input,
+                                           size_t input_len, uint32_t time, uint8_t *o, size_t o_len)
 {
     return (struct mossgoblin_answer){0};
 }
@@ -40,20 +40,47 @@ static struct mossgoblin_moved no_from_tape(struct mossgoblin_session s, const u
     return (struct mossgoblin_moved){0};
 }
 
+static struct mossgoblin_answer no_event(struct mossgoblin_session s, bool mover, uint32_t time, uint8_t *o,
+                                         size_t o_len)
+{
+    return (struct mossgoblin_answer){0};
+}
+
+static struct mossgoblin_addresses no_addresses(const uint8_t *input, size_t input_len)
+{
+    return (struct mossgoblin_addresses){0};
+}
+
 static __typeof__(mossgoblin_request) *volatile request;
 static __typeof__(mossgoblin_move_to_tape) *volatile to_tape;
 static __typeof__(mossgoblin_move_from_tape) *volatile from_tape;
+static __typeof__(mossgoblin_made) *volatile event;
+static __typeof__(mossgoblin_addresses) *volatile reader;
 
+/* What a listen by TCP is lent: one address with the pair of A and 1. */
+static const uint8_t list[] = {0, 0, 0, 1, 10, 0, 0, 1, 0, 0, 39, 16, 0, 0, 0, 1,
+                               0, 0, 0, 1, 'A', 0, 0, 0, 0, 0, 0, 1, '1', 0, 0, 0};
 static uint8_t record[RECORD];
 static size_t record_len, stream_len;
-static bool last;
+static bool last, of_mover;
 static struct mossgoblin_answer answer;
 static struct mossgoblin_moved moved;
+static struct mossgoblin_addresses given;
 
 static void do_request(void)
 {
-    answer = request(session, (const uint8_t *)"v", 1, (const uint8_t *)"pw", 2, image, image_len, record, record_len, 0,
-                     out, sizeof out);
+    answer = request(session, (const uint8_t *)"v", 1, (const uint8_t *)"pw", 2, list, sizeof list, true, image,
+                     image_len, record, record_len, 0, out, sizeof out);
+}
+
+static void do_event(void)
+{
+    answer = event(session, of_mover, 0, out, sizeof out);
+}
+
+static void do_reader(void)
+{
+    given = reader(record, record_len);
 }
 
 static void do_to_tape(void)
@@ -97,7 +124,7 @@ static size_t written(void (*f)(void))
 }
 
 /* ---- the calls, each with the greatest use so far */
-static size_t most_request, most_to_tape, most_from_tape;
+static size_t most_request, most_to_tape, most_from_tape, most_made, most_lost, most_addresses;
 
 static size_t beyond(size_t with, size_t without, size_t *most)
 {
@@ -167,6 +194,29 @@ static void fetch(void)
     from_tape = mossgoblin_move_from_tape;
     beyond(written(do_from_tape), without, &most_from_tape);
     session = moved.session;
+}
+
+/* Made or lost, of the mover or of the data end. */
+static void happens(__typeof__(mossgoblin_made) *what, bool mover, size_t *most)
+{
+    of_mover = mover;
+    event = no_event;
+    size_t without = written(do_event);
+    event = what;
+    beyond(written(do_event), without, most);
+    check(answer.code == 0, "an event is refused");
+    session = answer.session;
+}
+
+/* The addresses of a connect whose body is words. */
+static void look(uint32_t message, const uint32_t *body, size_t words)
+{
+    record_len = put_request(record, message, body, words);
+    reader = no_addresses;
+    size_t without = written(do_reader);
+    reader = mossgoblin_addresses;
+    beyond(written(do_reader), without, &most_addresses);
+    check(given.count == 1 && given.ports[0] == 10000, "the reader does not give the address");
 }
 
 /* ---- the run */
@@ -265,17 +315,48 @@ static void recover(void)
     check(session.mover.state == 4 && session.source.state == 2, "the recover does not halt");
 }
 
+/* A mover that listens and a data end that connects by TCP, each made and lost; and the other way round. */
+static void by_tcp(void)
+{
+    const uint32_t connect[] = {1, 1, 1, 0x0A000001, 10000, 1, 1, 0x41000000, 1, 0x31000000};
+    ASK(0x407);
+    ASK(0xA04);
+    ASK(0xA05, 0, 0, 0, 1024);
+    ASK(0xA01, 1, 1);
+    ASK(0xA00);
+    happens(mossgoblin_made, true, &most_made);
+    look(0x40A, connect + 1, 9);
+    ask(0, 28, 0x40A, connect + 1, 9);
+    ASK_AT(32, 0x400);
+    check(session.mover.state == 2 && session.source.state == 4, "the ends are not joined by TCP");
+    happens(mossgoblin_lost, true, &most_lost);
+    happens(mossgoblin_lost, false, &most_lost);
+    check(session.mover.state == 4 && session.source.state == 2, "the ends by TCP do not halt");
+    ASK(0x407);
+    ASK(0xA04);
+    ASK(0x409, 1);
+    happens(mossgoblin_made, false, &most_made);
+    ASK(0xA05, 0, 0, 0, 1024);
+    look(0xA09, connect, 10);
+    ask(0, 28, 0xA09, connect, 10);
+    check(session.mover.state == 2 && session.source.state == 4, "the ends are not joined by TCP the other way round");
+}
+
 int main(void)
 {
     log_in();
     size_t spacing = space_over_both();
     back_up();
     recover();
+    by_tcp();
     printf("mossgoblin_request %zu\n", most_request);
     printf("mossgoblin_move_to_tape %zu\n", most_to_tape);
     printf("mossgoblin_move_from_tape %zu\n", most_from_tape);
-    fprintf(stderr, "a session has %zu bytes, an answer %zu, what a move returns %zu\n", sizeof session, sizeof answer,
-            sizeof moved);
+    printf("mossgoblin_made %zu\n", most_made);
+    printf("mossgoblin_lost %zu\n", most_lost);
+    printf("mossgoblin_addresses %zu\n", most_addresses);
+    fprintf(stderr, "a session has %zu bytes, an answer %zu, what a move returns %zu, a list of addresses %zu\n",
+            sizeof session, sizeof answer, sizeof moved, sizeof given);
     fprintf(stderr, "a spacing call takes %zu bytes of stack, over four entries and over 4,096\n", spacing);
     return 0;
 }

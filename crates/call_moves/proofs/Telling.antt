@@ -10,8 +10,8 @@ use Rattle.rules.specs.Answer.{Kept, Lent, Answered, silent, guarded}
 use Rattle.rules.proofs.Guarding.{when-stopped, when-goes}
 use Rattle.call_sending.specs.Call.{CallTold}
 use Rattle.rules_moves.specs.declared.Move.{Move}
-use Rattle.rules_moves.specs.Events.{Moving, idling, moved, feeding, handing, finishing, movedToTape, movedFromTape, methodEnded}
-use Rattle.call_moves.specs.Told.{MoveTold}
+use Rattle.rules_moves.specs.Events.{Moving, idling, announced, moved, feeding, handing, movedToTape, movedFromTape}
+use Rattle.call_moves.specs.Told.{MoveTold, event}
 
 module _ (k : Kept) (l : Lent) {image dest out out′ : List ℕ} where
   module _ (stream : List ℕ) (last : Bool) {r : Moved} where
@@ -36,15 +36,13 @@ module _ (k : Kept) (l : Lent) {image dest out out′ : List ℕ} where
     unfolding movedFromTape
     from-goes h t = when-goes (λ (e : Moving). MoveTold e r image dest out out′) (k .session) (l .room) _ _ h t
 
-module _ (k : Kept) (l : Lent) (ok : Bool) {r : Answer} {image out out′ : List ℕ} where
-  pub end-stopped : (code : ℕ) → Stop code ≡ guarded (k .session) (l .room) Stop Go → CallTold (silent code k) r image out out′
-      → CallTold (methodEnded k l ok) r image out out′
-  unfolding methodEnded
-  end-stopped code h t = when-stopped (λ (a : Answered). CallTold a r image out out′) (k .session) (l .room) code _ _ h t
+module _ (k : Kept) (l : Lent) (mv : Move) {r : Answer} {image out out′ : List ℕ} where
+  pub event-stopped : (code : ℕ) → Stop code ≡ guarded (k .session) (l .room) Stop Go → CallTold (silent code k) r image out out′
+      → CallTold (event k l mv) r image out out′
+  event-stopped code h t = when-stopped (λ (a : Answered). CallTold a r image out out′) (k .session) (l .room) code _ _ h t
 
-  pub end-goes : Go ≡ guarded (k .session) (l .room) Stop Go → CallTold (finishing k l ok) r image out out′ → CallTold (methodEnded k l ok) r image out out′
-  unfolding methodEnded
-  end-goes h t = when-goes (λ (a : Answered). CallTold a r image out out′) (k .session) (l .room) _ _ h t
+  pub event-goes : Go ≡ guarded (k .session) (l .room) Stop Go → CallTold (announced k l mv (k .image)) r image out out′ → CallTold (event k l mv) r image out out′
+  event-goes h t = when-goes (λ (a : Answered). CallTold a r image out out′) (k .session) (l .room) _ _ h t
 
 -- the same move, image and destination, whatever they are made of
 pub moved-as : (k : Kept) (l : Lent) (mv mv₂ : Move) (i i₂ b b₂ : List ℕ) (r : Moved) (image dest out out′ : List ℕ) → mv ≡ mv₂ → i ≡ i₂ → b ≡ b₂

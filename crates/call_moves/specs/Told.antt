@@ -1,11 +1,13 @@
--- What a move promises: the value that is returned, the image, the destination and the output.
+-- What a move promises: the value that is returned, the image, the destination and the output; and what every other event gives.
 use Prim.Native.Nat.{ℕ}
 use mathlib.Core.List.{List}
 use mathlib.Core.Path.{_≡_}
 use Rattle.rules_parts.specs.declared.types.Answer.{Answer}
-use Rattle.call_sending.specs.Call.{CallTold}
-use Rattle.rules_moves.specs.Events.{Moving}
 use Rattle.rules_parts.specs.declared.types.Moved.{Moved}
+use Rattle.rules.specs.Answer.{Kept, Lent, Answered, silent, guarded}
+use Rattle.call_sending.specs.Call.{CallTold}
+use Rattle.rules_moves.specs.declared.Move.{Move}
+use Rattle.rules_moves.specs.Events.{Moving, announced}
 
 -- what every call returns of it
 abbrev pub answerOf : Moved → Answer
@@ -15,3 +17,7 @@ pub record MoveTold (e : Moving) (r : Moved) (image′ dest′ out out′ : List
   pub call : CallTold (e .answer) (answerOf r) image′ out out′
   pub count : r .count ≡ e .count
   pub dest : dest′ ≡ e .dest
+
+-- an event that moves no bytes: stopped as any call, else what it comes to, announced. It is handed no image, and leaves it
+abbrev pub event : Kept → Lent → Move → Answered
+event k l mv = guarded (k .session) (l .room) (λ code. silent code k) (announced k l mv (k .image))

@@ -1,4 +1,4 @@
-// The calls without a request: moves of the stream's bytes, and the method's end. No call has a requires: it refuses.
+// The calls without a request: moves of the stream's bytes, the method's end, a connection made and one lost. No call has a requires: it refuses.
 ghost use mathlib.Core.Path.{_≡_};
 ghost use mathlib.Core.Bool.{true};
 ghost use mathlib.Core.List.{List, []};
@@ -8,8 +8,8 @@ ghost use Rattle.rules_parts.specs.Names.{leastRoom};
 ghost use Rattle.rules.specs.Relation.{keeps};
 ghost use Rattle.rules.specs.Answer.{held};
 ghost use Rattle.call_sending.specs.Call.{CallTold};
-ghost use Rattle.rules_moves.specs.Events.{stamped, idling, announced, moved, feeding, handing, movedToTape, movedFromTape, methodEnded};
-ghost use Rattle.call_moves.specs.Told.{MoveTold};
+ghost use Rattle.rules_moves.specs.Events.{stamped, idling, announced, moved, feeding, handing, movedToTape, movedFromTape, methodEnded, connectionMade, connectionLost};
+ghost use Rattle.call_moves.specs.Told.{MoveTold, event};
 use rules::Guard;
 use rules_moves::Move;
 use rules_parts::types::Answer;
@@ -39,19 +39,48 @@ fn announce(s: Session, mv: Move, time: u32, out: &mut [u8]) -> Answer
     )
 }
 
-// The end of the method that reads or writes the stream, in success or not. No image is handed to it.
-pub fn end_method(s: Session, ok: bool, time: u32, out: &mut [u8]) -> Answer
-    ensures { λ r. ⌜ ((image : List ℕ) → CallTold (methodEnded (held s image) (stamped time (length (now (out .entry)))) ok) r image (now (out .entry)) (now (out .exit))) ⌝ }
+// An event's move, announced where the session is in order. No image is handed to an event.
+fn tell(s: Session, mv: Move, time: u32, out: &mut [u8]) -> Answer
+    ensures { λ r. ⌜ ((image : List ℕ) → CallTold (event (held s image) (stamped time (length (now (out .entry)))) mv) r image (now (out .entry)) (now (out .exit))) ⌝ }
 {
     let guard = serve_relation::guard(s, out.len());
     if let Guard::Stop(code) = guard {
         return call_sending::quiet(code, s);
     }
+    announce(s, mv, time, out)
+}
+
+// The end of the method that reads or writes the stream, in success or not.
+pub fn end_method(s: Session, ok: bool, time: u32, out: &mut [u8]) -> Answer
+    ensures { λ r. ⌜ ((image : List ℕ) → CallTold (methodEnded (held s image) (stamped time (length (now (out .entry)))) ok) r image (now (out .entry)) (now (out .exit))) ⌝ }
+{
     let d = s.source;
     let m = s.mover;
     let t = s.tape;
     let mv = serve_moves::method_end(ok, d, m, t);
-    announce(s, mv, time, out)
+    tell(s, mv, time, out)
+}
+
+// A connection by TCP was made, with the mover or else with the data end.
+pub fn made(s: Session, mover: bool, time: u32, out: &mut [u8]) -> Answer
+    ensures { λ r. ⌜ ((image : List ℕ) → CallTold (connectionMade (held s image) (stamped time (length (now (out .entry)))) mover) r image (now (out .entry)) (now (out .exit))) ⌝ }
+{
+    let d = s.source;
+    let m = s.mover;
+    let t = s.tape;
+    let mv = serve_moves::made_at(mover, d, m, t);
+    tell(s, mv, time, out)
+}
+
+// A connection by TCP was lost, of the mover or else of the data end.
+pub fn lost(s: Session, mover: bool, time: u32, out: &mut [u8]) -> Answer
+    ensures { λ r. ⌜ ((image : List ℕ) → CallTold (connectionLost (held s image) (stamped time (length (now (out .entry)))) mover) r image (now (out .entry)) (now (out .exit))) ⌝ }
+{
+    let d = s.source;
+    let m = s.mover;
+    let t = s.tape;
+    let mv = serve_moves::lost_at(mover, d, m, t);
+    tell(s, mv, time, out)
 }
 
 // Nothing is moved or sent, and nothing changes.

@@ -64,13 +64,14 @@ module _ (p : TapePart) where
   unfolding tapeStep onto
   tape-accepts q body reply s h = rw h
 
-  pub mover-refuses : (q : MoverRequest) (e : ℕ) → refuse e ≡ moverStep (p .mover) (p .tape) q → refuse e ≡ moverPartStep p q
+  pub mover-refuses : (q : MoverRequest) (list : List ℕ) (e : ℕ) → refuse e ≡ moverStep (p .mover) (p .tape) q list → refuse e ≡ moverPartStep p q list
   unfolding moverPartStep onto
-  mover-refuses q e h = rw (← h)
+  mover-refuses q list e h = rw (← h)
 
-  pub mover-accepts : (q : MoverRequest) (reply : Reply) (m : Mover) → accept reply m ≡ moverStep (p .mover) (p .tape) q → accept reply (withMover p m) ≡ moverPartStep p q
+  pub mover-accepts : (q : MoverRequest) (list : List ℕ) (reply : Reply) (m : Mover) → accept reply m ≡ moverStep (p .mover) (p .tape) q list
+      → accept reply (withMover p m) ≡ moverPartStep p q list
   unfolding moverPartStep onto
-  mover-accepts q reply m h = rw (← h)
+  mover-accepts q list reply m h = rw (← h)
 
 -- ---- the request of a record, by what was decoded from the part of it that is lent
 pub request-is : (r : List ℕ) {body : List ℕ} {m : ℕ} {row : Row} {kind : Message} {q : Request} → body ≡ drop 28 r → m ≡ word r 16 → row ≡ rowOf m → kind ≡ row .kind

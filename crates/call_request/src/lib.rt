@@ -10,6 +10,7 @@ ghost use Rattle.wire_frame.specs.Frame.{bodyOf};
 ghost use Rattle.wire_requests.specs.Within.{textsWithin};
 ghost use Rattle.wire_requests.specs.declared.Request.{Request};
 ghost use Rattle.wire_requests.specs.declared.Request.the-variants as Request;
+ghost use Rattle.wire_replies.specs.declared.Reply.the-variants as Reply;
 ghost use Rattle.wire_replies.specs.Fit.{Sendable};
 ghost use Rattle.rules.specs.Judge.{Accepts, onto};
 ghost use Rattle.rules.specs.DataService.{dataStep};
@@ -17,7 +18,7 @@ ghost use Rattle.rules.specs.TapeService.{tapeStep, moverPartStep};
 ghost use Rattle.rules.specs.ScsiService.{scsiStep};
 ghost use Rattle.rules.specs.Joint.{jointStep};
 ghost use Rattle.rules.specs.Connection.{connectStep};
-ghost use Rattle.rules.specs.Answer.{held, closing, tapePart, withData, withTape, withChanger, withLogin, withEnds, requestIn, outcome, isUnread, settled, isClose, judged, answered};
+ghost use Rattle.rules.specs.Answer.{held, closing, replying, tapePart, withData, withPart, withTape, withChanger, withLogin, withEnds, requestIn, outcome, isUnread, settled, isClose, judged, answered};
 ghost use Rattle.rules.specs.Calls.{opening};
 ghost use Rattle.serve_connect.specs.Done.{outcomeOf};
 ghost use Rattle.call_sending.specs.Call.{CallTold, Ready};
@@ -41,12 +42,19 @@ use wire_requests::Request;
 use wire_requests::ScsiRequest;
 use wire_requests::TapeRequest;
 
-fn data_call(s: Session, q: DataRequest, input: &[u8], time: u32, out: &mut [u8]) -> Answer
+fn data_call(
+    s: Session,
+    q: DataRequest,
+    addresses: &[u8],
+    input: &[u8],
+    time: u32,
+    out: &mut [u8],
+) -> Answer
     requires { ⌜ Ready (now input) (now out) × textsWithin (bodyOf (now input)) (Request.Data q) ⌝ }
-    ensures { λ r. ⌜ ((image : List ℕ) → CallTold (settled (held s image) time (now (input .entry)) (Request.Data q) (onto (withData (held s image)) (dataStep (s .source) q (bodyOf (now (input .entry)))))) r image (now (out .entry)) (now (out .exit))) ⌝ }
+    ensures { λ r. ⌜ ((image : List ℕ) → CallTold (settled (held s image) time (now (input .entry)) (Request.Data q) (onto (withData (held s image) (now (addresses .entry))) (dataStep (s .source) q (bodyOf (now (input .entry))) (now (addresses .entry))))) r image (now (out .entry)) (now (out .exit))) ⌝ }
 {
     let d = s.source;
-    let done = serve_data::serve(d, q, &input[28..]);
+    let done = serve_data::serve(d, q, &input[28..], addresses);
     match done {
         DataDone::Refuse(e) => call_sending::refuse(s, e, input, time, out),
         DataDone::Accept(reply, next) => {
@@ -55,7 +63,7 @@ fn data_call(s: Session, q: DataRequest, input: &[u8], time: u32, out: &mut [u8]
             let t = s.tape;
             let c = s.changer;
             let session = s.with_parts(g, next, m, t, c);
-            call_sending::finish(session, input, time, reply, b"", out)
+            call_sending::finish(session, input, time, reply, addresses, out)
         }
     }
 }
@@ -108,17 +116,17 @@ fn tape_call(
 fn mover_call(
     s: Session,
     q: MoverRequest,
-    image: &[u8],
+    addresses: &[u8],
     input: &[u8],
     time: u32,
     out: &mut [u8],
 ) -> Answer
     requires { ⌜ Ready (now input) (now out) ⌝ }
-    ensures { λ r. ⌜ CallTold (settled (held s (now (image .entry))) time (now (input .entry)) (Request.Mover q) (onto (withTape (held s (now (image .entry)))) (moverPartStep (tapePart (held s (now (image .entry)))) q))) r (now (image .entry)) (now (out .entry)) (now (out .exit)) ⌝ }
+    ensures { λ r. ⌜ ((image : List ℕ) → CallTold (settled (held s image) time (now (input .entry)) (Request.Mover q) (onto (withPart (held s image) (now (addresses .entry))) (moverPartStep (tapePart (held s image)) q (now (addresses .entry))))) r image (now (out .entry)) (now (out .exit))) ⌝ }
 {
     let m = s.mover;
     let t = s.tape;
-    let done = serve_mover::serve(m, t, q);
+    let done = serve_mover::serve(m, t, q, addresses);
     match done {
         MoverDone::Refuse(e) => call_sending::refuse(s, e, input, time, out),
         MoverDone::Accept(reply, next) => {
@@ -126,20 +134,27 @@ fn mover_call(
             let d = s.source;
             let c = s.changer;
             let session = s.with_parts(g, d, next, t, c);
-            call_sending::finish(session, input, time, reply, image, out)
+            call_sending::finish(session, input, time, reply, addresses, out)
         }
     }
 }
 
 // A joint request, and the notices of what halted: data first, mover second.
-fn joint_call(s: Session, q: JointRequest, input: &[u8], time: u32, out: &mut [u8]) -> Answer
+fn joint_call(
+    s: Session,
+    q: JointRequest,
+    made: bool,
+    input: &[u8],
+    time: u32,
+    out: &mut [u8],
+) -> Answer
     requires { ⌜ Ready (now input) (now out) ⌝ }
-    ensures { λ r. ⌜ ((image : List ℕ) → CallTold (settled (held s image) time (now (input .entry)) (Request.Joint q) (onto (withEnds (held s image)) (jointStep (s .source) (s .mover) (s .tape) q))) r image (now (out .entry)) (now (out .exit))) ⌝ }
+    ensures { λ r. ⌜ ((image : List ℕ) → CallTold (settled (held s image) time (now (input .entry)) (Request.Joint q) (onto (withEnds (held s image)) (jointStep (s .source) (s .mover) (s .tape) q made))) r image (now (out .entry)) (now (out .exit))) ⌝ }
 {
     let d = s.source;
     let m = s.mover;
     let t = s.tape;
-    let done = serve_joint::serve(d, m, t, q);
+    let done = serve_joint::serve(d, m, t, q, made);
     match done {
         JointDone::Refuse(e) => call_sending::refuse(s, e, input, time, out),
         JointDone::Accept(reply, ends) => {
@@ -193,19 +208,29 @@ fn connect_call(
     login_call(s, done, input, time, out)
 }
 
+// A record that is no request of any service, refused in the header.
+fn header_call(s: Session, error: u32, input: &[u8], time: u32, out: &mut [u8]) -> Answer
+    requires { ⌜ Ready (now input) (now out) ⌝ }
+    ensures { λ r. ⌜ ((image : List ℕ) → CallTold (replying (now (input .entry)) time (Reply.Header error) [] (held s image)) r image (now (out .entry)) (now (out .exit))) ⌝ }
+{
+    call_sending::finish(s, input, time, Reply::Header(error), b"", out)
+}
+
 // A request that is not locked, at its service.
 fn serve_call(
     s: Session,
     q: Request,
     id: &[u8],
     password: &[u8],
+    addresses: &[u8],
+    made: bool,
     image: &mut [u8],
     input: &[u8],
     time: u32,
     out: &mut [u8],
 ) -> Answer
     requires { ⌜ Ready (now input) (now out) × textsWithin (bodyOf (now input)) q ⌝ }
-    ensures { λ r. ⌜ CallTold (choose (isClose q) (closing (held s (now (image .entry)))) (settled (held s (now (image .entry))) time (now (input .entry)) q (outcome (held s (now (image .entry))) (lent (now (id .entry)) (now (password .entry)) time (now (out .entry))) (now (input .entry)) q))) r (now (image .exit)) (now (out .entry)) (now (out .exit)) ⌝ }
+    ensures { λ r. ⌜ CallTold (choose (isClose q) (closing (held s (now (image .entry)))) (settled (held s (now (image .entry))) time (now (input .entry)) q (outcome (held s (now (image .entry))) (lent (now (id .entry)) (now (password .entry)) (now (addresses .entry)) made time (now (out .entry))) (now (input .entry)) q))) r (now (image .exit)) (now (out .entry)) (now (out .exit)) ⌝ }
 {
     match q {
         Request::Connect(x) => connect_call(s, x, id, password, input, time, out),
@@ -216,25 +241,11 @@ fn serve_call(
         }
         Request::Scsi(x) => scsi_call(s, x, input, time, out),
         Request::Tape(x) => tape_call(s, x, image, input, time, out),
-        Request::Data(x) => data_call(s, x, input, time, out),
-        Request::Mover(x) => mover_call(s, x, image, input, time, out),
-        Request::Joint(x) => joint_call(s, x, input, time, out),
-        Request::Unknown => call_sending::finish(
-            s,
-            input,
-            time,
-            Reply::Header(codes::NOT_SUPPORTED),
-            b"",
-            out,
-        ),
-        Request::Bad => call_sending::finish(
-            s,
-            input,
-            time,
-            Reply::Header(codes::UNDECODABLE),
-            b"",
-            out,
-        ),
+        Request::Data(x) => data_call(s, x, addresses, input, time, out),
+        Request::Mover(x) => mover_call(s, x, addresses, input, time, out),
+        Request::Joint(x) => joint_call(s, x, made, input, time, out),
+        Request::Unknown => header_call(s, codes::NOT_SUPPORTED, input, time, out),
+        Request::Bad => header_call(s, codes::UNDECODABLE, input, time, out),
     }
 }
 
@@ -244,22 +255,24 @@ fn framed_call(
     message: u32,
     id: &[u8],
     password: &[u8],
+    addresses: &[u8],
+    made: bool,
     image: &mut [u8],
     input: &[u8],
     time: u32,
     out: &mut [u8],
 ) -> Answer
     requires { ⌜ Ready (now input) (now out) × (message ≡ word (now input) 16) ⌝ }
-    ensures { λ r. ⌜ CallTold (judged (held s (now (image .entry))) (lent (now (id .entry)) (now (password .entry)) time (now (out .entry))) (now (input .entry)) (requestIn (now (input .entry)))) r (now (image .exit)) (now (out .entry)) (now (out .exit)) ⌝ }
+    ensures { λ r. ⌜ CallTold (judged (held s (now (image .entry))) (lent (now (id .entry)) (now (password .entry)) (now (addresses .entry)) made time (now (out .entry))) (now (input .entry)) (requestIn (now (input .entry)))) r (now (image .exit)) (now (out .entry)) (now (out .exit)) ⌝ }
 {
     let row = wire_frame::row_of(message);
     let kind = row.kind;
-    let q = wire_requests::decode(kind, &input[28..]);
+    let q = wire_decoding::decode(kind, &input[28..]);
     let g = s.login;
     if serve_connect::is_locked(g, q) {
         return call_sending::refuse(s, codes::NOT_AUTHORIZED, input, time, out);
     }
-    serve_call(s, q, id, password, image, input, time, out)
+    serve_call(s, q, id, password, addresses, made, image, input, time, out)
 }
 
 // A new session: the notice of the connection status is its message 1.
@@ -269,17 +282,20 @@ pub fn open(time: u32, out: &mut [u8]) -> Answer
     call_sending::begin(time, out)
 }
 
-// One request: the session, the account's id and password, the cartridge, the record, the time stamp and the output.
+// One request: the session, the account's id and password, the list that a listen by TCP answers, whether the connection of a connect by TCP
+// was made, the cartridge, the record, the time stamp and the output.
 pub fn request(
     s: Session,
     id: &[u8],
     password: &[u8],
+    addresses: &[u8],
+    made: bool,
     image: &mut [u8],
     input: &[u8],
     time: u32,
     out: &mut [u8],
 ) -> Answer
-    ensures { λ r. ⌜ CallTold (answered (held s (now (image .entry))) (lent (now (id .entry)) (now (password .entry)) time (now (out .entry))) (now (input .entry))) r (now (image .exit)) (now (out .entry)) (now (out .exit)) ⌝ }
+    ensures { λ r. ⌜ CallTold (answered (held s (now (image .entry))) (lent (now (id .entry)) (now (password .entry)) (now (addresses .entry)) made time (now (out .entry))) (now (input .entry))) r (now (image .exit)) (now (out .entry)) (now (out .exit)) ⌝ }
 {
     let guard = serve_relation::guard(s, out.len());
     if let Guard::Stop(code) = guard {
@@ -291,6 +307,19 @@ pub fn request(
         Framed::Request {
             sequence: _,
             message,
-        } => { framed_call(s, message, id, password, image, input, time, out) }
+        } => {
+            framed_call(
+                s,
+                message,
+                id,
+                password,
+                addresses,
+                made,
+                image,
+                input,
+                time,
+                out,
+            )
+        }
     }
 }

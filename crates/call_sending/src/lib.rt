@@ -27,7 +27,7 @@ pub fn finish(
 {
     let message = xdr::read_word(input, 16);
     let echo = xdr::read_word(input, 4);
-    let len = wire_replies::write_reply(out, next.sequence, time, message, echo, reply, seen);
+    let len = wire_writing::write_reply(out, next.sequence, time, message, echo, reply, seen);
     let session = next.after_message(false);
     Answer {
         code: 0,
@@ -62,7 +62,7 @@ pub fn notify(sent: Answer, time: u32, why: u32, notice: Notice, out: &mut [u8])
         return sent;
     }
     let s = sent.session;
-    let len = wire_replies::write_notice(out, sent.len, s.sequence, time, notice);
+    let len = wire_writing::write_notice(out, sent.len, s.sequence, time, notice);
     let session = s.after_message(s.first);
     Answer {
         code: sent.code,
@@ -99,7 +99,7 @@ pub fn begin(time: u32, out: &mut [u8]) -> Answer
         let unopened = Session::begins(true, 1);
         return quiet(codes::SHORT_OUTPUT, unopened);
     }
-    let len = wire_replies::write_notice(out, 0, 1, time, Notice::Connected);
+    let len = wire_writing::write_notice(out, 0, 1, time, Notice::Connected);
     let session = Session::begins(false, 2);
     Answer {
         code: 0,

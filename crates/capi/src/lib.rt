@@ -1,12 +1,14 @@
 // The calls for a host in Rust or C. None asks anything of its caller: each promises what the call of the same name below promises.
 ghost use Prim.Native.Nat.{ℕ};
+ghost use mathlib.Core.Path.{_≡_};
 ghost use mathlib.Core.List.{List, []};
 ghost use lib.ListN.{length};
 ghost use Rattle.rules.specs.Answer.{held, answered};
 ghost use Rattle.rules.specs.Calls.{opening};
 ghost use Rattle.call_sending.specs.Call.{CallTold};
 ghost use Rattle.call_request.specs.Call.{lent};
-ghost use Rattle.rules_moves.specs.Events.{stamped, movedToTape, movedFromTape, methodEnded};
+ghost use Rattle.call_addresses.specs.Reading.{addressesIn};
+ghost use Rattle.rules_moves.specs.Events.{stamped, movedToTape, movedFromTape, methodEnded, connectionMade, connectionLost};
 ghost use Rattle.call_moves.specs.Told.{MoveTold};
 
 mod tape; // tape.rt: the tape operations alone
@@ -14,6 +16,7 @@ mod tape; // tape.rt: the tape operations alone
 use rules_parts::types::Answer;
 use rules_parts::types::Moved;
 use rules_parts::types::Session;
+use wire_layouts::Addresses;
 
 // A new session.
 #[no_mangle]
@@ -23,20 +26,31 @@ pub extern "C" fn mossgoblin_open(time: u32, out: &mut [u8]) -> Answer
     call_request::open(time, out)
 }
 
-// One request: the session, the account's id and password, the cartridge, the record, the time stamp and the output.
+// One request: the session, the account's id and password, the list of addresses for a listen by TCP, whether the connection of a connect by TCP was
+// made, the cartridge, the record, the time stamp and the output.
 #[no_mangle]
 pub extern "C" fn mossgoblin_request(
     s: Session,
     id: &[u8],
     password: &[u8],
+    addresses: &[u8],
+    made: bool,
     image: &mut [u8],
     input: &[u8],
     time: u32,
     out: &mut [u8],
 ) -> Answer
-    ensures { λ r. ⌜ CallTold (answered (held s (now (image .entry))) (lent (now (id .entry)) (now (password .entry)) time (now (out .entry))) (now (input .entry))) r (now (image .exit)) (now (out .entry)) (now (out .exit)) ⌝ }
+    ensures { λ r. ⌜ CallTold (answered (held s (now (image .entry))) (lent (now (id .entry)) (now (password .entry)) (now (addresses .entry)) made time (now (out .entry))) (now (input .entry))) r (now (image .exit)) (now (out .entry)) (now (out .exit)) ⌝ }
 {
-    call_request::request(s, id, password, image, input, time, out)
+    call_request::request(s, id, password, addresses, made, image, input, time, out)
+}
+
+// The addresses of a record that is a connect by TCP, for the host to make its connection; none of any other bytes.
+#[no_mangle]
+pub extern "C" fn mossgoblin_addresses(input: &[u8]) -> Addresses
+    ensures { λ r. ⌜ r ≡ addressesIn (now (input .entry)) ⌝ }
+{
+    call_addresses::read_addresses(input)
 }
 
 // One move to tape: the session, the cartridge, a part of the stream and whether it is the last, the time stamp and the output.
@@ -74,4 +88,20 @@ pub extern "C" fn mossgoblin_end_method(s: Session, ok: bool, time: u32, out: &m
     ensures { λ r. ⌜ ((image : List ℕ) → CallTold (methodEnded (held s image) (stamped time (length (now (out .entry)))) ok) r image (now (out .entry)) (now (out .exit))) ⌝ }
 {
     call_moves::end_method(s, ok, time, out)
+}
+
+// A connection by TCP was made, with the mover or else with the data end. It is handed no cartridge, and leaves it.
+#[no_mangle]
+pub extern "C" fn mossgoblin_made(s: Session, mover: bool, time: u32, out: &mut [u8]) -> Answer
+    ensures { λ r. ⌜ ((image : List ℕ) → CallTold (connectionMade (held s image) (stamped time (length (now (out .entry)))) mover) r image (now (out .entry)) (now (out .exit))) ⌝ }
+{
+    call_moves::made(s, mover, time, out)
+}
+
+// A connection by TCP was lost, of the mover or else of the data end. It is handed no cartridge, and leaves it.
+#[no_mangle]
+pub extern "C" fn mossgoblin_lost(s: Session, mover: bool, time: u32, out: &mut [u8]) -> Answer
+    ensures { λ r. ⌜ ((image : List ℕ) → CallTold (connectionLost (held s image) (stamped time (length (now (out .entry)))) mover) r image (now (out .entry)) (now (out .exit))) ⌝ }
+{
+    call_moves::lost(s, mover, time, out)
 }

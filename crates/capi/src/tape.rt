@@ -4,26 +4,19 @@ ghost use mathlib.Core.Path.{_≡_};
 ghost use Rattle.tape_image.specs.Image.{isSound};
 ghost use Rattle.tape_ops.specs.Step.{Told};
 ghost use Rattle.tape_ops.specs.Operations.{writeStep, mtioStep};
-ghost use Rattle.capi.specs.Entries.{entryTold};
-ghost use Rattle.capi.specs.Handing.{Handed};
+ghost use Rattle.tape_calls.specs.Entries.{entryTold};
+ghost use Rattle.tape_calls.specs.Handing.{Handed};
+use tape_calls::Entry;
 use tape_ops::Part;
 use tape_ops::Wrote;
 use tape_spacing::Spaced;
-
-// An entry of a cartridge: of a record its length, of a mark 0; and where it starts in the body. The error is 0, 13 past the last entry, or 15.
-#[repr(C)]
-pub struct Entry {
-    pub error: u32,
-    pub len: usize,
-    pub start: usize,
-}
 
 // The image is sound.
 #[no_mangle]
 pub extern "C" fn mossgoblin_sound(image: &[u8]) -> bool
     ensures { λ r. ⌜ r ≡ isSound (now (image .entry)) ⌝ }
 {
-    tape_image::sound(image)
+    tape_sound::sound(image)
 }
 
 // Entry i of a sound image.
@@ -31,27 +24,7 @@ pub extern "C" fn mossgoblin_sound(image: &[u8]) -> bool
 pub extern "C" fn mossgoblin_entry(image: &[u8], i: usize) -> Entry
     ensures { λ r. ⌜ r ≡ entryTold (now (image .entry)) i ⌝ }
 {
-    if !tape_image::sound(image) {
-        return Entry {
-            error: codes::BAD_FILE,
-            len: 0,
-            start: 0,
-        };
-    }
-    if tape_image::count(image) <= i {
-        return Entry {
-            error: codes::AT_END,
-            len: 0,
-            start: 0,
-        };
-    }
-    let len = tape_image::entry_len(image, i);
-    let start = tape_image::entry_start(image, i);
-    Entry {
-        error: 0,
-        len,
-        start,
-    }
+    tape_calls::entry_at(image, i)
 }
 
 // Writes a record at a position.
@@ -76,17 +49,5 @@ pub extern "C" fn cartridge_mtio(image: &mut [u8], op: u32, position: usize, tim
 pub extern "C" fn cartridge_read(image: &[u8], position: usize, times: u32, out: &mut [u8]) -> Part
     ensures { λ r. ⌜ Handed (now (image .entry)) position times (now (out .entry)) r (now (out .exit)) ⌝ }
 {
-    let part = tape_ops::read(image, position, times);
-    let start = part.start;
-    let len = part.len;
-    if out.len() < len {
-        return Part {
-            error: codes::SHORT_OUTPUT,
-            position,
-            start: 0,
-            len: 0,
-        };
-    }
-    xdr::copy_blocks(out, 0, &image[start..start + len]);
-    part
+    tape_calls::read_to(image, position, times, out)
 }

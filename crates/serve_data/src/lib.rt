@@ -24,22 +24,24 @@ fn get_state(d: Data) -> DataDone
         operation: d.operation,
         state: d.state,
         reason: rules_parts::told_in(Data::HALTED, d.state, d.reason),
+        address: d.address,
         processed: d.processed,
     };
     DataDone::Accept(Reply::DataState(view), d)
 }
 
-fn listen(d: Data, address: u32) -> DataDone
-    ensures { λ r. ⌜ outcomeOf r ≡ dataListen d address ⌝ }
+fn listen(d: Data, address: u32, list: &[u8]) -> DataDone
+    ensures { λ r. ⌜ outcomeOf r ≡ dataListen d address (now (list .entry)) ⌝ }
 {
     if d.state != Data::IDLE {
         return DataDone::Refuse(codes::ILLEGAL_STATE);
     }
-    if address != codes::LOCAL_ADDRESS {
+    if serve_address::is_listen_wrong(address, list) {
         return DataDone::Refuse(codes::ILLEGAL_ARGUMENTS);
     }
-    let next = d.goes(Data::LISTEN);
-    DataDone::Accept(Reply::Listening, next)
+    let reply = serve_address::listening(address);
+    let next = d.goes(Data::LISTEN, address);
+    DataDone::Accept(reply, next)
 }
 
 fn start(d: Data, operation: u32, named: bool) -> DataDone
@@ -75,10 +77,10 @@ fn is_dump(body: &[u8], name: Text) -> bool
     xdr::same(&body[start..end], b"dump")
 }
 
-// A request of the data interface.
-pub fn serve(d: Data, q: DataRequest, body: &[u8]) -> DataDone
+// A request of the data interface, and the list that a listen by TCP is lent.
+pub fn serve(d: Data, q: DataRequest, body: &[u8], list: &[u8]) -> DataDone
     requires { ⌜ textsWithin (now body) (Request.Data q) ⌝ }
-    ensures { λ r. ⌜ outcomeOf r ≡ dataStep d q (now (body .entry)) ⌝ }
+    ensures { λ r. ⌜ outcomeOf r ≡ dataStep d q (now (body .entry)) (now (list .entry)) ⌝ }
 {
     match q {
         DataRequest::State => get_state(d),
@@ -91,6 +93,6 @@ pub fn serve(d: Data, q: DataRequest, body: &[u8]) -> DataDone
             start(d, Data::RECOVER, named)
         }
         DataRequest::Stop => stop(d),
-        DataRequest::Listen(address) => listen(d, address),
+        DataRequest::Listen(address) => listen(d, address, list),
     }
 }

@@ -5,7 +5,7 @@ use mathlib.Core.Bool.{Bool, true, false}
 use mathlib.Core.Path.{_≡_, refl, sym, ap, _∙_}
 use native.Mathlib.Omega.{arith}
 use lib.ListN.{length, take, drop}
-use borrow.Author.Tests.{ltb-false, lt-ltb, le-ltb, eq-eqb, ne-eqb}
+use borrow.Author.Tests.{ltb-false, eq-eqb, ne-eqb}
 use Rattle.xdr.specs.Choose.{choose}
 use Rattle.xdr.specs.Xdr.{overlay}
 use Rattle.xdr.proofs.Tests.{asked, tests, none-of}
@@ -16,7 +16,6 @@ use Rattle.rules_parts.specs.declared.types.Data.{Data}
 use Rattle.rules_parts.specs.declared.types.Mover.{Mover}
 use Rattle.rules_parts.specs.declared.types.Tape.{Tape}
 use Rattle.rules_parts.specs.Names.{fromTapeMode, recoverOperation, dataConnectError, moverMediaError, endOfMedium, endOfFile}
-use Rattle.rules_parts.specs.Parts.{windowEnd}
 use Rattle.rules.specs.Relation.{moverWrong}
 use Rattle.rules.specs.TapeService.{movedTo}
 use Rattle.rules.proofs.Kept.{mover-kept}
@@ -24,7 +23,7 @@ use Rattle.rules.proofs.Keeping.{active-holds}
 use Rattle.rules_moves.proofs.Moving.{running}
 use Rattle.rules_moves.specs.declared.Move.{Move}
 use Rattle.rules_moves.specs.declared.Found.{Found}
-use Rattle.rules_moves.specs.Moves.{idle, outside, halts, hands, pauses, inRecord, amount, sought, reading, onFound, Handing, untouched, HandedAs}
+use Rattle.rules_moves.specs.Moves.{idle, outside, haltsWith, hands, pauses, inRecord, amount, sought, reading, onFound, Handing, untouched, HandedAs}
 use Rattle.serve_from_tape.specs.Facts.{Seekable}
 
 -- ---- the rule set for the tests of a move from tape
@@ -58,7 +57,7 @@ module _ (d : Data) (m : Mover) (t : Tape) (l b : List ℕ) where
 
 -- ---- what is read of a record: nothing where its length is another, else the bytes from the place in it on
 module _ (i : ℕ) (d : Data) (m : Mover) (t : Tape) (l b : List ℕ) where
-  pub read-wrong : (r : Move) → (entryLen l i ≡ m .size → ⊥) → r ≡ halts dataConnectError moverMediaError d m t → HandedAs (reading i d m t l b) r b
+  pub read-wrong : (r : Move) → (entryLen l i ≡ m .size → ⊥) → r ≡ haltsWith dataConnectError moverMediaError d m t → HandedAs (reading i d m t l b) r b
   unfolding reading choose
   read-wrong r ne e = rw (ne-eqb _ _ ne) (handed-same e)
 
@@ -70,20 +69,6 @@ module _ (i : ℕ) (d : Data) (m : Mover) (t : Tape) (l b : List ℕ) where
       let len : begin + n - begin ≡ n = omega arith in
       let part : take n (drop (inRecord m) (entryBytes l i)) ≡ take n (drop begin l) = entry-part l i (inRecord m) n (omega arith) ∙ ap (λ (k : ℕ). take n (drop k l)) (sym eb) in
       rw (eq-eqb _ _ same) (rw (← en) (record { is = e; dest = rw (part) (rw len at q) }))
-
--- ---- the seek position and the window
-module _ (seek offset length : ℕ) where
-  pub before-it : seek < offset → true ≡ outside seek offset length
-  unfolding outside choose
-  before-it h = rw (lt-ltb seek offset h)
-
-  pub in-it : offset ≤ seek → seek < windowEnd offset length → false ≡ outside seek offset length
-  unfolding outside choose
-  in-it h k = rw (le-ltb seek offset h, lt-ltb seek (windowEnd offset length) k)
-
-  pub after-it : offset ≤ seek → windowEnd offset length ≤ seek → true ≡ outside seek offset length
-  unfolding outside choose
-  after-it h k = rw (le-ltb seek offset h, le-ltb seek (windowEnd offset length) k)
 
 -- ---- the facts that the tests leave
 pub inside : (seek offset length : ℕ) → outside seek offset length ≡ false → offset ≤ seek

@@ -1,3 +1,2 @@
--- `Walk` has the walk to a record, `Handing` what leads from the tests and the callees to what a move from tape says.
-pub mod Walk
+-- `Handing` has what leads from the tests and the callees to what a move from tape says.
 pub mod Handing

@@ -1,14 +1,11 @@
--- What the parts of a move from tape lean on and what they give, as facts.
+-- What the parts of a move from tape lean on, as facts.
 use Prim.Native.Nat.{ℕ, _+_, _≤_}
 use mathlib.Core.List.{List}
-use mathlib.Core.Path.{_≡_}
-use lib.ListN.{length}
-use Rattle.tape_image.specs.Image.{count, entryLen, entryStart, bodyAt}
+use Rattle.tape_image.specs.Image.{count}
 use Rattle.tape_image.specs.Sound.{Sound}
 use Rattle.rules_parts.specs.declared.types.Mover.{Mover}
 use Rattle.rules_parts.specs.Names.{largestSize, top}
 use Rattle.rules_parts.specs.Parts.{windowEnd}
-use Rattle.rules_moves.specs.Moves.{inRecord, amount}
 
 -- a mover with a window in force, whose walk begins in the tape of a sound image
 pub record Seekable (m : Mover) (l : List ℕ) : Type 0 where
@@ -18,15 +15,3 @@ pub record Seekable (m : Mover) (l : List ℕ) : Type 0 where
   pub fits : windowEnd (m .offset) (m .length) ≤ top
   pub seeks : m .seek + m .left ≤ top
   pub begins : m .origin ≤ count l
-
--- r is where the bytes of record i begin, and they lie in the image
-pub record Start (l : List ℕ) (i r : ℕ) : Type 0 where
-  pub is : r ≡ bodyAt l + entryStart l i
-  pub fits : r + entryLen l i ≤ length l
-
--- r is how much is handed over: what is left, what there is room for and what the record has
-pub record Amount (m : Mover) (room r : ℕ) : Type 0 where
-  pub is : r ≡ amount m room
-  pub owed : r ≤ m .left
-  pub roomy : r ≤ room
-  pub rest : inRecord m + r ≤ m .size

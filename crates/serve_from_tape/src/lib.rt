@@ -1,88 +1,17 @@
-// One move from tape: the walk to the record that the seek position is in, and the bytes of it that are handed over.
+// One move from tape: its tests, the walk to the record that the seek position is in, and the bytes of it that are handed over.
 ghost use mathlib.Core.Path.{_≡_};
 ghost use mathlib.Core.Bool.{false};
 ghost use Prim.Native.Nat.{_+_, _-_, _<_, _≤_};
-ghost use Rattle.tape_image.specs.Image.{count, Table};
-ghost use Rattle.tape_image.specs.Sound.{Sound};
-ghost use Rattle.rules_parts.specs.Names.{top};
-ghost use Rattle.rules_parts.specs.Parts.{windowEnd};
+ghost use Rattle.tape_image.specs.Image.{count};
 ghost use Rattle.rules.specs.Relation.{moverWrong};
 ghost use Rattle.rules.specs.TapeService.{movedTo};
-ghost use Rattle.rules_moves.specs.Moves.{outside, seekFrom, sought, inRecord, pauses, reading, onFound, seeking, fromTape, HandedAs};
-ghost use Rattle.serve_from_tape.specs.Facts.{Seekable, Start, Amount};
+ghost use Rattle.rules_moves.specs.Moves.{sought, pauses, reading, onFound, seeking, fromTape, HandedAs};
+ghost use Rattle.serve_from_tape.specs.Facts.{Seekable};
 use rules_moves::Found;
 use rules_moves::Move;
 use rules_parts::types::Data;
 use rules_parts::types::Mover;
 use rules_parts::types::Tape;
-
-// Whether the seek position is outside the window.
-fn is_outside(seek: u64, offset: u64, length: u64) -> bool
-    requires { ⌜ windowEnd offset length ≤ top ⌝ }
-    ensures { λ r. ⌜ r ≡ outside seek offset length ⌝ }
-{
-    let end = Mover::window_end(offset, length);
-    if seek < offset {
-        return true;
-    }
-    if seek < end {
-        return false;
-    }
-    true
-}
-
-// Walks from an origin over k records to the one after them, in a table of n entries.
-fn find_record(image: &[u8], n: usize, origin: usize, k: u64) -> Found
-    requires { ⌜ Table (now image) n × (origin ≤ n) ⌝ }
-    ensures { λ r. ⌜ r ≡ seekFrom (now (image .entry)) (n - origin) origin k ⌝ }
-{
-    let mut at = origin;
-    let mut left = k;
-    let mut rest = n - origin;
-    loop {
-        if rest == 0 {
-            break Found::End;
-        }
-        let len = tape_image::entry_len(image, at);
-        if len == 0 {
-            break Found::Mark(at + 1);
-        }
-        if left == 0 {
-            break Found::Target(at);
-        }
-        at += 1;
-        left -= 1;
-        rest -= 1;
-    }
-}
-
-// Where the bytes of record i begin.
-fn record_start(image: &[u8], i: usize) -> usize
-    requires { ⌜ Sound (now image) × (i < count (now image)) ⌝ }
-    ensures { λ r. ⌜ Start (now (image .entry)) i r ⌝ }
-{
-    tape_image::body_at(image) + tape_image::entry_start(image, i)
-}
-
-// The place of the seek position in its record.
-fn into_record(m: Mover) -> usize
-    requires { ⌜ (1 ≤ m .size) × (m .offset ≤ m .seek) ⌝ }
-    ensures { λ r. ⌜ (r ≡ inRecord m) × (r < m .size) ⌝ }
-{
-    ((m.seek - m.offset) % (m.size as u64)) as usize
-}
-
-// How much is handed over where there is room for so much.
-fn amount(m: Mover, room: usize) -> usize
-    requires { ⌜ (1 ≤ m .size) × (m .offset ≤ m .seek) ⌝ }
-    ensures { λ r. ⌜ Amount m room r ⌝ }
-{
-    let size = m.size as usize;
-    let into = into_record(m);
-    let rest = size - into;
-    let some = xdr::lesser_len(m.left as usize, rest);
-    xdr::lesser_len(some, room)
-}
 
 // Hands over what is asked for of record i.
 fn read_record(i: usize, d: Data, m: Mover, t: Tape, image: &[u8], dest: &mut [u8]) -> Move
@@ -92,11 +21,11 @@ fn read_record(i: usize, d: Data, m: Mover, t: Tape, image: &[u8], dest: &mut [u
     let size = m.size as usize;
     let len = tape_image::entry_len(image, i);
     if len != size {
-        return serve_moves::halt_both(Data::CONNECT_ERROR, Mover::MEDIA_ERROR, d, m, t);
+        return serve_moves::halt_with(Data::CONNECT_ERROR, Mover::MEDIA_ERROR, d, m, t);
     }
-    let into = into_record(m);
-    let n = amount(m, dest.len());
-    let begin = record_start(image, i) + into;
+    let into = serve_seeking::into_record(m);
+    let n = serve_seeking::amount(m, dest.len());
+    let begin = serve_seeking::record_start(image, i) + into;
     let end = begin + n;
     xdr::copy_blocks(dest, 0, &image[begin..end]);
     serve_moves::hand_over(n, i, d, m, t)
@@ -121,7 +50,7 @@ fn walk_back(d: Data, m: Mover, t: Tape, image: &[u8], dest: &mut [u8]) -> Move
 {
     let n = tape_image::count(image);
     let k = (m.seek - m.offset) / (m.size as u64);
-    let found = find_record(image, n, m.origin, k);
+    let found = serve_seeking::find_record(image, n, m.origin, k);
     match found {
         Found::Target(i) => read_record(i, d, m, t, image, dest),
         Found::Mark(j) => pause_there(Mover::END_OF_FILE, j, d, m, t),
@@ -134,7 +63,7 @@ fn seek_back(d: Data, m: Mover, t: Tape, image: &[u8], dest: &mut [u8]) -> Move
     requires { ⌜ Seekable m (now image) ⌝ }
     ensures { λ r. ⌜ HandedAs (seeking d m t (now (image .entry)) (now (dest .entry))) r (now (dest .exit)) ⌝ }
 {
-    if is_outside(m.seek, m.offset, m.length) {
+    if serve_seeking::is_outside(m.seek, m.offset, m.length) {
         return serve_moves::pause_at(Mover::SEEK, d, m, t);
     }
     walk_back(d, m, t, image, dest)
@@ -149,8 +78,8 @@ pub fn from_tape(d: Data, m: Mover, t: Tape, image: &[u8], dest: &mut [u8]) -> M
         return serve_moves::no_move(d, m, t);
     }
     let position = t.position;
-    if tape_image::is_faulty(image, position) {
-        return serve_moves::halt_both(Data::CONNECT_ERROR, Mover::MEDIA_ERROR, d, m, t);
+    if tape_sound::is_faulty(image, position) {
+        return serve_moves::halt_with(Data::CONNECT_ERROR, Mover::MEDIA_ERROR, d, m, t);
     }
     if m.left == 0 {
         return serve_moves::no_move(d, m, t);

@@ -1,6 +1,11 @@
 // The joint requests: those that read or change both ends.
 ghost use mathlib.Core.Path.{_≡_};
-ghost use Rattle.rules.specs.Joint.{joined, halted, dataConnect, moverConnect, atRest, dataAborted, dataAbort, moverAborted, moverAbort, moverClose, jointStep};
+ghost use lib.Dec.{eqb};
+ghost use Rattle.codes.specs.Codes.{tcpAddress};
+ghost use Rattle.xdr.specs.Choose.{choose};
+ghost use Rattle.rules_parts.specs.Names.{dataConnectError};
+ghost use Rattle.rules_parts.specs.Parts.{moverPartnered};
+ghost use Rattle.rules.specs.Joint.{joined, sourceJoined, moverJoins, halted, moverAlone, dataAwaits, moverAwaits, dataConnect, moverConnect, atRest, dataAborted, dataAbort, moverAbort, moverClose, jointStep};
 ghost use Rattle.serve_joint.specs.Done.{outcomeOf};
 use rules::Ends;
 use rules_parts::types::Data;
@@ -20,8 +25,8 @@ fn join(d: Data, m: Mover, mode: u32, position: usize) -> Ends
     ensures { λ r. ⌜ r ≡ joined d m mode position ⌝ }
 {
     Ends {
-        source: d.goes(Data::CONNECTED),
-        mover: m.runs(mode, position),
+        source: d.goes(Data::CONNECTED, codes::LOCAL_ADDRESS),
+        mover: m.runs(mode, codes::LOCAL_ADDRESS, position),
         dwhy: 0,
         mwhy: 0,
     }
@@ -39,33 +44,96 @@ fn halt(dwhy: u32, mwhy: u32, d: Data, m: Mover) -> Ends
     }
 }
 
-fn data_connect(d: Data, m: Mover, t: Tape, address: u32) -> JointDone
-    ensures { λ r. ⌜ outcomeOf r ≡ dataConnect d m t address ⌝ }
+// Whether data waits for a connect by LOCAL.
+fn is_data_awaiting(d: Data) -> bool
+    ensures { λ r. ⌜ r ≡ dataAwaits d ⌝ }
 {
+    if d.address == codes::LOCAL_ADDRESS {
+        return d.state == Data::LISTEN;
+    }
+    false
+}
+
+// Whether the mover waits for a connect by LOCAL.
+fn is_mover_awaiting(m: Mover) -> bool
+    ensures { λ r. ⌜ r ≡ moverAwaits m ⌝ }
+{
+    if m.address == codes::LOCAL_ADDRESS {
+        return m.state == Mover::LISTEN;
+    }
+    false
+}
+
+// Data joined: by TCP alone, by LOCAL with the mover.
+fn data_connected(d: Data, m: Mover, address: u32, position: usize) -> Ends
+    ensures { λ r. ⌜ r ≡ choose (eqb address tcpAddress) (sourceJoined d m) (joined d m (m .mode) position) ⌝ }
+{
+    if address == codes::TCP_ADDRESS {
+        return Ends {
+            source: d.goes(Data::CONNECTED, codes::TCP_ADDRESS),
+            mover: m,
+            dwhy: 0,
+            mwhy: 0,
+        };
+    }
+    join(d, m, m.mode, position)
+}
+
+fn data_connect(d: Data, m: Mover, t: Tape, address: u32, count: u32, made: bool) -> JointDone
+    ensures { λ r. ⌜ outcomeOf r ≡ dataConnect d m t address count made ⌝ }
+{
+    let wrong = serve_address::is_connect_wrong(address, count);
+    let awaited = is_mover_awaiting(m);
+    let unmet = serve_address::is_unmet(address, awaited, made);
     if d.state != Data::IDLE {
         return JointDone::Refuse(codes::ILLEGAL_STATE);
     }
-    if address != codes::LOCAL_ADDRESS {
+    if wrong {
         return JointDone::Refuse(codes::ILLEGAL_ARGUMENTS);
     }
-    if m.state != Mover::LISTEN {
+    if unmet {
         return JointDone::Refuse(codes::OTHER_NOT_LISTENING);
     }
-    let next = join(d, m, m.mode, t.position);
+    let next = data_connected(d, m, address, t.position);
     JointDone::Accept(Reply::Plain, next)
 }
 
-fn mover_connect(d: Data, m: Mover, t: Tape, mode: u32, address: u32) -> JointDone
-    ensures { λ r. ⌜ outcomeOf r ≡ moverConnect d m t mode address ⌝ }
+// The mover joined: by TCP alone, by LOCAL with data.
+fn mover_connected(d: Data, m: Mover, mode: u32, address: u32, position: usize) -> Ends
+    ensures { λ r. ⌜ r ≡ choose (eqb address tcpAddress) (moverJoins d m mode position) (joined d m mode position) ⌝ }
 {
-    let e = serve_mover::join_error(m, t, mode, address);
+    if address == codes::TCP_ADDRESS {
+        return Ends {
+            source: d,
+            mover: m.runs(mode, codes::TCP_ADDRESS, position),
+            dwhy: 0,
+            mwhy: 0,
+        };
+    }
+    join(d, m, mode, position)
+}
+
+fn mover_connect(
+    d: Data,
+    m: Mover,
+    t: Tape,
+    mode: u32,
+    address: u32,
+    count: u32,
+    made: bool,
+) -> JointDone
+    ensures { λ r. ⌜ outcomeOf r ≡ moverConnect d m t mode address count made ⌝ }
+{
+    let wrong = serve_address::is_connect_wrong(address, count);
+    let e = serve_tests::join_error(m, t, mode, wrong);
     if e != 0 {
         return JointDone::Refuse(e);
     }
-    if d.state != Data::LISTEN {
+    let awaited = is_data_awaiting(d);
+    if serve_address::is_unmet(address, awaited, made) {
         return JointDone::Refuse(codes::OTHER_NOT_LISTENING);
     }
-    let next = join(d, m, mode, t.position);
+    let next = mover_connected(d, m, mode, address, t.position);
     JointDone::Accept(Reply::Plain, next)
 }
 
@@ -79,11 +147,11 @@ fn is_at_rest(state: u32, idle: u32, halted: u32) -> bool
     state == halted
 }
 
-// Data aborted, and the mover with it where they are joined.
+// Data aborted, and the mover with it where they are joined with each other.
 fn data_aborted(d: Data, m: Mover) -> Ends
     ensures { λ r. ⌜ r ≡ dataAborted d m ⌝ }
 {
-    if d.is_joined() {
+    if d.is_partnered() {
         return halt(Data::ABORTED, Mover::CONNECT_CLOSED, d, m);
     }
     Ends {
@@ -104,18 +172,18 @@ fn data_abort(d: Data, m: Mover) -> JointDone
     JointDone::Accept(Reply::Plain, next)
 }
 
-// The mover aborted, and data with it where they are joined.
-fn mover_aborted(d: Data, m: Mover) -> Ends
-    ensures { λ r. ⌜ r ≡ moverAborted d m ⌝ }
+// The mover halted for a reason, and data with it where they are joined with each other.
+fn mover_halted(why: u32, d: Data, m: Mover) -> Ends
+    ensures { λ r. ⌜ r ≡ choose (moverPartnered m) (halted dataConnectError why d m) (moverAlone why d m) ⌝ }
 {
-    if m.is_joined() {
-        return halt(Data::CONNECT_ERROR, Mover::ABORTED, d, m);
+    if m.is_partnered() {
+        return halt(Data::CONNECT_ERROR, why, d, m);
     }
     Ends {
         source: d,
-        mover: m.halts(Mover::ABORTED),
+        mover: m.halts(why),
         dwhy: 0,
-        mwhy: Mover::ABORTED,
+        mwhy: why,
     }
 }
 
@@ -125,7 +193,7 @@ fn mover_abort(d: Data, m: Mover) -> JointDone
     if is_at_rest(m.state, Mover::IDLE, Mover::HALTED) {
         return JointDone::Refuse(codes::ILLEGAL_STATE);
     }
-    let next = mover_aborted(d, m);
+    let next = mover_halted(Mover::ABORTED, d, m);
     JointDone::Accept(Reply::Plain, next)
 }
 
@@ -135,19 +203,21 @@ fn mover_close(d: Data, m: Mover) -> JointDone
     if m.state != Mover::PAUSED {
         return JointDone::Refuse(codes::ILLEGAL_STATE);
     }
-    let next = halt(Data::CONNECT_ERROR, Mover::CONNECT_CLOSED, d, m);
+    let next = mover_halted(Mover::CONNECT_CLOSED, d, m);
     JointDone::Accept(Reply::Plain, next)
 }
 
-// A joint request.
-pub fn serve(d: Data, m: Mover, t: Tape, q: JointRequest) -> JointDone
-    ensures { λ r. ⌜ outcomeOf r ≡ jointStep d m t q ⌝ }
+// A joint request, and whether the connection of a connect by TCP was made.
+pub fn serve(d: Data, m: Mover, t: Tape, q: JointRequest, made: bool) -> JointDone
+    ensures { λ r. ⌜ outcomeOf r ≡ jointStep d m t q made ⌝ }
 {
     match q {
         JointRequest::DataAbort => data_abort(d, m),
-        JointRequest::DataConnect(address) => data_connect(d, m, t, address),
+        JointRequest::DataConnect(address, count) => data_connect(d, m, t, address, count, made),
         JointRequest::MoverAbort => mover_abort(d, m),
         JointRequest::MoverClose => mover_close(d, m),
-        JointRequest::MoverConnect(mode, address) => mover_connect(d, m, t, mode, address),
+        JointRequest::MoverConnect(mode, address, count) => {
+            mover_connect(d, m, t, mode, address, count, made)
+        }
     }
 }

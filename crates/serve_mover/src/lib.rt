@@ -1,7 +1,6 @@
 // The requests of the mover that are not joint.
 ghost use mathlib.Core.Path.{_≡_};
-ghost use Rattle.rules.specs.Judge.{first};
-ghost use Rattle.rules.specs.MoverService.{recordNumber, moverState, offsetWrong, joinTests, moverListen, moverContinue, moverStop, busy, elsewhere, setWindow, moverRead, setSize, moverStep};
+ghost use Rattle.rules.specs.MoverService.{recordNumber, moverState, moverListen, moverContinue, moverStop, setWindow, moverRead, setSize, moverStep};
 ghost use Rattle.serve_mover.specs.Done.{outcomeOf};
 use rules_parts::types::Mover;
 use rules_parts::types::Tape;
@@ -34,6 +33,7 @@ fn get_state(m: Mover) -> MoverDone
         pause: rules_parts::told_in(Mover::PAUSED, m.state, m.pause),
         halt: rules_parts::told_in(Mover::HALTED, m.state, m.halt),
         size: m.size,
+        address: m.address,
         number: record_number(m.moved, m.size),
         moved: m.moved,
         seek: m.seek,
@@ -44,56 +44,17 @@ fn get_state(m: Mover) -> MoverDone
     MoverDone::Accept(Reply::MoverState(view), m)
 }
 
-// Whether a mode begins at 0, and the window does not.
-fn is_offset_wrong(mode: u32, offset: u64) -> bool
-    ensures { λ r. ⌜ r ≡ offsetWrong mode offset ⌝ }
+fn listen(m: Mover, t: Tape, mode: u32, address: u32, list: &[u8]) -> MoverDone
+    ensures { λ r. ⌜ outcomeOf r ≡ moverListen m t mode address (now (list .entry)) ⌝ }
 {
-    if mode == Mover::TO_TAPE {
-        return offset != 0;
-    }
-    false
-}
-
-// What listen and connect both ask of the mover: the number of the first test that applies, or 0.
-pub fn join_error(m: Mover, t: Tape, mode: u32, address: u32) -> u32
-    ensures { λ r. ⌜ r ≡ first (joinTests m t mode address) ⌝ }
-{
-    if !t.opened {
-        return codes::NOT_OPEN;
-    }
-    if m.state != Mover::IDLE {
-        return codes::ILLEGAL_STATE;
-    }
-    if Mover::is_unwritable(mode, t.writable) {
-        return codes::PERMISSION_DENIED;
-    }
-    if m.size == 0 {
-        return codes::PRECONDITION;
-    }
-    if m.length == 0 {
-        return codes::PRECONDITION;
-    }
-    if is_offset_wrong(mode, m.offset) {
-        return codes::PRECONDITION;
-    }
-    if address != codes::LOCAL_ADDRESS {
-        return codes::ILLEGAL_ARGUMENTS;
-    }
-    if Mover::FROM_TAPE < mode {
-        return codes::ILLEGAL_ARGUMENTS;
-    }
-    0
-}
-
-fn listen(m: Mover, t: Tape, mode: u32, address: u32) -> MoverDone
-    ensures { λ r. ⌜ outcomeOf r ≡ moverListen m t mode address ⌝ }
-{
-    let e = join_error(m, t, mode, address);
+    let wrong = serve_address::is_listen_wrong(address, list);
+    let e = serve_tests::join_error(m, t, mode, wrong);
     if e != 0 {
         return MoverDone::Refuse(e);
     }
-    let next = m.listens(mode);
-    MoverDone::Accept(Reply::Listening, next)
+    let reply = serve_address::listening(address);
+    let next = m.listens(mode, address);
+    MoverDone::Accept(reply, next)
 }
 
 fn go_on(m: Mover, t: Tape) -> MoverDone
@@ -111,7 +72,7 @@ fn go_on(m: Mover, t: Tape) -> MoverDone
     if m.length == 0 {
         return MoverDone::Refuse(codes::PRECONDITION);
     }
-    let next = m.runs(m.mode, t.position);
+    let next = m.runs(m.mode, m.address, t.position);
     MoverDone::Accept(Reply::Plain, next)
 }
 
@@ -125,32 +86,10 @@ fn stop(m: Mover) -> MoverDone
     MoverDone::Accept(Reply::Plain, next)
 }
 
-// Whether it is neither IDLE nor PAUSED.
-fn is_busy(state: u32) -> bool
-    ensures { λ r. ⌜ r ≡ busy state ⌝ }
-{
-    if state == Mover::IDLE {
-        return false;
-    }
-    state != Mover::PAUSED
-}
-
-// Whether a window would leave a gap in what is written.
-fn is_elsewhere(state: u32, mode: u32, moved: u64, offset: u64) -> bool
-    ensures { λ r. ⌜ r ≡ elsewhere state mode moved offset ⌝ }
-{
-    if state == Mover::PAUSED {
-        if mode == Mover::TO_TAPE {
-            return offset != moved;
-        }
-    }
-    false
-}
-
 fn set_window(m: Mover, offset: u64, length: u64) -> MoverDone
     ensures { λ r. ⌜ outcomeOf r ≡ setWindow m offset length ⌝ }
 {
-    if is_busy(m.state) {
+    if serve_tests::is_busy(m.state) {
         return MoverDone::Refuse(codes::ILLEGAL_STATE);
     }
     if m.size == 0 {
@@ -165,7 +104,7 @@ fn set_window(m: Mover, offset: u64, length: u64) -> MoverDone
     if Mover::is_length_wrong(m.size, offset, length) {
         return MoverDone::Refuse(codes::ILLEGAL_ARGUMENTS);
     }
-    if is_elsewhere(m.state, m.mode, m.moved, offset) {
+    if serve_tests::is_elsewhere(m.state, m.mode, m.moved, offset) {
         return MoverDone::Refuse(codes::ILLEGAL_ARGUMENTS);
     }
     let next = m.windowed(offset, length);
@@ -210,13 +149,13 @@ fn set_record_size(m: Mover, size: u32) -> MoverDone
     MoverDone::Accept(Reply::Plain, next)
 }
 
-// A request of the mover.
-pub fn serve(m: Mover, t: Tape, q: MoverRequest) -> MoverDone
-    ensures { λ r. ⌜ outcomeOf r ≡ moverStep m t q ⌝ }
+// A request of the mover, and the list that a listen by TCP is lent.
+pub fn serve(m: Mover, t: Tape, q: MoverRequest, list: &[u8]) -> MoverDone
+    ensures { λ r. ⌜ outcomeOf r ≡ moverStep m t q (now (list .entry)) ⌝ }
 {
     match q {
         MoverRequest::State => get_state(m),
-        MoverRequest::Listen(mode, address) => listen(m, t, mode, address),
+        MoverRequest::Listen(mode, address) => listen(m, t, mode, address, list),
         MoverRequest::Continue => go_on(m, t),
         MoverRequest::Stop => stop(m),
         MoverRequest::Window(offset, length) => set_window(m, offset, length),

@@ -15,7 +15,10 @@ use rules_parts::types::Tape;
 fn is_data_wrong(d: Data) -> bool
     ensures { λ r. ⌜ r ≡ dataWrong d ⌝ }
 {
-    Data::CONNECTED < d.state
+    if Data::CONNECTED < d.state {
+        return true;
+    }
+    rules_parts::is_address_wrong(d.address, d.state == Data::IDLE)
 }
 
 fn are_numbers_wrong(m: Mover) -> bool
@@ -25,6 +28,9 @@ fn are_numbers_wrong(m: Mover) -> bool
         return true;
     }
     if Mover::LARGEST_SIZE < m.size {
+        return true;
+    }
+    if rules_parts::is_address_wrong(m.address, m.state == Mover::IDLE) {
         return true;
     }
     Mover::is_past_top(m.seek, m.left)
@@ -175,8 +181,8 @@ pub fn is_kept(s: Session) -> bool
     if is_mover_wrong(m, t) {
         return false;
     }
-    let source = d.is_joined();
-    let mover = m.is_joined();
+    let source = d.is_partnered();
+    let mover = m.is_partnered();
     same_flag(source, mover)
 }
 

@@ -67,7 +67,7 @@ fn open_tape(t: Tape, image: &[u8], named: bool, mode: u32) -> TapeDone
     if t.opened {
         return TapeDone::Refuse(codes::DEVICE_OPENED);
     }
-    if !tape_image::sound(image) {
+    if !tape_sound::sound(image) {
         return TapeDone::Refuse(codes::BAD_FILE);
     }
     let next = Tape {

@@ -73,13 +73,13 @@ pub fn to_tape(d: Data, m: Mover, t: Tape, image: &mut [u8], stream: &[u8], last
     if serve_moves::is_idle(Mover::TO_TAPE, Data::BACKUP, d, m) {
         return serve_moves::no_move(d, m, t);
     }
-    let faulty = tape_image::is_faulty(image, t.position);
+    let faulty = tape_sound::is_faulty(image, t.position);
     let ends = is_ending(last, stream.len());
     if faulty {
-        return serve_moves::halt_both(Data::CONNECT_ERROR, Mover::MEDIA_ERROR, d, m, t);
+        return serve_moves::halt_with(Data::CONNECT_ERROR, Mover::MEDIA_ERROR, d, m, t);
     }
     if ends {
-        return serve_moves::halt_both(Data::SUCCESSFUL, Mover::CONNECT_CLOSED, d, m, t);
+        return serve_moves::halt_with(Data::SUCCESSFUL, Mover::CONNECT_CLOSED, d, m, t);
     }
     fill_tape(d, m, t, image, stream, last)
 }

@@ -2,7 +2,6 @@
 use denote.Ref.{now}
 use native.Mathlib.Omega.{arith}
 use mathlib.Core.Path.{refl, sym, ap, _∙_}
-use mathlib.Core.List.{[]}
 use lib.ListN.{drop}
 use Rattle.wire_replies.specs.declared.Reply.{Reply}
 use Rattle.wire_replies.specs.Fit.{Sendable}
@@ -29,13 +28,13 @@ part-serve-end : tie.Need-part-serve-end
 part-serve-end c = search needs
 
 serve-requires : tie.Need-serve-requires
-serve-requires c κs = rw (body-is (now (c .before .before .before .before .args .input))) (c .before .before .before .before .pre .1)
+serve-requires c κs = rw (body-is (now (c .before .before .before .before .before .args .input))) (c .before .before .before .before .before .pre .1)
 
 enum-known-done : tie.Need-enum-known-done
 enum-known-done c = search needs
 
 refuse-requires : tie.Need-refuse-requires
-refuse-requires c κs = c .before .before .before .before .before .before .before .before .before .pre .0
+refuse-requires c κs = c .before .before .before .before .before .before .before .before .before .before .pre .0
 
 enum-known-done-2 : tie.Need-enum-known-done-2
 enum-known-done-2 c = search needs
@@ -43,15 +42,13 @@ enum-known-done-2 c = search needs
 with-parts-requires : tie.Need-with-parts-requires
 with-parts-requires c κs = search needs
 
-slice-aggregate-finish : tie.Need-slice-aggregate-finish
-slice-aggregate-finish c = search needs
-
 finish-requires : tie.Need-finish-requires
 finish-requires c κs =
     let c8 = c .before .before .before .before .before .before .before .before in
     let pre = c8 .before .before .before .before .before .before .before .pre .0 in (
       record { long = pre .long; room = omega (arith, pre .room) },
-      accepted-says (λ (r : Reply) _. Sendable r []) _ _ _ (ap outcomeOf (sym (c8 .done2 .given .1)) ∙ c8 .before .before .serve .ensures) (data-sends _ _ _),
+      accepted-says (λ (r : Reply) _. Sendable r _) _ _ _ (ap outcomeOf (sym (c .before .before .before .before .before .before .before .done2 .given .1)) ∙ c8 .before .serve .ensures)
+          (data-sends _ _ _ (now (c8 .before .before .before .before .before .before .before .args .addresses))),
     )
 
 same-length : tie.Need-same-length
@@ -62,9 +59,10 @@ unfolding isUnread
 returns c =
     let c8 = c .before .before .before .before .before .before .before .before in
     λ image.
-    let a = c8 .before .before .before .before .args in
+    let a = c8 .before .before .before .before .before .args in
     let k = held (a .s) image in
-    call-refused k (a .time) (now (a .input)) (Request.Data (a .q)) (withData k) (dataStep (a .s .source) (a .q) (drop 28 (now (a .input)))) _ refl
+    let list = now (a .addresses) in
+    call-refused k (a .time) (now (a .input)) (Request.Data (a .q)) (withData k list) (dataStep (a .s .source) (a .q) (drop 28 (now (a .input))) list) _ refl
     (rw (body-is (now (a .input))) at
     (ap outcomeOf (sym (c .before .before .before .before .before .done .given .1)) ∙ c .before .before .before .before .before .before .before .serve .ensures))
     (c .before .before .refuse .ensures image)
@@ -79,9 +77,10 @@ returns-2 c =
     λ image.
     let a = c16 .before .before .args in
     let k = held (a .s) image in
-    call-accepted k (a .time) (now (a .input)) (Request.Data (a .q)) (withData k) (dataStep (a .s .source) (a .q) (drop 28 (now (a .input)))) _ _ refl refl
-    (rw (body-is (now (a .input))) at (ap outcomeOf (sym (c8 .before .before .before .done2 .given .1)) ∙ c8 .before .before .before .before .before .serve .ensures))
-    (rw (c .before .before .before .before .before .with-parts .ensures) at (c .before .before .finish .ensures .1 image))
+    let list = now (a .addresses) in
+    call-accepted k (a .time) (now (a .input)) (Request.Data (a .q)) (withData k list) (dataStep (a .s .source) (a .q) (drop 28 (now (a .input))) list) _ _ refl refl
+    (rw (body-is (now (a .input))) at (ap outcomeOf (sym (c8 .before .before .done2 .given .1)) ∙ c8 .before .before .before .before .serve .ensures))
+    (rw (c .before .before .before .before .with-parts .ensures) at (c .before .before .finish .ensures .1 image))
 
 pub data-call-spec : {M : Type 1} → statement M
 data-call-spec =
@@ -95,7 +94,6 @@ data-call-spec =
     refuse-requires
     enum-known-done-2
     with-parts-requires
-    slice-aggregate-finish
     finish-requires
     same-length
     returns

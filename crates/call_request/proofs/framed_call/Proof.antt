@@ -31,7 +31,7 @@ is-locked-requires : tie.Need-is-locked-requires
 is-locked-requires c κs = search needs
 
 refuse-requires : tie.Need-refuse-requires
-refuse-requires c κs = c .before .before .before .before .before .before .before .before .before .before .before .before .pre .0
+refuse-requires c κs = c .before .before .before .before .before .before .before .before .before .before .before .before .before .pre .0
 
 same-length : tie.Need-same-length
 same-length c = search needs
@@ -39,17 +39,17 @@ same-length c = search needs
 returns : tie.Need-returns
 returns c =
     let c8 = c .before .before .before .before .before .before .before .before in
-    let a = c8 .before .before .before .before .before .before .before .args in
-    call-locked (held (a .s) (now (a .image))) (lent (now (a .id)) (now (a .password)) (a .time) (now (a .out))) (now (a .input)) _
-    (request-is (now (a .input)) (body-is (now (a .input))) (c8 .before .before .before .before .before .before .before .pre .1) (c8 .before .row-of .ensures) refl
+    let a = c8 .before .before .before .before .before .before .before .before .args in
+    call-locked (held (a .s) (now (a .image))) (lent (now (a .id)) (now (a .password)) (now (a .addresses)) (a .made) (a .time) (now (a .out))) (now (a .input)) _
+    (request-is (now (a .input)) (body-is (now (a .input))) (c8 .before .before .before .before .before .before .before .before .pre .1) (c8 .before .row-of .ensures) refl
     (c .before .before .before .before .before .before .before .decode .ensures))
     (sym (c .before .before .before .before .before .is-locked .ensures) ∙ c .before .before .before .before .if1 .taken) (c .before .before .refuse .ensures _)
 
 serve-call-requires : tie.Need-serve-call-requires
 serve-call-requires c κs =
     let c8 = c .before .before .before .before .before .before .before .before in
-    let a = c8 .before .before .before .before .before .args in
-    (c8 .before .before .before .before .before .pre .0, texts-in (now (a .input)) (body-is (now (a .input))) (c .before .before .before .before .before .decode .ensures))
+    let a = c8 .before .before .before .before .before .before .args in
+    (c8 .before .before .before .before .before .before .pre .0, texts-in (now (a .input)) (body-is (now (a .input))) (c .before .before .before .before .before .decode .ensures))
 
 same-length-2 : tie.Need-same-length-2
 same-length-2 c = search needs
@@ -61,9 +61,9 @@ returns-2 : tie.Need-returns-2
 returns-2 c =
     let c8 = c .before .before .before .before .before .before .before .before in
     let c16 = c8 .before .before .before .before .before .before .before .before in
-    let a = c16 .before .before .args in
-    call-free (held (a .s) (now (a .image))) (lent (now (a .id)) (now (a .password)) (a .time) (now (a .out))) (now (a .input)) _
-    (request-is (now (a .input)) (body-is (now (a .input))) (c16 .before .before .pre .1) (c8 .before .before .before .before .row-of .ensures) refl
+    let a = c16 .before .before .before .args in
+    call-free (held (a .s) (now (a .image))) (lent (now (a .id)) (now (a .password)) (now (a .addresses)) (a .made) (a .time) (now (a .out))) (now (a .input)) _
+    (request-is (now (a .input)) (body-is (now (a .input))) (c16 .before .before .before .pre .1) (c8 .before .before .before .before .row-of .ensures) refl
     (c8 .before .before .decode .ensures)) (sym (c8 .is-locked .ensures) ∙ c .before .before .before .before .before .before .before .if1 .left)
     (c .before .before .before .before .serve-call .ensures)
 

@@ -41,7 +41,7 @@ finish-requires c κs =
     let c16 = c8 .before .before .before .before .before .before .before .before in
     let pre = c16 .pre in (
       record { long = pre .long; room = omega (arith, pre .room) },
-      accepted-says (λ (r : Reply) _. Sendable r []) _ _ _ (ap outcomeOf (sym (c8 .done2 .given .1)) ∙ c8 .before .before .serve .ensures) (joint-sends _ _ _ _),
+      accepted-says (λ (r : Reply) _. Sendable r []) _ _ _ (ap outcomeOf (sym (c8 .done2 .given .1)) ∙ c8 .before .before .serve .ensures) (joint-sends _ _ _ _ _),
     )
 
 halts-requires : tie.Need-halts-requires
@@ -60,7 +60,7 @@ returns c =
     λ image.
     let a = c8 .before .before .before .before .before .args in
     let k = held (a .s) image in
-    call-refused k (a .time) (now (a .input)) (Request.Joint (a .q)) (withEnds k) (jointStep (a .s .source) (a .s .mover) (a .s .tape) (a .q)) _ refl
+    call-refused k (a .time) (now (a .input)) (Request.Joint (a .q)) (withEnds k) (jointStep (a .s .source) (a .s .mover) (a .s .tape) (a .q) (a .made)) _ refl
     (ap outcomeOf (sym (c .before .before .before .before .before .done .given .1)) ∙ c .before .before .before .before .before .before .before .serve .ensures)
     (c .before .before .refuse .ensures image)
 
@@ -75,7 +75,7 @@ returns-2 c =
     let a = c16 .before .before .before .before .before .before .before .args in
     let k = held (a .s) image in
     let sent = rw (c8 .before .with-parts .ensures) at (c .before .before .before .before .before .before .finish .ensures .1 image) in
-    call-ended k (a .time) (now (a .input)) (Request.Joint (a .q)) (withEnds k) (jointStep (a .s .source) (a .s .mover) (a .s .tape) (a .q)) _ _
+    call-ended k (a .time) (now (a .input)) (Request.Joint (a .q)) (withEnds k) (jointStep (a .s .source) (a .s .mover) (a .s .tape) (a .q) (a .made)) _ _
     (ap outcomeOf (sym (c8 .before .before .before .before .before .before .before .done2 .given .1)) ∙ c16 .before .serve .ensures) (c .before .before .halts .ensures .1 _ image _ sent)
 
 pub joint-call-spec : {M : Type 1} → statement M

@@ -5,7 +5,7 @@ use mathlib.Core.Path.{refl, sym, ap, _∙_}
 use Rattle.wire_replies.specs.declared.Reply.{Reply}
 use Rattle.wire_replies.specs.Fit.{Sendable}
 use Rattle.wire_requests.specs.declared.Request.the-variants as Request
-use Rattle.rules.specs.Answer.{held, isUnread, tapePart, withTape}
+use Rattle.rules.specs.Answer.{held, isUnread, tapePart, withPart}
 use Rattle.rules.specs.TapeService.{moverPartStep}
 use Rattle.rules.proofs.Sending.{mover-sends}
 use Rattle.serve_mover.specs.Done.{outcomeOf}
@@ -37,7 +37,7 @@ finish-requires c κs =
     let pre = c8 .before .before .before .before .before .before .pre in (
       record { long = pre .long; room = omega (arith, pre .room) },
       accepted-says (λ (r : Reply) _. Sendable r _) _ _ _ (ap outcomeOf (sym (c .before .before .before .before .before .before .done2 .given .1)) ∙ c8 .serve .ensures)
-          (mover-sends _ _ _ (now (c8 .before .before .before .before .before .before .args .image))),
+          (mover-sends _ _ _ (now (c8 .before .before .before .before .before .before .args .addresses))),
     )
 
 same-length : tie.Need-same-length
@@ -47,12 +47,14 @@ returns : tie.Need-returns
 unfolding isUnread
 returns c =
     let c8 = c .before .before .before .before .before .before .before .before in
+    λ image.
     let a = c8 .before .before .before .before .before .args in
-    let k = held (a .s) (now (a .image)) in
-    call-refused k (a .time) (now (a .input)) (Request.Mover (a .q)) (withTape k) (moverPartStep (tapePart k) (a .q)) _ refl
-    (mover-refuses (tapePart k) (a .q) _
+    let k = held (a .s) image in
+    let list = now (a .addresses) in
+    call-refused k (a .time) (now (a .input)) (Request.Mover (a .q)) (withPart k list) (moverPartStep (tapePart k) (a .q) list) _ refl
+    (mover-refuses (tapePart k) (a .q) list _
     (ap outcomeOf (sym (c .before .before .before .before .before .done .given .1)) ∙ c .before .before .before .before .before .before .before .serve .ensures))
-    (c .before .before .refuse .ensures (now (a .image)))
+    (c .before .before .refuse .ensures image)
 
 same-length-2 : tie.Need-same-length-2
 same-length-2 c = search needs
@@ -61,11 +63,13 @@ returns-2 : tie.Need-returns-2
 returns-2 c =
     let c8 = c .before .before .before .before .before .before .before .before in
     let c16 = c8 .before .before .before .before .before .before .before .before in
+    λ image.
     let a = c16 .before .args in
-    let k = held (a .s) (now (a .image)) in
-    call-accepted k (a .time) (now (a .input)) (Request.Mover (a .q)) (withTape k) (moverPartStep (tapePart k) (a .q)) _ _ refl refl
-    (mover-accepts (tapePart k) (a .q) _ _ (ap outcomeOf (sym (c8 .before .done2 .given .1)) ∙ c8 .before .before .before .serve .ensures))
-    (rw (c .before .before .before .before .with-parts .ensures) at (c .before .before .finish .ensures .1 (now (a .image))))
+    let k = held (a .s) image in
+    let list = now (a .addresses) in
+    call-accepted k (a .time) (now (a .input)) (Request.Mover (a .q)) (withPart k list) (moverPartStep (tapePart k) (a .q) list) _ _ refl refl
+    (mover-accepts (tapePart k) (a .q) list _ _ (ap outcomeOf (sym (c8 .before .done2 .given .1)) ∙ c8 .before .before .before .serve .ensures))
+    (rw (c .before .before .before .before .with-parts .ensures) at (c .before .before .finish .ensures .1 image))
 
 pub mover-call-spec : {M : Type 1} → statement M
 mover-call-spec =

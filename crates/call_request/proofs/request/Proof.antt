@@ -27,8 +27,8 @@ quiet-requires c κs = search needs
 returns : tie.Need-returns
 returns c =
     let c8 = c .before .before .before .before .before .before .before .before in
-    let a = c8 .before .before .args in
-    call-stopped (held (a .s) (now (a .image))) (lent (now (a .id)) (now (a .password)) (a .time) (now (a .out))) (now (a .input)) _
+    let a = c8 .before .before .before .args in
+    call-stopped (held (a .s) (now (a .image))) (lent (now (a .id)) (now (a .password)) (now (a .addresses)) (a .made) (a .time) (now (a .out))) (now (a .input)) _
     (sym (c .before .before .guard2 .given .1) ∙ c .before .before .before .before .guard .ensures) (c .quiet .ensures _ _)
 
 enum-told : tie.Need-enum-told
@@ -62,8 +62,8 @@ framed-call-requires c κs =
 returns-2 : tie.Need-returns-2
 returns-2 c =
     let c8 = c .before .before .before .before .before .before .before .before in
-    let a = c8 .before .before .before .before .args in
-    call-goes (held (a .s) (now (a .image))) (lent (now (a .id)) (now (a .password)) (a .time) (now (a .out))) (now (a .input))
+    let a = c8 .before .before .before .before .before .args in
+    call-goes (held (a .s) (now (a .image))) (lent (now (a .id)) (now (a .password)) (now (a .addresses)) (a .made) (a .time) (now (a .out))) (now (a .input))
     (sym (c .before .before .before .before .enum-told .given .1) ∙ c .before .before .before .before .before .before .guard .ensures)
     (call-else _ (frame-broken _ (sym (c .before .enum-told2 .given .1) ∙ c .before .before .before .read-frame .ensures)) (c .shut .ensures _ _))
 
@@ -71,9 +71,9 @@ returns-3 : tie.Need-returns-3
 unfolding requested
 returns-3 c =
     let c8 = c .before .before .before .before .before .before .before .before in
-    let a = c8 .before .before .before .before .args in
+    let a = c8 .before .before .before .before .before .args in
     let f = frame-other _ (sym (c .before .enum-told3 .given .1) ∙ c .before .before .before .read-frame .ensures) in
-    call-goes (held (a .s) (now (a .image))) (lent (now (a .id)) (now (a .password)) (a .time) (now (a .out))) (now (a .input))
+    call-goes (held (a .s) (now (a .image))) (lent (now (a .id)) (now (a .password)) (now (a .addresses)) (a .made) (a .time) (now (a .out))) (now (a .input))
     (sym (c .before .before .before .before .enum-told .given .1) ∙ c .before .before .before .before .before .before .guard .ensures)
     (call-if _ (f .0) (call-if _ (f .1) (c .quiet2 .ensures _ _)))
 
@@ -88,9 +88,9 @@ unfolding requested
 returns-4 c =
     let c8 = c .before .before .before .before .before .before .before .before in
     let c16 = c8 .before .before .before .before .before .before .before .before in
-    let a = c16 .before .before .before .args in
+    let a = c16 .before .before .before .before .args in
     let f = frame-request _ _ _ (sym (c8 .message .given .1) ∙ c8 .before .before .read-frame .ensures) in
-    call-goes (held (a .s) (now (a .image))) (lent (now (a .id)) (now (a .password)) (a .time) (now (a .out))) (now (a .input))
+    call-goes (held (a .s) (now (a .image))) (lent (now (a .id)) (now (a .password)) (now (a .addresses)) (a .made) (a .time) (now (a .out))) (now (a .input))
     (sym (c8 .before .before .before .enum-told .given .1) ∙ c8 .before .before .before .before .before .guard .ensures)
     (call-if _ (f .0) (call-else _ (f .1) (c .before .before .before .before .framed-call .ensures)))
 

@@ -1,12 +1,10 @@
 -- Each arm is its clause of `outcome`.
 use denote.Ref.{now}
-use native.Mathlib.Omega.{arith}
 use mathlib.Core.Path.{refl}
 use Rattle.xdr.specs.Choose.{choose}
 use Rattle.wire_requests.specs.declared.Request.the-variants as Request
 use Rattle.rules.specs.Answer.{outcome, isClose, settled, refusing, isUnread}
 use Rattle.rules.proofs.Sending.{config-sends}
-use Rattle.call_request.proofs.Routing.{header-sends}
 use borrow.Author.Needs.{needs}
 use Rattle.call_request.proofs.serve_call.Statement.{statement}
 use Rattle.call_request.proofs.serve_call.Tie as tie
@@ -19,7 +17,7 @@ enum-known-q c = search needs
 connect-call-requires : tie.Need-connect-call-requires
 connect-call-requires c κs =
     let c8 = c .before .before .before .before .before .before .before .before in
-    (c8 .before .pre .0, rw (c .before .before .q .given .1) at (c8 .before .pre .1))
+    (c8 .before .before .pre .0, rw (c .before .before .q .given .1) at (c8 .before .before .pre .1))
 
 enum-known-q-2 : tie.Need-enum-known-q-2
 enum-known-q-2 c = search needs
@@ -30,7 +28,7 @@ config-requires c κs = search needs
 login-call-requires : tie.Need-login-call-requires
 login-call-requires c κs =
     let c8 = c .before .before .before .before .before .before .before .before in
-    (c8 .before .before .before .pre .0, rw (c .before .config .ensures) (config-sends _ _))
+    (c8 .before .before .before .before .pre .0, rw (c .before .config .ensures) (config-sends _ _))
 
 enum-known-q-3 : tie.Need-enum-known-q-3
 enum-known-q-3 c = search needs
@@ -38,7 +36,7 @@ enum-known-q-3 c = search needs
 scsi-call-requires : tie.Need-scsi-call-requires
 scsi-call-requires c κs =
     let c8 = c .before .before .before .before .before .before .before .before in
-    (c8 .before .pre .0, rw (c .before .before .q3 .given .1) at (c8 .before .pre .1))
+    (c8 .before .before .pre .0, rw (c .before .before .q3 .given .1) at (c8 .before .before .pre .1))
 
 enum-known-q-4 : tie.Need-enum-known-q-4
 enum-known-q-4 c = search needs
@@ -46,7 +44,7 @@ enum-known-q-4 c = search needs
 tape-call-requires : tie.Need-tape-call-requires
 tape-call-requires c κs =
     let c8 = c .before .before .before .before .before .before .before .before in
-    (c8 .before .before .pre .0, rw (c .before .before .before .q4 .given .1) at (c8 .before .before .pre .1))
+    (c8 .before .before .before .pre .0, rw (c .before .before .before .q4 .given .1) at (c8 .before .before .before .pre .1))
 
 enum-known-q-5 : tie.Need-enum-known-q-5
 enum-known-q-5 c = search needs
@@ -54,7 +52,7 @@ enum-known-q-5 c = search needs
 data-call-requires : tie.Need-data-call-requires
 data-call-requires c κs =
     let c8 = c .before .before .before .before .before .before .before .before in
-    (c8 .before .pre .0, rw (c .before .before .q5 .given .1) at (c8 .before .pre .1))
+    (c8 .before .before .pre .0, rw (c .before .before .q5 .given .1) at (c8 .before .before .pre .1))
 
 enum-known-q-6 : tie.Need-enum-known-q-6
 enum-known-q-6 c = search needs
@@ -66,29 +64,19 @@ enum-known-q-7 : tie.Need-enum-known-q-7
 enum-known-q-7 c = search needs
 
 joint-call-requires : tie.Need-joint-call-requires
-joint-call-requires c κs = c .before .before .before .before .before .before .before .before .before .pre .0
+joint-call-requires c κs = c .before .before .before .before .before .before .before .before .before .before .pre .0
 
 enum-told : tie.Need-enum-told
 enum-told c = search needs
 
-slice-aggregate-finish : tie.Need-slice-aggregate-finish
-slice-aggregate-finish c = search needs
-
-finish-requires : tie.Need-finish-requires
-finish-requires c κs =
-    let c8 = c .before .before .before .before .before .before .before .before in
-    let pre = c8 .before .pre .0 in (record { long = pre .long; room = omega (arith, pre .room) }, header-sends 1 _)
+header-call-requires : tie.Need-header-call-requires
+header-call-requires c κs = c .before .before .before .before .before .before .before .before .before .pre .0
 
 enum-told-2 : tie.Need-enum-told-2
 enum-told-2 c = search needs
 
-slice-aggregate-finish-2 : tie.Need-slice-aggregate-finish-2
-slice-aggregate-finish-2 c = search needs
-
-finish-requires-2 : tie.Need-finish-requires-2
-finish-requires-2 c κs =
-    let c8 = c .before .before .before .before .before .before .before .before in
-    let pre = c8 .before .pre .0 in (record { long = pre .long; room = omega (arith, pre .room) }, header-sends 18 _)
+header-call-requires-2 : tie.Need-header-call-requires-2
+header-call-requires-2 c κs = c .before .before .before .before .before .before .before .before .before .pre .0
 
 same-length : tie.Need-same-length
 same-length c = search needs
@@ -106,7 +94,7 @@ returns-2 c =
     let c8 = c .before .before .before .before .before .before .before .before in
     rw (c .before .before .before .before .before .before .before .q2 .given .1)
     (rw (c .before .before .before .before .config .ensures) at
-    (c .before .before .login-call .ensures (now (c8 .before .before .before .before .before .before .args .image))
+    (c .before .before .login-call .ensures (now (c8 .before .before .before .before .before .before .before .args .image))
     (Request.Config (c .before .before .before .before .before .before .before .q2 .given .0 .0)) refl))
 
 same-length-3 : tie.Need-same-length-3
@@ -138,33 +126,30 @@ returns-5 c = rw (c .before .before .before .before .before .q5 .given .1) (c .b
 same-length-7 : tie.Need-same-length-7
 same-length-7 c = search needs
 
-same-length-8 : tie.Need-same-length-8
-same-length-8 c = search needs
-
 returns-6 : tie.Need-returns-6
 unfolding outcome isClose choose
-returns-6 c = rw (c .before .before .before .before .before .before .q6 .given .1) (c .before .before .mover-call .ensures)
+returns-6 c = rw (c .before .before .before .before .before .q6 .given .1) (c .before .before .mover-call .ensures _)
 
-same-length-9 : tie.Need-same-length-9
-same-length-9 c = search needs
+same-length-8 : tie.Need-same-length-8
+same-length-8 c = search needs
 
 returns-7 : tie.Need-returns-7
 unfolding outcome isClose choose
 returns-7 c = rw (c .before .before .before .before .before .q7 .given .1) (c .before .before .joint-call .ensures _)
 
-same-length-10 : tie.Need-same-length-10
-same-length-10 c = search needs
+same-length-9 : tie.Need-same-length-9
+same-length-9 c = search needs
 
 returns-8 : tie.Need-returns-8
 unfolding outcome isClose settled refusing isUnread choose
-returns-8 c = rw (c .before .before .before .before .before .enum-told .given .1) (c .before .before .finish .ensures .1 _)
+returns-8 c = rw (c .before .before .before .before .enum-told .given .1) (c .before .before .header-call .ensures _)
 
-same-length-11 : tie.Need-same-length-11
-same-length-11 c = search needs
+same-length-10 : tie.Need-same-length-10
+same-length-10 c = search needs
 
 returns-9 : tie.Need-returns-9
 unfolding outcome isClose settled refusing isUnread choose
-returns-9 c = rw (c .before .before .before .before .before .enum-told2 .given .1) (c .before .before .finish2 .ensures .1 _)
+returns-9 c = rw (c .before .before .before .before .enum-told2 .given .1) (c .before .before .header-call2 .ensures _)
 
 pub serve-call-spec : {M : Type 1} → statement M
 serve-call-spec =
@@ -186,11 +171,9 @@ serve-call-spec =
     enum-known-q-7
     joint-call-requires
     enum-told
-    slice-aggregate-finish
-    finish-requires
+    header-call-requires
     enum-told-2
-    slice-aggregate-finish-2
-    finish-requires-2
+    header-call-requires-2
     same-length
     returns
     same-length-2
@@ -203,11 +186,10 @@ serve-call-spec =
     same-length-6
     returns-5
     same-length-7
-    same-length-8
     returns-6
-    same-length-9
+    same-length-8
     returns-7
-    same-length-10
+    same-length-9
     returns-8
-    same-length-11
+    same-length-10
     returns-9)

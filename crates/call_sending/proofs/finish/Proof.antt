@@ -5,7 +5,7 @@ use Rattle.call_sending.proofs.finish.Statement.{statement}
 use Rattle.call_sending.proofs.finish.Tie as tie
 use Rattle.call_sending.proofs.finish.Reads as reads
 use Rattle.call_sending.proofs.finish.Lts as lts
-use Rattle.wire_replies.proofs.write_reply.Reads as write-reply-reads
+use Rattle.wire_writing.proofs.write_reply.Reads as write-reply-reads
 use Rattle.rules_parts.proofs.types.Session.after_message.Reads as types-Session-after-message-reads
 use Rattle.xdr.proofs.read_word.Reads as read-word-reads
 

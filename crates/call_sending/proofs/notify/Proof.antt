@@ -6,7 +6,7 @@ use Rattle.call_sending.proofs.notify.Statement.{statement}
 use Rattle.call_sending.proofs.notify.Tie as tie
 use Rattle.call_sending.proofs.notify.Reads as reads
 use Rattle.call_sending.proofs.notify.Lts as lts
-use Rattle.wire_replies.proofs.write_notice.Reads as write-notice-reads
+use Rattle.wire_writing.proofs.write_notice.Reads as write-notice-reads
 use Rattle.rules_parts.proofs.types.Session.after_message.Reads as types-Session-after-message-reads
 
 returns : tie.Need-returns

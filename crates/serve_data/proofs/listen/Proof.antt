@@ -1,4 +1,4 @@
--- The accepted state is put for what `goes` gave, behind the tests.
+-- The reply and the accepted state are put for what `listening` and `goes` gave, behind the tests.
 use Rattle.xdr.proofs.Tests.{picking}
 use Rattle.rules.specs.Judge.{judge}
 use Rattle.rules.specs.DataService.{dataListen}
@@ -12,22 +12,30 @@ returns : tie.Need-returns
 unfolding dataListen judge
 returns c = search picking depth 8
 
+is-listen-wrong-requires : tie.Need-is-listen-wrong-requires
+is-listen-wrong-requires c κs = search needs
+
 returns-2 : tie.Need-returns-2
 unfolding dataListen judge
-returns-2 c = search picking depth 8
+returns-2 c = search picking depth 10
+
+listening-requires : tie.Need-listening-requires
+listening-requires c κs = search needs
 
 goes-requires : tie.Need-goes-requires
 goes-requires c κs = search needs
 
 returns-3 : tie.Need-returns-3
 unfolding dataListen judge
-returns-3 c = rw (c .goes .ensures) (search picking depth 10)
+returns-3 c = rw (c .before .listening .ensures, c .goes .ensures) (search picking depth 12)
 
 pub listen-spec : {M : Type 1} → statement M
 listen-spec =
     tie.close
     (tie.spec
     returns
+    is-listen-wrong-requires
     returns-2
+    listening-requires
     goes-requires
     returns-3)

@@ -18,7 +18,7 @@ enum-known-q c = search needs
 
 is-dump-requires : tie.Need-is-dump-requires
 unfolding textsWithin
-is-dump-requires c κs = rw (c .before .q .given .1) at (c .before .before .before .before .pre)
+is-dump-requires c κs = rw (c .before .q .given .1) at (c .before .before .before .before .before .pre)
 
 start-requires : tie.Need-start-requires
 start-requires c κs = search needs
@@ -28,7 +28,7 @@ enum-known-q-2 c = search needs
 
 is-dump-requires-2 : tie.Need-is-dump-requires-2
 unfolding textsWithin
-is-dump-requires-2 c κs = rw (c .before .q2 .given .1) at (c .before .before .before .before .pre)
+is-dump-requires-2 c κs = rw (c .before .q2 .given .1) at (c .before .before .before .before .before .pre)
 
 start-requires-2 : tie.Need-start-requires-2
 start-requires-2 c κs = search needs

@@ -9,8 +9,8 @@ use Rattle.serve_from_tape.proofs.from_tape.Reads as reads
 use Rattle.serve_from_tape.proofs.from_tape.Lts as lts
 use Rattle.serve_moves.proofs.is_idle.Reads as is-idle-reads
 use Rattle.serve_from_tape.proofs.seek_back.Reads as seek-back-reads
-use Rattle.tape_image.proofs.is_faulty.Reads as is-faulty-reads
-use Rattle.serve_moves.proofs.halt_both.Reads as halt-both-reads
+use Rattle.tape_sound.proofs.is_faulty.Reads as is-faulty-reads
+use Rattle.serve_moves.proofs.halt_with.Reads as halt-with-reads
 use Rattle.serve_moves.proofs.no_move.Reads as no-move-reads
 
 is-idle-requires : tie.Need-is-idle-requires
@@ -26,8 +26,8 @@ returns c = search handing depth 15
 is-faulty-requires : tie.Need-is-faulty-requires
 is-faulty-requires c κs = search needs
 
-halt-both-requires : tie.Need-halt-both-requires
-halt-both-requires c κs = search needs
+halt-with-requires : tie.Need-halt-with-requires
+halt-with-requires c κs = search needs
 
 returns-2 : tie.Need-returns-2
 unfolding fromTape
@@ -69,7 +69,7 @@ from-tape-spec =
     no-move-requires
     returns
     is-faulty-requires
-    halt-both-requires
+    halt-with-requires
     returns-2
     no-move-requires-2
     returns-3

@@ -8,11 +8,11 @@ use Rattle.serve_from_tape.proofs.read_record.Statement.{statement}
 use Rattle.serve_from_tape.proofs.read_record.Tie as tie
 use Rattle.serve_from_tape.proofs.read_record.Reads as reads
 use Rattle.serve_from_tape.proofs.read_record.Lts as lts
-use Rattle.serve_from_tape.proofs.amount.Reads as amount-reads
-use Rattle.serve_from_tape.proofs.into_record.Reads as into-record-reads
-use Rattle.serve_from_tape.proofs.record_start.Reads as record-start-reads
+use Rattle.serve_seeking.proofs.amount.Reads as amount-reads
+use Rattle.serve_seeking.proofs.into_record.Reads as into-record-reads
+use Rattle.serve_seeking.proofs.record_start.Reads as record-start-reads
 use Rattle.tape_image.proofs.entry_len.Reads as entry-len-reads
-use Rattle.serve_moves.proofs.halt_both.Reads as halt-both-reads
+use Rattle.serve_moves.proofs.halt_with.Reads as halt-with-reads
 use Rattle.serve_moves.proofs.hand_over.Reads as hand-over-reads
 use Rattle.xdr.proofs.copy_blocks.Reads as copy-blocks-reads
 
@@ -22,11 +22,11 @@ cast-size c = search needs
 entry-len-requires : tie.Need-entry-len-requires
 entry-len-requires c κs = search needs
 
-halt-both-requires : tie.Need-halt-both-requires
-halt-both-requires c κs = search needs
+halt-with-requires : tie.Need-halt-with-requires
+halt-with-requires c κs = search needs
 
 returns : tie.Need-returns
-returns c = read-wrong _ _ _ _ _ _ _ (λ e. c .before .if1 .taken (omega arith)) (c .halt-both .ensures)
+returns c = read-wrong _ _ _ _ _ _ _ (λ e. c .before .if1 .taken (omega arith)) (c .halt-with .ensures)
 
 into-record-requires : tie.Need-into-record-requires
 into-record-requires c κs = search needs
@@ -77,7 +77,7 @@ read-record-spec =
     (tie.spec
     cast-size
     entry-len-requires
-    halt-both-requires
+    halt-with-requires
     returns
     into-record-requires
     amount-requires

@@ -7,7 +7,7 @@ use Rattle.serve_from_tape.proofs.seek_back.Statement.{statement}
 use Rattle.serve_from_tape.proofs.seek_back.Tie as tie
 use Rattle.serve_from_tape.proofs.seek_back.Reads as reads
 use Rattle.serve_from_tape.proofs.seek_back.Lts as lts
-use Rattle.serve_from_tape.proofs.is_outside.Reads as is-outside-reads
+use Rattle.serve_seeking.proofs.is_outside.Reads as is-outside-reads
 use Rattle.serve_from_tape.proofs.walk_back.Reads as walk-back-reads
 use Rattle.serve_moves.proofs.pause_at.Reads as pause-at-reads
 

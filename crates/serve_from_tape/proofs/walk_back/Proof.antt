@@ -1,13 +1,13 @@
 -- Each return by what the walk found; a record that it found is an entry of the table.
 use denote.Ref.{now}
-use Rattle.serve_from_tape.proofs.Walk.{target-in}
+use Rattle.serve_seeking.proofs.Walk.{target-in}
 use Rattle.serve_from_tape.proofs.Handing.{on-target, on-mark, on-end}
 use borrow.Author.Needs.{needs}
 use Rattle.serve_from_tape.proofs.walk_back.Statement.{statement}
 use Rattle.serve_from_tape.proofs.walk_back.Tie as tie
 use Rattle.serve_from_tape.proofs.walk_back.Reads as reads
 use Rattle.serve_from_tape.proofs.walk_back.Lts as lts
-use Rattle.serve_from_tape.proofs.find_record.Reads as find-record-reads
+use Rattle.serve_seeking.proofs.find_record.Reads as find-record-reads
 use Rattle.serve_from_tape.proofs.pause_there.Reads as pause-there-reads
 use Rattle.serve_from_tape.proofs.read_record.Reads as read-record-reads
 use Rattle.tape_image.proofs.count.Reads as count-reads

@@ -7,10 +7,10 @@ use Rattle.serve_joint.proofs.data_aborted.Reads as reads
 use Rattle.serve_joint.proofs.data_aborted.Lts as lts
 use Rattle.serve_joint.proofs.halt.Reads as halt-reads
 use Rattle.rules_parts.proofs.types.Data.halts.Reads as halts-reads
-use Rattle.rules_parts.proofs.types.Data.is_joined.Reads as is-joined-reads
+use Rattle.rules_parts.proofs.types.Data.is_partnered.Reads as is-partnered-reads
 
-is-joined-requires : tie.Need-is-joined-requires
-is-joined-requires c κs = search needs
+is-partnered-requires : tie.Need-is-partnered-requires
+is-partnered-requires c κs = search needs
 
 halt-requires : tie.Need-halt-requires
 halt-requires c κs = search needs
@@ -28,4 +28,4 @@ returns-2 c = rw (c .halts .ensures) (search picking depth 8)
 
 pub data-aborted-spec : {M : Type 1} → statement M
 data-aborted-spec =
-    tie.close (tie.spec is-joined-requires halt-requires returns halts-requires returns-2)
+    tie.close (tie.spec is-partnered-requires halt-requires returns halts-requires returns-2)

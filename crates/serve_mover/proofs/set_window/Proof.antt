@@ -6,8 +6,8 @@ use Rattle.serve_mover.proofs.set_window.Statement.{statement}
 use Rattle.serve_mover.proofs.set_window.Tie as tie
 use Rattle.serve_mover.proofs.set_window.Reads as reads
 use Rattle.serve_mover.proofs.set_window.Lts as lts
-use Rattle.serve_mover.proofs.is_busy.Reads as is-busy-reads
-use Rattle.serve_mover.proofs.is_elsewhere.Reads as is-elsewhere-reads
+use Rattle.serve_tests.proofs.is_busy.Reads as is-busy-reads
+use Rattle.serve_tests.proofs.is_elsewhere.Reads as is-elsewhere-reads
 use Rattle.rules_parts.proofs.types.Mover.is_length_wrong.Reads as is-length-wrong-reads
 use Rattle.rules_parts.proofs.types.Mover.windowed.Reads as windowed-reads
 

@@ -21,5 +21,9 @@ returns-4 : tie.Need-returns-4
 unfolding idle
 returns-4 c = search picking depth 10
 
+returns-5 : tie.Need-returns-5
+unfolding idle
+returns-5 c = search picking depth 10
+
 pub is-idle-spec : {M : Type 1} → statement M
-is-idle-spec = tie.close (tie.spec returns returns-2 returns-3 returns-4)
+is-idle-spec = tie.close (tie.spec returns returns-2 returns-3 returns-4 returns-5)

@@ -1,4 +1,4 @@
--- Both joined flags are put back for what the two methods found, behind the two tests.
+-- Both flags are put back for what the two methods found, behind the two tests.
 use Rattle.xdr.proofs.Tests.{asked, pick-else, picking}
 use Rattle.rules.specs.Relation.{keeps}
 use borrow.Author.Needs.{needs}
@@ -6,8 +6,8 @@ use Rattle.serve_relation.proofs.is_kept.Statement.{statement}
 use Rattle.serve_relation.proofs.is_kept.Tie as tie
 use Rattle.serve_relation.proofs.is_kept.Reads as reads
 use Rattle.serve_relation.proofs.is_kept.Lts as lts
-use Rattle.rules_parts.proofs.types.Data.is_joined.Reads as is-joined-reads
-use Rattle.rules_parts.proofs.types.Mover.is_joined.Reads as is-joined2-reads
+use Rattle.rules_parts.proofs.types.Data.is_partnered.Reads as is-partnered-reads
+use Rattle.rules_parts.proofs.types.Mover.is_partnered.Reads as is-partnered2-reads
 use Rattle.serve_relation.proofs.is_data_wrong.Reads as is-data-wrong-reads
 use Rattle.serve_relation.proofs.is_mover_wrong.Reads as is-mover-wrong-reads
 use Rattle.serve_relation.proofs.same_flag.Reads as same-flag-reads
@@ -26,11 +26,11 @@ returns-2 : tie.Need-returns-2
 unfolding keeps
 returns-2 c = search picking depth 10
 
-is-joined-requires : tie.Need-is-joined-requires
-is-joined-requires c κs = search needs
+is-partnered-requires : tie.Need-is-partnered-requires
+is-partnered-requires c κs = search needs
 
-is-joined-requires-2 : tie.Need-is-joined-requires-2
-is-joined-requires-2 c κs = search needs
+is-partnered-requires-2 : tie.Need-is-partnered-requires-2
+is-partnered-requires-2 c κs = search needs
 
 same-flag-requires : tie.Need-same-flag-requires
 same-flag-requires c κs = search needs
@@ -42,7 +42,7 @@ returns-3 c =
     let c1 = c2 .before .before in
     pick-else _ (asked (c1 .before .is-data-wrong .ensures) (c1 .if1 .left))
     (pick-else _ (asked (c2 .before .is-mover-wrong .ensures) (c2 .if2 .left))
-    (rw (← (c .before .before .is-joined .ensures), ← (c .before .is-joined2 .ensures)) (c .same-flag .ensures)))
+    (rw (← (c .before .before .is-partnered .ensures), ← (c .before .is-partnered2 .ensures)) (c .same-flag .ensures)))
 
 pub is-kept-spec : {M : Type 1} → statement M
 is-kept-spec =
@@ -52,7 +52,7 @@ is-kept-spec =
     returns
     is-mover-wrong-requires
     returns-2
-    is-joined-requires
-    is-joined-requires-2
+    is-partnered-requires
+    is-partnered-requires-2
     same-flag-requires
     returns-3)

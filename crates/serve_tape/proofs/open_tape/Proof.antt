@@ -9,7 +9,7 @@ use Rattle.serve_tape.proofs.open_tape.Statement.{statement}
 use Rattle.serve_tape.proofs.open_tape.Tie as tie
 use Rattle.serve_tape.proofs.open_tape.Reads as reads
 use Rattle.serve_tape.proofs.open_tape.Lts as lts
-use Rattle.tape_image.proofs.sound.Reads as sound-reads
+use Rattle.tape_sound.proofs.sound.Reads as sound-reads
 
 returns : tie.Need-returns
 unfolding tapeOpen judge

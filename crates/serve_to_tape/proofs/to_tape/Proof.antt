@@ -7,8 +7,8 @@ use Rattle.serve_to_tape.proofs.to_tape.Statement.{statement}
 use Rattle.serve_to_tape.proofs.to_tape.Tie as tie
 use Rattle.serve_to_tape.proofs.to_tape.Reads as reads
 use Rattle.serve_to_tape.proofs.to_tape.Lts as lts
-use Rattle.tape_image.proofs.is_faulty.Reads as is-faulty-reads
-use Rattle.serve_moves.proofs.halt_both.Reads as halt-both-reads
+use Rattle.tape_sound.proofs.is_faulty.Reads as is-faulty-reads
+use Rattle.serve_moves.proofs.halt_with.Reads as halt-with-reads
 use Rattle.serve_moves.proofs.no_move.Reads as no-move-reads
 use Rattle.serve_to_tape.proofs.fill_tape.Reads as fill-tape-reads
 use Rattle.serve_to_tape.proofs.is_ending.Reads as is-ending-reads
@@ -30,8 +30,8 @@ is-faulty-requires c κs = search needs
 is-ending-requires : tie.Need-is-ending-requires
 is-ending-requires c κs = search needs
 
-halt-both-requires : tie.Need-halt-both-requires
-halt-both-requires c κs = search needs
+halt-with-requires : tie.Need-halt-with-requires
+halt-with-requires c κs = search needs
 
 same-length : tie.Need-same-length
 same-length c = search needs
@@ -40,8 +40,8 @@ returns-2 : tie.Need-returns-2
 unfolding toTape
 returns-2 c = search telling depth 15
 
-halt-both-requires-2 : tie.Need-halt-both-requires-2
-halt-both-requires-2 c κs = search needs
+halt-with-requires-2 : tie.Need-halt-with-requires-2
+halt-with-requires-2 c κs = search needs
 
 same-length-2 : tie.Need-same-length-2
 same-length-2 c = search needs
@@ -69,10 +69,10 @@ to-tape-spec =
     returns
     is-faulty-requires
     is-ending-requires
-    halt-both-requires
+    halt-with-requires
     same-length
     returns-2
-    halt-both-requires-2
+    halt-with-requires-2
     same-length-2
     returns-3
     fill-tape-requires
