@@ -72,8 +72,12 @@ def local():  # ndmp_addr, line 13591: NDMP_ADDR_LOCAL 0, nothing more
     return word(0)
 
 
-def tcp(ip, port, pairs):  # lines 13591 and 13579: NDMP_ADDR_TCP 1, a list of addresses
-    return word(1) + listed([word(ip, port) + listed(pairs)])
+def address(ip, port, pairs):  # ndmp_tcp_addr, line 13579
+    return word(ip, port) + listed(pairs)
+
+
+def tcp(addresses):  # line 13591: NDMP_ADDR_TCP 1, a list of addresses
+    return word(1) + listed(addresses)
 
 
 def ipc(data):  # lines 13591 and 13586: NDMP_ADDR_IPC 3
@@ -110,6 +114,8 @@ def set_record_size(length):  # line 13752
 
 P = pair(b'E', b'1')  # 16 bytes
 N = name(b'a', b'b', b'', b'', 1, 2)  # 40 bytes
+A = address(0xC0000201, 10000, [])  # 12 bytes: 192.0.2.1
+AP = address(0xC0000202, 10001, [P])  # 28 bytes
 W = bytes(i % 251 for i in range(36837))
 CLOSE = header(1, TIME, 0, 0x902, 0, 0)  # a request with no body
 
@@ -142,7 +148,7 @@ HANDLED = [
     ('data_abort', request(20, 0x403), '20 DATA_ABORT'),
     ('data_stop', request(21, 0x407), '21 DATA_STOP'),
     ('data_listen', request(22, 0x409, data_listen(0)), '22 DATA_LISTEN address 0'),
-    ('data_connect', request(23, 0x40A, data_connect(local())), '23 DATA_CONNECT address 0'),
+    ('data_connect', request(23, 0x40A, data_connect(local())), '23 DATA_CONNECT address 0 addresses 0'),
     ('mover_get_state', request(24, 0xA00), '24 MOVER_GET_STATE'),
     ('mover_listen', request(25, 0xA01, mover_listen(1, 0)), '25 MOVER_LISTEN mode 1 address 0'),
     ('mover_continue', request(26, 0xA02), '26 MOVER_CONTINUE'),
@@ -152,7 +158,7 @@ HANDLED = [
     ('mover_read', request(30, 0xA06, mover_read(512, 1536)), '30 MOVER_READ offset 512 length 1536'),
     ('mover_close', request(31, 0xA07), '31 MOVER_CLOSE'),
     ('mover_set_record_size', request(32, 0xA08, set_record_size(1024)), '32 MOVER_SET_RECORD_SIZE len 1024'),
-    ('mover_connect', request(33, 0xA09, mover_connect(1, local())), '33 MOVER_CONNECT mode 1 address 0'),
+    ('mover_connect', request(33, 0xA09, mover_connect(1, local())), '33 MOVER_CONNECT mode 1 address 0 addresses 0'),
 ]
 
 # paper 01: "Length, without the mark, 24 to 36,864. A record that breaks this, or whose length plus 4 isn't the lent input's, closes"
@@ -209,6 +215,7 @@ UNKNOWN = [
 ]
 
 # "Bytes left over make error 18, except after an address type other than 0 or an auth type other than 1: there the rest is not read."
+# (paper 02, 14: "type 1 no longer leaves bytes unread", of address types)
 CONNECT = [
     ('open_65540', request(70, 0x900, connect_open(65540)), '70 CONNECT_OPEN version 65540'),
     ('open_all_ones', request(71, 0x900, connect_open(4294967295)), '71 CONNECT_OPEN version 4294967295'),
@@ -336,27 +343,27 @@ DATA = [
     ('recover_left_over', request(195, 0x402, start_recover([P], [N], b'dump') + b'\0'), '195 bad'),
     ('recover_empty', request(196, 0x402), '196 bad'),
     ('data_listen_tcp', request(197, 0x409, data_listen(1)), '197 DATA_LISTEN address 1'),
-    ('data_listen_tcp_rubbish', request(198, 0x409, data_listen(1) + b'\xff\xfe\xfd'), '198 DATA_LISTEN address 1'),
+    ('data_listen_tcp_rubbish', request(198, 0x409, data_listen(1) + b'\xff\xfe\xfd'), '198 bad'),
     ('data_listen_left_over', request(199, 0x409, data_listen(0) + word(0)), '199 bad'),
     ('data_listen_left_over_1', request(200, 0x409, data_listen(0) + b'\0'), '200 bad'),
     ('data_listen_empty', request(201, 0x409), '201 bad'),
-    ('data_connect_tcp', request(202, 0x40A, data_connect(tcp(0xC0000201, 10000, []))), '202 DATA_CONNECT address 1'),
-    ('data_connect_tcp_rubbish', request(203, 0x40A, word(1) + b'\xff\xff\xff\xff\xff'), '203 DATA_CONNECT address 1'),
-    ('data_connect_ipc', request(204, 0x40A, data_connect(ipc(b'abc'))), '204 DATA_CONNECT address 3'),
-    ('data_connect_all_ones', request(205, 0x40A, word(4294967295)), '205 DATA_CONNECT address 4294967295'),
+    ('data_connect_tcp', request(202, 0x40A, data_connect(tcp([A]))), '202 DATA_CONNECT address 1 addresses 1'),
+    ('data_connect_tcp_rubbish', request(203, 0x40A, word(1) + b'\xff\xff\xff\xff\xff'), '203 bad'),
+    ('data_connect_ipc', request(204, 0x40A, data_connect(ipc(b'abc'))), '204 DATA_CONNECT address 3 addresses 0'),
+    ('data_connect_all_ones', request(205, 0x40A, word(4294967295)), '205 DATA_CONNECT address 4294967295 addresses 0'),
     ('data_connect_left_over', request(206, 0x40A, data_connect(local()) + word(0)), '206 bad'),
     ('data_connect_cut', request(207, 0x40A, local()[:3]), '207 bad'),
 ]
 
 MOVER = [
     ('mover_listen_tcp', request(210, 0xA01, mover_listen(9, 1)), '210 MOVER_LISTEN mode 9 address 1'),
-    ('mover_listen_tcp_rubbish', request(211, 0xA01, mover_listen(0, 1) + b'\xff'), '211 MOVER_LISTEN mode 0 address 1'),
+    ('mover_listen_tcp_rubbish', request(211, 0xA01, mover_listen(0, 1) + b'\xff'), '211 bad'),
     ('mover_listen_left_over', request(212, 0xA01, mover_listen(0, 0) + word(0)), '212 bad'),
     ('mover_listen_no_address', request(213, 0xA01, word(1)), '213 bad'),
     ('mover_listen_address_cut', request(214, 0xA01, mover_listen(0, 1)[:7]), '214 bad'),
     ('mover_listen_empty', request(215, 0xA01), '215 bad'),
-    ('mover_connect_tcp', request(216, 0xA09, mover_connect(0, tcp(0xC0000201, 10000, [P]))), '216 MOVER_CONNECT mode 0 address 1'),
-    ('mover_connect_tcp_rubbish', request(217, 0xA09, mover_connect(2, word(1)) + b'\xff\xff'), '217 MOVER_CONNECT mode 2 address 1'),
+    ('mover_connect_tcp', request(216, 0xA09, mover_connect(0, tcp([AP]))), '216 MOVER_CONNECT mode 0 address 1 addresses 1'),
+    ('mover_connect_tcp_rubbish', request(217, 0xA09, mover_connect(2, word(1)) + b'\xff\xff'), '217 bad'),
     ('mover_connect_left_over', request(218, 0xA09, mover_connect(0, local()) + b'\0'), '218 bad'),
     ('mover_connect_no_address', request(219, 0xA09, word(0)), '219 bad'),
     ('window_high', request(220, 0xA05, set_window(18446744073709549568, 1024)),
@@ -404,10 +411,66 @@ FILL = [
     ('fill_recover_name_fourth', request(247, 0x402, recover_of(word(0, 0, 0), opaque(b'abcde', b'\0\0\1'))), '247 bad'),
     ('fill_recover_method', request(248, 0x402, listed([]) + listed([]) + opaque(b'dum', b'\1')), '248 bad'),
     ('fill_behind_auth_type_unread', request(249, 0x901, word(2) + opaque(b'admin', b'\0\0\1')), '249 CONNECT_CLIENT_AUTH other'),
-    ('fill_behind_address_type_unread', request(250, 0x409, data_listen(1) + opaque(b'a', b'\0\0\1')), '250 DATA_LISTEN address 1'),
+    ('fill_behind_address_type_unread', request(250, 0x409, data_listen(3) + opaque(b'a', b'\0\0\1')), '250 DATA_LISTEN address 3'),
 ]
 
-SAMPLES = HANDLED + FRAMES + UNKNOWN + CONNECT + BARE + SCSI + TAPE + DATA + MOVER + FILL
+
+def with_port(port):
+    return tcp([A, address(0xC0000201, port, [])])
+
+
+def with_pairs(count):
+    return tcp([address(0xC0000201, 10000, [P] * count), A])
+
+
+# paper 02, 14: "lists of up to 16 addresses, each with up to 64 environment pairs (more, or a port above 65,535, is 18)"; "type 1 no longer leaves
+# bytes unread". An empty list decodes.
+TCP = [
+    ('data_listen_tcp_left_over_1', request(251, 0x409, data_listen(1) + b'\0'), '251 bad'),
+    ('data_listen_tcp_left_over_4', request(252, 0x409, data_listen(1) + word(0)), '252 bad'),
+    ('data_listen_tcp_addresses', request(253, 0x409, tcp([A])), '253 bad'),
+    ('data_listen_2_rubbish', request(254, 0x409, data_listen(2) + b'\xff\xfe\xfd'), '254 DATA_LISTEN address 2'),
+    ('data_connect_tcp_0', request(255, 0x40A, data_connect(tcp([]))), '255 DATA_CONNECT address 1 addresses 0'),
+    ('data_connect_tcp_16', request(256, 0x40A, data_connect(tcp([A] * 16))), '256 DATA_CONNECT address 1 addresses 16'),
+    ('data_connect_tcp_17', request(257, 0x40A, data_connect(tcp([A] * 17))), '257 bad'),
+    ('data_connect_tcp_count_17_only', request(258, 0x40A, word(1, 17)), '258 bad'),
+    ('data_connect_tcp_count_all_ones', request(259, 0x40A, word(1, 4294967295) + A), '259 bad'),
+    ('data_connect_tcp_15_of_16', request(260, 0x40A, word(1, 16) + A * 15), '260 bad'),
+    ('data_connect_tcp_16_of_17', request(261, 0x40A, word(1, 16) + A * 17), '261 bad'),
+    ('data_connect_tcp_64_pairs', request(262, 0x40A, data_connect(with_pairs(64))), '262 DATA_CONNECT address 1 addresses 2'),
+    ('data_connect_tcp_65_pairs', request(263, 0x40A, data_connect(with_pairs(65))), '263 bad'),
+    ('data_connect_tcp_count_65_pairs', request(264, 0x40A, word(1, 1, 0, 0, 65)), '264 bad'),
+    ('data_connect_tcp_16_of_64_pairs', request(265, 0x40A, data_connect(tcp([address(1, 1, [P] * 64)] * 16))), '265 DATA_CONNECT address 1 addresses 16'),
+    ('data_connect_tcp_port_65535', request(266, 0x40A, data_connect(with_port(65535))), '266 DATA_CONNECT address 1 addresses 2'),
+    ('data_connect_tcp_port_65536', request(267, 0x40A, data_connect(with_port(65536))), '267 bad'),
+    ('data_connect_tcp_port_all_ones', request(268, 0x40A, data_connect(with_port(4294967295))), '268 bad'),
+    ('data_connect_tcp_port_0_host_all_ones', request(269, 0x40A, data_connect(tcp([address(4294967295, 0, [])]))), '269 DATA_CONNECT address 1 addresses 1'),
+    ('data_connect_tcp_left_over_1', request(270, 0x40A, data_connect(tcp([A])) + b'\0'), '270 bad'),
+    ('data_connect_tcp_left_over_4', request(271, 0x40A, data_connect(tcp([A])) + word(0)), '271 bad'),
+    ('data_connect_tcp_bare', request(272, 0x40A, word(1)), '272 bad'),
+    ('data_connect_tcp_no_pairs_word', request(273, 0x40A, word(1, 1, 0xC0000201, 10000)), '273 bad'),
+    ('data_connect_tcp_no_port', request(274, 0x40A, word(1, 1, 0xC0000201)), '274 bad'),
+    ('data_connect_tcp_pair_cut', request(275, 0x40A, data_connect(tcp([AP]))[:-8]), '275 bad'),
+    ('data_connect_tcp_fill', request(276, 0x40A, tcp([address(1, 1, [opaque(b'E', b'\0\0\1') + opaque(b'1')])])), '276 bad'),
+    ('mover_listen_tcp_left_over_1', request(277, 0xA01, mover_listen(0, 1) + b'\0'), '277 bad'),
+    ('mover_listen_tcp_left_over_4', request(278, 0xA01, mover_listen(0, 1) + word(0)), '278 bad'),
+    ('mover_listen_tcp_addresses', request(279, 0xA01, word(0) + tcp([A])), '279 bad'),
+    ('mover_listen_2_rubbish', request(280, 0xA01, mover_listen(1, 2) + b'\xff'), '280 MOVER_LISTEN mode 1 address 2'),
+    ('mover_connect_tcp_0', request(281, 0xA09, mover_connect(0, tcp([]))), '281 MOVER_CONNECT mode 0 address 1 addresses 0'),
+    ('mover_connect_tcp_16', request(282, 0xA09, mover_connect(1, tcp([AP] * 16))), '282 MOVER_CONNECT mode 1 address 1 addresses 16'),
+    ('mover_connect_tcp_17', request(283, 0xA09, mover_connect(1, tcp([A] * 17))), '283 bad'),
+    ('mover_connect_tcp_64_pairs', request(284, 0xA09, mover_connect(7, with_pairs(64))), '284 MOVER_CONNECT mode 7 address 1 addresses 2'),
+    ('mover_connect_tcp_65_pairs', request(285, 0xA09, mover_connect(7, with_pairs(65))), '285 bad'),
+    ('mover_connect_tcp_port_65535', request(286, 0xA09, mover_connect(0, with_port(65535))), '286 MOVER_CONNECT mode 0 address 1 addresses 2'),
+    ('mover_connect_tcp_port_65536', request(287, 0xA09, mover_connect(0, with_port(65536))), '287 bad'),
+    ('mover_connect_tcp_left_over_1', request(288, 0xA09, mover_connect(0, tcp([A])) + b'\0'), '288 bad'),
+    ('mover_connect_tcp_left_over_4', request(289, 0xA09, mover_connect(0, tcp([A])) + word(0)), '289 bad'),
+    ('mover_connect_tcp_bare', request(290, 0xA09, mover_connect(0, word(1))), '290 bad'),
+    ('mover_connect_tcp_fill', request(291, 0xA09, mover_connect(0, tcp([address(1, 1, [opaque(b'E') + opaque(b'1', b'\1\0\0')])]))), '291 bad'),
+    ('mover_connect_2_rubbish', request(292, 0xA09, mover_connect(1, word(2)) + b'\xff\xff'), '292 MOVER_CONNECT mode 1 address 2 addresses 0'),
+]
+
+SAMPLES = HANDLED + FRAMES + UNKNOWN + CONNECT + BARE + SCSI + TAPE + DATA + MOVER + FILL + TCP
 
 
 def vector(own, data, expected):

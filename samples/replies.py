@@ -1,7 +1,7 @@
 #!/usr/bin/env python3
 """Writes what the program run_replies is to print: replies and notices as they are sent.
 
-The bodies are built from 004's layouts (Appendix C, by the lines named) with the values that paper 01 gives; none is taken from the
+The bodies are built from 004's layouts (Appendix C, by the lines named) with the values that papers 01 and 02 give; none is taken from the
 program. Of each there is a line with its name and length, then its bytes, seven words to a line: the mark and the header, then the
 body. The word aaaaaaaa behind it is the output as it was before.
 """
@@ -17,6 +17,15 @@ def notice(sequence, time, message, body):
 
 
 LOCAL = word(0)  # ndmp_addr, line 13591: NDMP_ADDR_LOCAL 0, nothing more
+
+
+def tcp(addresses):  # the same: NDMP_ADDR_TCP 1, then tcp_addr<>
+    return word(1) + listed(addresses)
+
+
+def tcp_addr(address, port, pairs):  # ndmp_tcp_addr, line 13579: ip_addr, port, addr_env<>
+    env = [opaque(name) + opaque(value) for name, value in pairs]
+    return bytes(int(part) for part in address.split('.')) + word(port) + listed(env)
 
 
 # ---- bodies, by their structures in Appendix C
@@ -92,8 +101,8 @@ SAMPLES = [
     ('plain_refused', reply(4, 1004, 0xA05, 504, error_only(26))),
     ('listening', reply(5, 1005, 0x409, 505, listen(0, LOCAL))),
     ('listening_refused', reply(6, 1006, 0xA01, 506, listen(19, LOCAL))),
-    # "Connection types: LOCAL 0"; refused, the list is empty
-    ('connection_types', reply(7, 1007, 0x102, 507, connection_type(0, [0]))),
+    # paper 02: "Connection types lists 0 and 1"; refused, the list is empty
+    ('connection_types', reply(7, 1007, 0x102, 507, connection_type(0, [0, 1]))),
     ('connection_types_refused', reply(8, 1008, 0x102, 508, connection_type(4, []))),
     # "empty strings before auth, then `vault`, `tape`, `1`; its auth list is type 1"
     ('server_info_before_auth', reply(9, 1009, 0x108, 509, server_info(0, b'', b'', b'', [1]))),
@@ -140,6 +149,14 @@ SAMPLES = [
     ('tape_mtio_refused', reply(44, 1044, 0x303, 544, mtio(19, 0))),
     ('tape_write_refused', reply(45, 1045, 0x304, 545, tape_write(19, 0))),
     ('tape_read_refused', reply(46, 1046, 0x305, 546, tape_read(19, b''))),
+    # paper 02: "A listen by TCP answers the XDR list that the host lends with its call; get state gives the type, until
+    # stop, with no addresses"
+    ('listening_tcp', reply(47, 1047, 0x409, 547, listen(0, tcp([
+        tcp_addr('10.0.0.1', 10000, [(b'A', b'1')]), tcp_addr('192.168.1.1', 65535, [])])))),
+    ('listening_local_lent_a_list', reply(48, 1048, 0xA01, 548, listen(0, LOCAL))),
+    ('data_state_tcp', reply(49, 1049, 0x400, 549, data_state(1 + 2, 0, 1, 1, 0, 0, 0, 0, tcp([]), 0, 0))),
+    ('mover_state_tcp', reply(50, 1050, 0xA00, 550, mover_state(
+        0, 0, 2, 0, 0, 10240, 7, 71680, 0, 0, 0, 2**64 - 1, tcp([])))),
 ]
 
 

@@ -32,7 +32,17 @@ fn begin() -> Session {
 // One record.
 fn ask(s: Session, image: &mut [u8], input: &[u8]) -> Session {
     let mut out = [0u8; codes::LARGEST_MESSAGE];
-    let a = call_request::request(s, b"vault", b"noon", image, input, TIME, &mut out);
+    let a = call_request::request(
+        s,
+        b"vault",
+        b"noon",
+        b"",
+        false,
+        image,
+        input,
+        TIME,
+        &mut out,
+    );
     show(a.code, a.len, &out);
     a.session
 }

@@ -28,10 +28,11 @@ pub fn ask(label: &[u8], s: Session, image: &mut [u8], message: u32, body: &[u32
     answer(s, image, &record[..end])
 }
 
-// A record, and the body of its reply.
+// A record, and the body of its reply. A list of one address is lent, 127.0.0.1 and port 10,000: only a listen by TCP looks at it.
 fn answer(s: Session, image: &mut [u8], record: &[u8]) -> Session {
     let mut out = [0u8; codes::LARGEST_MESSAGE];
-    let a = call_request::request(s, b"v", b"pw", image, record, 0, &mut out);
+    let list = [0, 0, 0, 1, 127, 0, 0, 1, 0, 0, 39, 16, 0, 0, 0, 0];
+    let a = call_request::request(s, b"v", b"pw", &list, false, image, record, 0, &mut out);
     put(b":");
     put_body(&out, a.len);
     a.session
@@ -89,9 +90,13 @@ pub fn listen(s: Session, image: &mut [u8]) -> Session {
     ask(b"  mover listen", s, image, 2561, &[0, 0])
 }
 
-// What a move came to.
-fn show(s: Session, count: usize) {
-    put_number(b": taken ", count as u64);
+// Mover listen, in mode 0 by TCP.
+pub fn listen_tcp(s: Session, image: &mut [u8]) -> Session {
+    ask(b"  mover listen by TCP", s, image, 2561, &[0, 1])
+}
+
+// What a move or an event came to.
+fn show(s: Session) {
     put_number(b", state ", s.mover.state as u64);
     put_number(b", pause ", s.mover.pause as u64);
     put_number(b", halt ", s.mover.halt as u64);
@@ -109,8 +114,9 @@ fn feed(s: Session, image: &mut [u8], stream: &[u8], last: bool) -> Session {
     if last {
         put(b", the last");
     }
+    put_number(b": taken ", r.count as u64);
     let next = r.session;
-    show(next, r.count);
+    show(next);
     next
 }
 
@@ -120,4 +126,22 @@ pub fn feed_from(s: Session, image: &mut [u8], stream: &[u8], at: usize, last: b
         return s;
     }
     feed(s, image, &stream[at..], last)
+}
+
+// The mover's connection is made.
+pub fn make(s: Session) -> Session {
+    let mut out = [0u8; codes::LARGEST_MESSAGE];
+    let a = call_moves::made(s, true, 0, &mut out);
+    put(b"  made");
+    let next = a.session;
+    show(next);
+    next
+}
+
+// The mover's connection is lost.
+pub fn lose(s: Session) {
+    let mut out = [0u8; codes::LARGEST_MESSAGE];
+    let a = call_moves::lost(s, true, 0, &mut out);
+    put(b"  lost");
+    show(a.session);
 }

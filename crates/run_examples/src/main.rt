@@ -1,5 +1,5 @@
-// Runs the examples of the rules, cases a to j, on the calls themselves, and prints what each call gave. `rules_moves::examples_hold` proves the
-// same cases of the definitions.
+// Runs the examples of the rules, cases a to j, and a mover by TCP, on the calls themselves, and prints what each call gave.
+// `rules_cases::examples_hold` proves the same cases of the definitions.
 ghost use Prim.Native.Nat.{_≤_};
 
 mod calls; // calls.rt: the calls of a case, each printed
@@ -125,6 +125,17 @@ fn case_j() {
     put(b"\n");
 }
 
+// A mover by TCP: its connection is made, a record comes, and the connection is lost.
+fn case_tcp(stream: &[u8]) {
+    put(b"by TCP\n");
+    let mut image = blank();
+    let s = set_first(&mut image, 2048);
+    let listening = calls::listen_tcp(s, &mut image);
+    let joined = calls::make(listening);
+    let fed = calls::feed_from(joined, &mut image, stream, 0, false);
+    calls::lose(fed);
+}
+
 fn main() {
     window_case(b"a\n", 0, 4096);
     window_case(b"b\n", 512, 4096);
@@ -141,4 +152,5 @@ fn main() {
     }
     cases_g_to_i(&stream);
     case_j();
+    case_tcp(&stream);
 }

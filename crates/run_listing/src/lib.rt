@@ -68,7 +68,7 @@ pub fn list(image: &[u8]) {
         refuse();
         return;
     }
-    if tape_image::sound(image) {
+    if tape_sound::sound(image) {
         put_header(image);
         put_entries(image);
     } else {

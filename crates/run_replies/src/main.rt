@@ -168,6 +168,7 @@ fn data_states() {
         operation: 2,
         state: 1,
         reason: 0,
+        address: 0,
         processed: 0xFEDC_BA98_7654_3210,
     };
     send(
@@ -183,6 +184,7 @@ fn data_states() {
         operation: 1,
         state: 2,
         reason: 4,
+        address: 0,
         processed: 3000,
     };
     send(
@@ -204,6 +206,7 @@ fn mover_states() {
         pause: 5,
         halt: 0,
         size: 32768,
+        address: 0,
         number: 0x8765_4321,
         moved: 0x0123_4567_89AB_CDEF,
         seek: 0xFFFF_FFFF_FFFF_FFFE,
@@ -243,6 +246,72 @@ fn refusals() {
     refuse(b"tape_read_refused", 46, 1046, 0x305, 546, 0, 19, 1);
 }
 
+// Two addresses: 10.0.0.1 and port 10,000 with the pair of A and 1, and 192.168.1.1 and port 65,535 with none.
+fn listens() {
+    let list =
+        b"\x00\x00\x00\x02\x0A\x00\x00\x01\x00\x00\x27\x10\x00\x00\x00\x01\x00\x00\x00\x01A\x00\x00\x00\x00\x00\x00\x011\x00\x00\x00\xC0\xA8\x01\x01\x00\x00\xFF\xFF\x00\x00\x00\x00";
+    send(
+        b"listening_tcp",
+        47,
+        1047,
+        0x409,
+        547,
+        Reply::ListeningTcp,
+        list,
+    );
+    send(
+        b"listening_local_lent_a_list",
+        48,
+        1048,
+        0xA01,
+        548,
+        Reply::Listening,
+        list,
+    );
+}
+
+fn states_by_tcp() {
+    let joined = DataView {
+        operation: 1,
+        state: 1,
+        reason: 0,
+        address: 1,
+        processed: 0,
+    };
+    send(
+        b"data_state_tcp",
+        49,
+        1049,
+        0x400,
+        549,
+        Reply::DataState(joined),
+        b"",
+    );
+    let active = MoverView {
+        mode: 0,
+        state: 2,
+        pause: 0,
+        halt: 0,
+        size: 10240,
+        address: 1,
+        number: 7,
+        moved: 71680,
+        seek: 0,
+        left: 0,
+        offset: 0,
+        length: 0xFFFF_FFFF_FFFF_FFFF,
+    };
+    send(
+        b"mover_state_tcp",
+        50,
+        1050,
+        0xA00,
+        550,
+        Reply::MoverState(active),
+        b"",
+    );
+}
+
 fn main() {
     plain();
     config();
@@ -255,4 +324,6 @@ fn main() {
     notices();
     answer();
     refusals();
+    listens();
+    states_by_tcp();
 }

@@ -17,7 +17,7 @@ fn put_reply(
     requires { ⌜ Sending reply (now image) ⌝ }
     ensures { λ r. ⌜ r ≤ 32804 ⌝ }
 {
-    wire_replies::write_reply(out, sequence, time, message, echo, reply, image)
+    wire_writing::write_reply(out, sequence, time, message, echo, reply, image)
 }
 
 fn put_notice(
@@ -30,7 +30,7 @@ fn put_notice(
     requires { ⌜ at ≤ 36000 ⌝ }
     ensures { λ r. ⌜ r ≤ at + 40 ⌝ }
 {
-    wire_replies::write_notice(out, at, sequence, time, notice)
+    wire_writing::write_notice(out, at, sequence, time, notice)
 }
 
 pub fn send(

@@ -19,7 +19,7 @@ const LARGEST_INPUT: usize = 1_048_576;
 fn show_request(number: u32, body: &[u8]) {
     let row = wire_frame::row_of(number);
     let kind = row.kind;
-    let r = wire_requests::decode(kind, body);
+    let r = wire_decoding::decode(kind, body);
     match r {
         Request::Connect(k) => shown::connect(k, body),
         Request::Config(k) => shown::config(k),

@@ -100,12 +100,16 @@ pub fn mover(r: MoverRequest) {
 pub fn joint(r: JointRequest) {
     match r {
         JointRequest::DataAbort => put(b" DATA_ABORT"),
-        JointRequest::DataConnect(kind) => put_word(b" DATA_CONNECT address ", kind),
+        JointRequest::DataConnect(kind, count) => {
+            put_word(b" DATA_CONNECT address ", kind);
+            put_word(b" addresses ", count);
+        }
         JointRequest::MoverAbort => put(b" MOVER_ABORT"),
         JointRequest::MoverClose => put(b" MOVER_CLOSE"),
-        JointRequest::MoverConnect(mode, kind) => {
+        JointRequest::MoverConnect(mode, kind, count) => {
             put_word(b" MOVER_CONNECT mode ", mode);
             put_word(b" address ", kind);
+            put_word(b" addresses ", count);
         }
     }
 }

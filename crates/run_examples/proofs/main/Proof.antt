@@ -8,6 +8,7 @@ use Rattle.run_examples.proofs.main.Reads as reads
 use Rattle.run_examples.proofs.main.Lts as lts
 use Rattle.run_examples.proofs.case_c.Reads as case-c-reads
 use Rattle.run_examples.proofs.case_j.Reads as case-j-reads
+use Rattle.run_examples.proofs.case_tcp.Reads as case-tcp-reads
 use Rattle.run_examples.proofs.cases_g_to_i.Reads as cases-g-to-i-reads
 use Rattle.run_examples.proofs.window_case.Reads as window-case-reads
 
@@ -83,6 +84,12 @@ cases-g-to-i-requires c κs = search needs
 case-j-requires : tie.Need-case-j-requires Inv-loop μ-loop
 case-j-requires c κs = search needs
 
+slice-aggregate-case-tcp : tie.Need-slice-aggregate-case-tcp Inv-loop μ-loop
+slice-aggregate-case-tcp c = search needs
+
+case-tcp-requires : tie.Need-case-tcp-requires Inv-loop μ-loop
+case-tcp-requires c κs = search needs
+
 returns : tie.Need-returns Inv-loop μ-loop
 returns c = search needs
 
@@ -114,4 +121,6 @@ main-spec =
     slice-aggregate-cases-g-to-i
     cases-g-to-i-requires
     case-j-requires
+    slice-aggregate-case-tcp
+    case-tcp-requires
     returns)
