@@ -2,11 +2,12 @@
 
 use std::collections::BTreeMap;
 
+use crate::lists;
 use crate::model::requests::HANDLED;
 use crate::script::Step;
 use crate::world::{Seen, World};
-use proved::Session;
-use wire::word;
+use proved::{Data, Mover, Session};
+use wire::{word, word_at};
 
 #[derive(Default)]
 pub struct Counts(BTreeMap<String, u64>);
@@ -58,11 +59,169 @@ const EDGES: [&str; 11] = [
     "a table of 4,096 entries",
 ];
 
+/// The ends by state and address type, but for those that are joined to each other.
+const DATA_APART: [&str; 7] =
+    ["IDLE", "LISTEN LOCAL", "LISTEN TCP", "CONNECTED TCP", "ACTIVE TCP", "HALTED LOCAL", "HALTED TCP"];
+const MOVER_APART: [&str; 7] =
+    ["IDLE", "LISTEN LOCAL", "LISTEN TCP", "ACTIVE TCP", "PAUSED TCP", "HALTED LOCAL", "HALTED TCP"];
+/// Those that are.
+const DATA_JOINED: [&str; 2] = ["CONNECTED LOCAL", "ACTIVE LOCAL"];
+const MOVER_JOINED: [&str; 2] = ["ACTIVE LOCAL", "PAUSED LOCAL"];
+
+/// The requests that an end by TCP accepts, each with the states that it does so in.
+const ACCEPTED: [(u32, &[&str]); 13] = [
+    (0x400, &["LISTEN", "CONNECTED", "ACTIVE", "HALTED"]),
+    (0x401, &["CONNECTED"]),
+    (0x402, &["CONNECTED"]),
+    (0x403, &["LISTEN", "CONNECTED", "ACTIVE"]),
+    (0x407, &["HALTED"]),
+    (0xa00, &["LISTEN", "ACTIVE", "PAUSED", "HALTED"]),
+    (0xa02, &["PAUSED"]),
+    (0xa03, &["LISTEN", "ACTIVE", "PAUSED"]),
+    (0xa04, &["HALTED"]),
+    (0xa05, &["PAUSED"]),
+    (0xa06, &["ACTIVE"]),
+    (0xa07, &["PAUSED"]),
+    (0x302, &["LISTEN", "ACTIVE", "PAUSED", "HALTED"]),
+];
+
 /// The requests that are refused with 26 for a record size 0: set window, mover listen, mover connect.
 const SIZED: [u32; 3] = [0xa05, 0xa01, 0xa09];
 
 /// 02 No. 9: "26 for record size 0 is never given afterwards", but on a session that was handed in.
 const NEVER: &str = "size 0: on a session that calls alone made";
+
+const TO_TAPE: [&str; 9] = [
+    "(1) not running",
+    "(2) fault",
+    "(3) end",
+    "(4) EOW",
+    "(4) EOW before a record that would pass the end",
+    "(5) waits",
+    "(6) EOM",
+    "(7) whole record",
+    "(7) filled record",
+];
+
+const FROM_TAPE: [&str; 13] = [
+    "not running",
+    "fault",
+    "nothing left",
+    "no destination room",
+    "SEEK before the window",
+    "SEEK after the window",
+    "EOF on the way",
+    "EOF at the target",
+    "EOM",
+    "record of another length",
+    "handed over, all that was left",
+    "handed over, the record's rest",
+    "handed over, the destination's room",
+];
+
+/// The calls that take a session.
+const CALLS: [&str; 8] = [
+    "request",
+    "to tape",
+    "from tape",
+    "method's end",
+    "made of data",
+    "made of mover",
+    "lost of data",
+    "lost of mover",
+];
+
+/// What 02 No. 14 adds but for rules, pairs and calls, which stand with the others.
+fn wanted_by_tcp() -> Vec<String> {
+    let mut all = vec![];
+    // Each event on its end in each state and type.
+    for event in ["made", "lost"] {
+        all.extend(DATA_APART.iter().chain(&DATA_JOINED).map(|end| format!("{event} of data in {end}")));
+        all.extend(MOVER_APART.iter().chain(&MOVER_JOINED).map(|end| format!("{event} of mover in {end}")));
+    }
+    // Each request of an end by TCP, and the tape's while the mover has it.
+    for (message, states) in ACCEPTED {
+        all.extend(states.iter().map(|state| format!("by TCP, {message:03x} 0 in {state}")));
+    }
+    for message in [0x301, 0x303, 0x304, 0x305] {
+        all.extend(["LISTEN", "ACTIVE"].map(|state| format!("by TCP, {message:03x} 19 in {state}")));
+    }
+    // A connect and a move by TCP, beside the other end in each state and type.
+    all.extend(MOVER_APART.map(|end| format!("by TCP, 40a beside {end}")));
+    for beside in ["a09", "to tape", "from tape"] {
+        all.extend(DATA_APART.map(|end| format!("by TCP, {beside} beside {end}")));
+    }
+    all.extend(wanted_lists());
+    all
+}
+
+/// Lists of each kind, lent and in a connect; and what else may stand behind an address type or be lent with it.
+fn wanted_lists() -> Vec<String> {
+    let mut all = vec![];
+    for (kind, _, decodes) in lists::kinds() {
+        let (lent, sent) = match kind {
+            "no address" => (9, 9),
+            "above 16,384 bytes" => (9, 0),
+            _ => (if decodes { 0 } else { 9 }, if decodes { 0 } else { 18 }),
+        };
+        all.extend(["409", "a01"].map(|message| format!("list {message} {kind}: {lent}")));
+        all.extend(["40a", "a09"].map(|message| format!("list {message} {kind}: {sent}")));
+    }
+    for message in ["409", "a01"] {
+        all.push(format!("address {message} TCP and bytes left over: 18"));
+        all.push(format!("address {message} other and a rest: 9"));
+        all.push(format!("address {message} LOCAL, lent a list: 0"));
+    }
+    for message in ["40a", "a09"] {
+        all.push(format!("address {message} other and a rest: 9"));
+        all.push(format!("address {message} TCP, failed: 23"));
+        all.push(format!("address {message} LOCAL, the other listens by TCP: 23"));
+        all.push(format!("address {message} LOCAL, lent failed: 0"));
+    }
+    all
+}
+
+/// An end by its state and address type; IDLE has one type only.
+fn data_end(end: &Data) -> String {
+    by_type(end.state_name(), end.address)
+}
+
+fn mover_end(end: &Mover) -> String {
+    by_type(end.state_name(), end.address)
+}
+
+fn by_type(state: &str, address: u32) -> String {
+    match address {
+        0 if state == "IDLE" => state.into(),
+        0 => format!("{state} LOCAL"),
+        _ => format!("{state} TCP"),
+    }
+}
+
+/// The call by its name, and whether the end that it is of is joined by TCP.
+fn call_name(step: &Step, before: &Session) -> Option<(&'static str, bool)> {
+    let (data, mover) = (before.source.address == 1, before.mover.address == 1);
+    Some(match step {
+        Step::Open { .. } => ("open", false),
+        Step::Request { .. } => ("request", false),
+        Step::To { .. } => ("to tape", mover),
+        Step::From { .. } => ("from tape", mover),
+        Step::End { .. } => ("method's end", data),
+        Step::Made { mover: false, .. } => ("made of data", false),
+        Step::Made { mover: true, .. } => ("made of mover", false),
+        Step::Lost { mover: false, .. } => ("lost of data", false),
+        Step::Lost { mover: true, .. } => ("lost of mover", false),
+        Step::Account(..) | Step::Image(_) | Step::Session(_) => return None,
+    })
+}
+
+/// The number of the reply that was sent.
+fn number(sent: &[u8]) -> Option<u32> {
+    let replied = sent.len() >= 28 && word(sent, 12) == 1;
+    let length = replied.then(|| (word(sent, 0) & 0x7fff_ffff) + 4)?;
+    let place = if matches!(word(sent, 16), 0x302 | 0x400) { 32 } else { 28 };
+    Some(if length == 28 { word(sent, 24) } else { word(sent, place) })
+}
 
 /// Everything that has to be reached at least once.
 pub fn wanted() -> Vec<String> {
@@ -85,61 +244,34 @@ pub fn wanted() -> Vec<String> {
         all.extend(numbers.iter().map(|n| format!("mtio op {op} {n}")));
     }
     all.push("mtio op 5 count 0".into());
-    // Pairs that calls reach. PAUSED needs data ACTIVE, and only joined ends are CONNECTED, ACTIVE or PAUSED.
-    for d in ["IDLE", "HALTED", "LISTEN"] {
-        for m in ["IDLE", "LISTEN", "HALTED"] {
-            all.push(format!("pair {d} {m}"));
-        }
+    // Pairs that calls reach: each end apart with each other, and the joined ones. PAUSED by LOCAL needs data ACTIVE.
+    for d in DATA_APART {
+        all.extend(MOVER_APART.map(|m| format!("pair {d}, {m}")));
     }
-    for pair in ["CONNECTED ACTIVE", "ACTIVE ACTIVE", "ACTIVE PAUSED"] {
+    for pair in ["CONNECTED LOCAL, ACTIVE LOCAL", "ACTIVE LOCAL, ACTIVE LOCAL", "ACTIVE LOCAL, PAUSED LOCAL"] {
         all.push(format!("pair {pair}"));
     }
     // A session that is handed in can have this one too.
-    all.push("handed in: pair CONNECTED PAUSED".into());
-    for rule in [
-        "(1) not running",
-        "(2) fault",
-        "(3) end",
-        "(4) EOW",
-        "(4) EOW before a record that would pass the end",
-        "(5) waits",
-        "(6) EOM",
-        "(7) whole record",
-        "(7) filled record",
-    ] {
-        all.push(format!("to tape {rule}"));
+    all.push("handed in: pair CONNECTED LOCAL, PAUSED LOCAL".into());
+    for by in ["", "by TCP, "] {
+        all.extend(TO_TAPE.map(|rule| format!("{by}to tape {rule}")));
+        all.extend(FROM_TAPE.map(|rule| format!("{by}from tape {rule}")));
+        all.extend(["not active", "successful", "internal error"].map(|r| format!("{by}method's end {r}")));
     }
-    for rule in [
-        "not running",
-        "fault",
-        "nothing left",
-        "no destination room",
-        "SEEK before the window",
-        "SEEK after the window",
-        "EOF on the way",
-        "EOF at the target",
-        "EOM",
-        "record of another length",
-        "handed over, all that was left",
-        "handed over, the record's rest",
-        "handed over, the destination's room",
-    ] {
-        all.push(format!("from tape {rule}"));
-    }
-    all.extend(["not active", "successful", "internal error"].map(|r| format!("method's end {r}")));
+    all.extend(wanted_by_tcp());
     all.extend(["badly framed", "ignored", "closing"].map(|r| format!("request {r}")));
     all.push("notice 502 0".into());
     all.extend([1, 2, 3, 4].map(|r| format!("notice 501 {r}")));
     all.extend([1, 2, 5].map(|r| format!("notice 503 {r}")));
     all.extend([1, 2, 3, 5].map(|r| format!("notice 504 {r}")));
-    for call in ["request", "to tape", "from tape", "method's end"] {
+    for call in CALLS {
         all.push(format!("{call} 1001"));
         all.push(format!("{call} 1002"));
         all.push(format!("{call} closed"));
     }
     all.push("open 1001".into());
     all.extend(SIZED.map(|message| format!("size 0: reply {message:03x} 26")));
-    all.extend((1..=8).map(|line| format!("1002 line {line}")));
+    all.extend((1..=10).map(|line| format!("1002 line {line}")));
     all.extend(EDGES.map(|e| format!("edge {e}")));
     all.extend(
         ["counter wraps", "moved wraps", "processed wraps", "closed and 1001", "closed and 1002"].map(String::from),
@@ -154,14 +286,7 @@ impl Counts {
 
     pub fn note(&mut self, step: &Step, seen: &Seen, before: &Session, world: &World) {
         let given = &seen.given;
-        let call = match step {
-            Step::Open { .. } => "open",
-            Step::Request { .. } => "request",
-            Step::To { .. } => "to tape",
-            Step::From { .. } => "from tape",
-            Step::End { .. } => "method's end",
-            _ => return,
-        };
+        let Some((call, tcp)) = call_name(step, before) else { return };
         if given.code != 0 {
             self.add(format!("{call} {}", given.code));
             if given.code == 1002 {
@@ -172,7 +297,11 @@ impl Counts {
             }
             return;
         }
-        self.add(format!("{call} {}", given.rule));
+        self.add(format!("{}{call} {}", if tcp { "by TCP, " } else { "" }, given.rule));
+        if !seen.closed_before {
+            self.ends(step, call, given.count, before);
+            self.addresses(step, &given.sent, before);
+        }
         self.messages(step, &given.sent);
         self.sizes(&given.sent, before, world.natural);
         let after = &world.session;
@@ -188,8 +317,81 @@ impl Counts {
             }
         }
         self.edges(step, given.count, &given.sent, before, world);
-        let pair = format!("pair {} {}", after.source.state_name(), after.mover.state_name());
+        let pair = format!("pair {}, {}", data_end(&after.source), mover_end(&after.mover));
         self.add(if world.natural { pair } else { format!("handed in: {pair}") });
+    }
+
+    /// The events by the end that they meet, and the moves by TCP by the data end beside them.
+    fn ends(&mut self, step: &Step, call: &str, count: usize, before: &Session) {
+        match step {
+            Step::Made { mover: false, .. } | Step::Lost { mover: false, .. } => {
+                self.add(format!("{call} in {}", data_end(&before.source)));
+            }
+            Step::Made { .. } | Step::Lost { .. } => self.add(format!("{call} in {}", mover_end(&before.mover))),
+            Step::To { .. } | Step::From { .. } if count > 0 && before.mover.address == 1 => {
+                self.add(format!("by TCP, {call} beside {}", data_end(&before.source)));
+            }
+            _ => {}
+        }
+    }
+
+    /// Requests by the address types of the ends, and of the listens and connects themselves.
+    fn addresses(&mut self, step: &Step, sent: &[u8], before: &Session) {
+        let (Step::Request { made, list, input, .. }, Some(number)) = (step, number(sent)) else { return };
+        let message = word(input, 16);
+        let data = (0x400..0x500).contains(&message);
+        let (address, state) = match data {
+            true => (before.source.address, before.source.state_name()),
+            false => (before.mover.address, before.mover.state_name()),
+        };
+        let told = ACCEPTED.iter().any(|(m, _)| *m == message && number == 0) || message >> 8 == 3 && number == 19;
+        if address == 1 && told {
+            self.add(format!("by TCP, {message:03x} {number} in {state}"));
+        }
+        if !matches!(number, 0 | 9 | 18 | 23) {
+            return;
+        }
+        // Type and what follows it.
+        let place = if data { 28 } else { 32 };
+        let kind = word_at(input, place);
+        let rest = input.get(place + 4..).unwrap_or(&[]);
+        match message {
+            0x409 | 0xa01 => self.listens(message, kind, rest, list, number),
+            0x40a | 0xa09 => self.connects(message, kind, rest, *made, number, before),
+            _ => {}
+        }
+    }
+
+    fn listens(&mut self, message: u32, kind: Option<u32>, rest: &[u8], list: &[u8], number: u32) {
+        match kind {
+            Some(0) if !list.is_empty() => self.add(format!("address {message:03x} LOCAL, lent a list: {number}")),
+            Some(1) if rest.is_empty() => self.add(format!("list {message:03x} {}: {number}", lists::kind(list))),
+            Some(1) => self.add(format!("address {message:03x} TCP and bytes left over: {number}")),
+            Some(2..) if !rest.is_empty() => self.add(format!("address {message:03x} other and a rest: {number}")),
+            _ => {}
+        }
+    }
+
+    fn connects(&mut self, message: u32, kind: Option<u32>, rest: &[u8], made: bool, number: u32, before: &Session) {
+        let (beside, listens) = match message {
+            0x40a => (mover_end(&before.mover), before.mover.state == Mover::LISTEN && before.mover.address == 1),
+            _ => (data_end(&before.source), before.source.state == Data::LISTEN && before.source.address == 1),
+        };
+        match kind {
+            Some(0) if listens => {
+                self.add(format!("address {message:03x} LOCAL, the other listens by TCP: {number}"));
+            }
+            Some(0) if !made => self.add(format!("address {message:03x} LOCAL, lent failed: {number}")),
+            Some(1) if !made => self.add(format!("address {message:03x} TCP, failed: {number}")),
+            Some(1) => {
+                self.add(format!("list {message:03x} {}: {number}", lists::kind(rest)));
+                if number == 0 {
+                    self.add(format!("by TCP, {message:03x} beside {beside}"));
+                }
+            }
+            Some(2..) if !rest.is_empty() => self.add(format!("address {message:03x} other and a rest: {number}")),
+            _ => {}
+        }
     }
 
     /// 26 for a record size 0, and whether it was given, or the size met, where neither may be.
@@ -311,6 +513,11 @@ impl Counts {
             ("to tape", "to tape "),
             ("from tape", "from tape "),
             ("method's end", "method's end "),
+            ("made", "made "),
+            ("lost", "lost "),
+            ("by TCP", "by TCP, "),
+            ("lists of addresses, message kind: number", "list "),
+            ("address types, message: number", "address "),
             ("request", "request "),
             ("open", "open "),
             ("notices, number reason", "notice "),

@@ -3,21 +3,48 @@
 //! relation are tried too.
 
 use crate::convert::session;
+use crate::lists;
 use crate::model::State;
-use crate::model::requests::{HANDLED, decode};
+use crate::model::requests::{HANDLED, address_list, decode};
 use crate::script::Step;
 use proved::Session;
 use wire::{Header, quads, text, words};
 
-/// The pairs of states that keep the ends joined or apart.
-const PAIRS: [(u32, u32); 13] =
-    [(0, 0), (0, 1), (0, 4), (2, 0), (2, 1), (2, 4), (3, 0), (3, 1), (3, 4), (4, 2), (4, 3), (1, 2), (1, 3)];
+/// A data end or a mover: its state and its address type.
+type End = (u32, u32);
+
+/// The ends that are not joined to each other: IDLE, LISTEN and HALTED, and by TCP those that are joined.
+const DATA_APART: [End; 7] = [(0, 0), (2, 0), (3, 0), (1, 1), (2, 1), (3, 1), (4, 1)];
+const MOVER_APART: [End; 7] = [(0, 0), (1, 0), (4, 0), (1, 1), (2, 1), (3, 1), (4, 1)];
+
+/// The pairs that keep the ends joined or apart.
+fn pairs() -> Vec<(End, End)> {
+    let apart = DATA_APART.into_iter().flat_map(|d| MOVER_APART.map(|m| (d, m)));
+    let joined = [4, 1].into_iter().flat_map(|d| [2, 3].map(|m| ((d, 0), (m, 0))));
+    apart.chain(joined).collect()
+}
+
+fn is_local((data, mover): (End, End)) -> bool {
+    (data.1, mover.1) == (0, 0)
+}
 
 const SIZE: u32 = 4;
 
+const ROOM: usize = 36_864;
+
 fn request(message: u32, body: &[u8]) -> Step {
+    lent(message, body, true, vec![])
+}
+
+fn lent(message: u32, body: &[u8], made: bool, list: Vec<u8>) -> Step {
     let input = Header { sequence: 77, time: 5, message, ..Header::default() }.record(body);
-    Step::Request { time: 9, room: 36_864, input }
+    Step::Request { time: 9, room: ROOM, made, list, input }
+}
+
+/// Made and lost, of each end.
+fn events() -> Vec<Step> {
+    let of = |mover| [Step::Made { time: 8, room: ROOM, mover }, Step::Lost { time: 8, room: ROOM, mover }];
+    [of(false), of(true)].concat()
 }
 
 /// Bodies for a message: accepted ones, each way to be wrong, two ways at once, and one that does not decode.
@@ -53,8 +80,11 @@ fn bodies(message: u32) -> Vec<Vec<u8>> {
         0x305 => [0, 3, 4, 32_769].map(|n| words(&[n])).to_vec(),
         0x401 => vec![[text(b"dump"), words(&[0])].concat(), [text(b"tar"), words(&[0])].concat()],
         0x402 => vec![[words(&[0, 0]), text(b"dump")].concat(), [words(&[0, 0]), text(b"tar")].concat()],
-        0x409 | 0x40a => vec![words(&[0]), words(&[1, 5])],
-        0xa01 | 0xa09 => [0, 1, 2].into_iter().flat_map(|mode| [words(&[mode, 0]), words(&[mode, 1])]).collect(),
+        0x409 | 0x40a => addresses(message),
+        0xa01 | 0xa09 => [0, 1, 2]
+            .into_iter()
+            .flat_map(|mode| addresses(message).into_iter().map(move |a| [words(&[mode]), a].concat()))
+            .collect(),
         0xa05 => {
             let all = u64::MAX;
             [(0, 4), (8, 8), (16, 4), (0, 0), (2, 4), (4, 2), (all - 3, 4), (8, all), (2, all), (all - 3, all)]
@@ -71,6 +101,58 @@ fn bodies(message: u32) -> Vec<Vec<u8>> {
     all
 }
 
+/// The address of a listen or a connect: LOCAL, TCP, and another type, with a rest or a list that decodes or does not.
+fn addresses(message: u32) -> Vec<Vec<u8>> {
+    let mut all = vec![words(&[0]), words(&[1]), words(&[1, 0]), words(&[2, 5])];
+    if matches!(message, 0x40a | 0xa09) {
+        let right = words(&[1, 1, 0x0a00_0001, 10_000, 0]);
+        all.extend([[&right[..], &[0]].concat(), right]);
+    }
+    all
+}
+
+/// The requests with a message's bodies. By TCP a listen is lent a list too, and a connect is lent that it failed.
+fn requests(message: u32) -> Vec<Step> {
+    let mut all = vec![];
+    for body in bodies(message) {
+        all.push(request(message, &body));
+        let place = if message < 0xa00 { 0 } else { 4 };
+        let by_tcp = wire::word_at(&body, place) == Some(1);
+        match message {
+            0x409 | 0xa01 if by_tcp => all.push(lent(message, &body, false, words(&[1, 7, 7, 0]))),
+            0x409 | 0xa01 | 0x40a | 0xa09 => all.push(lent(message, &body, false, vec![])),
+            _ => {}
+        }
+    }
+    all
+}
+
+/// 02 No. 14: lists of every kind, lent to each listen and in each connect. The model must decode those that decode, and
+/// no other.
+fn lists() -> Vec<Step> {
+    let mut all = vec![];
+    for (name, list, decodes) in lists::kinds() {
+        assert_eq!(address_list(&list).is_some(), decodes, "{name}");
+        for (message, front) in [(0x409, &[1][..]), (0xa01, &[0, 1]), (0xa01, &[1, 1])] {
+            all.push(lent(message, &words(front), false, list.clone()));
+        }
+        for (message, front) in [(0x40a, &[1][..]), (0xa09, &[0, 1]), (0xa09, &[1, 1])] {
+            let body = [words(front), list.clone()].concat();
+            assert_eq!(decode(message, &body).is_some(), decodes, "{name}");
+            all.extend([false, true].map(|made| lent(message, &body, made, vec![])));
+        }
+    }
+    // A byte less or more does not decode.
+    for (length, change) in lists::LENGTHS.into_iter().flat_map(|n| [-1, 0, 1].map(|change| (n, change))) {
+        let mut list = lists::of_length(length);
+        list.resize(length.wrapping_add_signed(change), 0);
+        assert_eq!(address_list(&list).is_some(), change == 0);
+        all.push(lent(0x409, &words(&[1]), false, list.clone()));
+        all.push(lent(0xa01, &words(&[0, 1]), false, list));
+    }
+    all
+}
+
 /// A field of a body: words as they are, or a text.
 enum Field {
     Words(&'static [u32]),
@@ -78,7 +160,7 @@ enum Field {
 }
 
 /// The messages with texts: their fields, with an environment of one pair and a list of one name.
-const TEXTS: [(u32, &[Field]); 7] = {
+const TEXTS: [(u32, &[Field]); 9] = {
     use Field::{Text, Words};
     [
         (0x901, &[Words(&[1]), Text, Text]),
@@ -88,6 +170,8 @@ const TEXTS: [(u32, &[Field]); 7] = {
         (0x304, &[Text]),
         (0x401, &[Text, Words(&[1]), Text, Text]),
         (0x402, &[Words(&[1]), Text, Text, Words(&[1]), Text, Text, Text, Text, Words(&[0, 1, 0, 2]), Text]),
+        (0x40a, &[Words(&[1, 2, 9, 9, 1]), Text, Text, Words(&[8, 8, 1]), Text, Text]),
+        (0xa09, &[Words(&[0, 1, 2, 9, 9, 1]), Text, Text, Words(&[8, 8, 1]), Text, Text]),
     ]
 };
 
@@ -155,12 +239,23 @@ fn with_window(s: &mut Session, (size, offset, length): (u32, u64, u64)) {
     }
 }
 
+fn with_ends(s: &mut Session, (data, mover): (End, End)) {
+    (s.source.state, s.source.address) = data;
+    (s.mover.state, s.mover.address) = mover;
+}
+
+/// What makes a call of a step, on an image and a session. False ends it all.
+type Each<'a> = &'a mut dyn FnMut(&[u8], &Session, &Step) -> bool;
+
 /// Hands each script's steps over until it answers false: an image and a session, then calls that are each made on that
 /// image and session.
-pub fn all(mut each: impl FnMut(&[u8], &Session, &Step) -> bool) -> bool {
-    let [sound, unsound, full] = images();
+pub fn all(each: Each) -> bool {
+    let images = images();
+    devices(each, &images) && requests_by_pair(each, &images) && types(each, &images) && moves_by_pair(each, &images)
+}
 
-    // SCSI and CONNECT look at few things.
+/// SCSI and CONNECT look at few things.
+fn devices(each: Each, [sound, ..]: &[Vec<u8>; 3]) -> bool {
     for authorized in [false, true] {
         for (opened, pending, first, closed) in [
             (false, false, true, false),
@@ -171,92 +266,130 @@ pub fn all(mut each: impl FnMut(&[u8], &Session, &Step) -> bool) -> bool {
         ] {
             let mut s = rest(authorized);
             (s.changer.opened, s.changer.pending, s.first, s.closed) = (opened, pending, first, closed);
-            for message in HANDLED {
-                for body in bodies(message) {
-                    if !each(&sound, &s, &request(message, &body)) {
+            if !HANDLED.iter().flat_map(|m| requests(*m)).chain(events()).all(|step| each(sound, &s, &step)) {
+                return false;
+            }
+        }
+        let mut s = rest(authorized);
+        (s.tape.opened, s.tape.writable) = (true, true);
+        with_window(&mut s, WINDOWS[2]);
+        if !fills().iter().chain(&lists()).all(|step| each(sound, &s, step)) {
+            return false;
+        }
+    }
+    true
+}
+
+fn requests_by_pair(each: Each, [sound, unsound, _]: &[Vec<u8>; 3]) -> bool {
+    let steps: Vec<Step> = HANDLED.iter().filter(|m| !(0x200..0x300).contains(*m)).flat_map(|m| requests(*m)).collect();
+    for (authorized, pair) in [false, true].into_iter().flat_map(|a| pairs().into_iter().map(move |p| (a, p))) {
+        // By TCP windows and images are as by LOCAL, and before auth all is alike: some are enough.
+        let (windows, places) = match (authorized, is_local(pair)) {
+            (true, true) => (&WINDOWS[..], &[(sound, 0), (sound, 2), (sound, 5), (unsound, 0)][..]),
+            (true, false) => (&WINDOWS[1..4], &[(sound, 2), (unsound, 0)][..]),
+            (false, _) => (&WINDOWS[2..3], &[(sound, 2)][..]),
+        };
+        for (opened, writable) in [(false, false), (true, false), (true, true)] {
+            for (window, mode) in windows.iter().flat_map(|w| [0, 1, 2].map(|m| (*w, m))) {
+                for (left, (image, position)) in [0, 5].into_iter().flat_map(|l| places.iter().map(move |p| (l, *p))) {
+                    let mut s = rest(authorized);
+                    (s.tape.opened, s.tape.writable, s.tape.position) = (opened, writable, position);
+                    with_ends(&mut s, pair);
+                    (s.mover.mode, s.mover.left, s.source.operation) = (mode, left, 1 + mode);
+                    (s.source.reason, s.mover.halt, s.mover.pause) = (3, 2, 1);
+                    with_window(&mut s, window);
+                    if !steps.iter().all(|step| each(image, &s, step)) {
                         return false;
                     }
                 }
             }
         }
-        if !fills().iter().all(|step| each(&sound, &rest(authorized), step)) {
-            return false;
+    }
+    true
+}
+
+/// 02 No. 14: every two states with every two address types, and 2 with them, which is none.
+fn types(each: Each, [sound, ..]: &[Vec<u8>; 3]) -> bool {
+    let plain = [0x400, 0x403, 0x407, 0xa00, 0xa03, 0xa04, 0xa07].map(|m| request(m, &[]));
+    let steps: Vec<Step> = plain.into_iter().chain(events()).chain(streams()).chain(destinations()).collect();
+    let ends: Vec<End> = (0..5).flat_map(|state| (0..3).map(move |address| (state, address))).collect();
+    for pair in ends.iter().flat_map(|d| ends.iter().map(|m| (*d, *m))) {
+        for mode in [0, 1] {
+            let mut s = rest(true);
+            (s.tape.opened, s.tape.writable) = (true, true);
+            with_ends(&mut s, pair);
+            (s.mover.mode, s.source.operation, s.mover.left) = (mode, 1 + mode, 4);
+            with_window(&mut s, WINDOWS[2]);
+            if !steps.iter().all(|step| each(sound, &s, step)) {
+                return false;
+            }
         }
     }
+    true
+}
 
-    let requests: Vec<Step> = HANDLED
+/// Moves to tape, and the method's end.
+fn streams() -> Vec<Step> {
+    let streams: [&[u8]; 4] = [b"", b"ab", b"abcd", b"abcdef"];
+    streams
         .iter()
-        .filter(|m| !(0x200..0x300).contains(*m))
-        .flat_map(|m| bodies(*m).into_iter().map(|b| request(*m, &b)))
-        .collect();
-    for authorized in [false, true] {
-        for (opened, writable) in [(false, false), (true, false), (true, true)] {
-            for (data, mover) in PAIRS {
-                for window in WINDOWS {
-                    for mode in [0, 1, 2] {
-                        for left in [0, 5] {
-                            for (image, position) in [(&sound, 0), (&sound, 2), (&sound, 5), (&unsound, 0)] {
-                                let mut s = rest(authorized);
-                                (s.tape.opened, s.tape.writable, s.tape.position) = (opened, writable, position);
-                                (s.source.state, s.mover.state, s.mover.mode, s.mover.left) = (data, mover, mode, left);
-                                s.source.operation = 1 + mode;
-                                (s.source.reason, s.mover.halt, s.mover.pause) = (3, 2, 1);
-                                with_window(&mut s, window);
-                                // Before auth all is alike: one window is enough.
-                                if !authorized && window.2 != 8 {
-                                    continue;
-                                }
-                                if !requests.iter().all(|step| each(image, &s, step)) {
-                                    return false;
-                                }
-                            }
-                        }
+        .flat_map(|stream| [false, true].map(|last| Step::To { time: 8, room: ROOM, last, stream: stream.to_vec() }))
+        .chain([false, true].map(|ok| Step::End { time: 8, room: ROOM, ok }))
+        .collect()
+}
+
+fn destinations() -> Vec<Step> {
+    [0, 1, 4, 9].map(|destination| Step::From { time: 8, room: ROOM, destination }).to_vec()
+}
+
+fn moves_by_pair(each: Each, [sound, unsound, full]: &[Vec<u8>; 3]) -> bool {
+    let to: Vec<Step> = streams().into_iter().chain(events()).collect();
+    let places: Vec<(&[u8], usize)> =
+        (0..6).map(|p| (&sound[..], p)).chain([(&unsound[..], 0)]).chain((0..4).map(|p| (&full[..], p))).collect();
+    for pair in pairs() {
+        // Windows and tape are looked at by a move that runs, by LOCAL or by TCP.
+        let (windows, places) = match is_local(pair) || pair.1 == (2, 1) {
+            true => (&WINDOWS[..], &places[..]),
+            false => (&WINDOWS[2..4], &places[5..8]),
+        };
+        for (window, mode, operation) in windows.iter().flat_map(|w| (0..9).map(move |i| (*w, i / 3, i % 3))) {
+            for &(image, position) in places {
+                let mut s = rest(true);
+                (s.tape.opened, s.tape.writable, s.tape.position) = (true, true, position);
+                with_ends(&mut s, pair);
+                (s.source.operation, s.mover.mode) = (operation, mode);
+                with_window(&mut s, window);
+                for records in 0..3 {
+                    let more = if records > 0 && s.mover.state >= 2 { SIZE as u64 } else { 0 };
+                    s.mover.moved = s.mover.moved.wrapping_add(more);
+                    if !to.iter().all(|step| each(image, &s, step)) {
+                        return false;
                     }
+                }
+                with_window(&mut s, window);
+                if !from_tape(each, image, s, pair) {
+                    return false;
                 }
             }
         }
     }
+    true
+}
 
-    let streams: [&[u8]; 4] = [b"", b"ab", b"abcd", b"abcdef"];
-    let to: Vec<Step> = streams
-        .iter()
-        .flat_map(|stream| [false, true].map(|last| Step::To { time: 8, room: 36_864, last, stream: stream.to_vec() }))
-        .chain([false, true].map(|ok| Step::End { time: 8, room: 36_864, ok }))
-        .collect();
-    let from: Vec<Step> = [0, 1, 4, 9].map(|destination| Step::From { time: 8, room: 36_864, destination }).to_vec();
-    let places: Vec<(&Vec<u8>, usize)> =
-        (0..6).map(|p| (&sound, p)).chain([(&unsound, 0)]).chain((0..4).map(|p| (&full, p))).collect();
-    for (data, mover) in PAIRS {
-        for window in WINDOWS {
-            for mode in [0, 1, 2] {
-                for operation in [0, 1, 2] {
-                    for &(image, position) in &places {
-                        let mut s = rest(true);
-                        (s.tape.opened, s.tape.writable, s.tape.position) = (true, true, position);
-                        (s.source.state, s.source.operation, s.mover.state, s.mover.mode) =
-                            (data, operation, mover, mode);
-                        with_window(&mut s, window);
-                        for records in 0..3 {
-                            let more = if records > 0 && mover >= 2 { SIZE as u64 } else { 0 };
-                            s.mover.moved = s.mover.moved.wrapping_add(more);
-                            if !to.iter().all(|step| each(image, &s, step)) {
-                                return false;
-                            }
-                        }
-                        with_window(&mut s, window);
-                        let running = (data, mover) == (1, 2);
-                        for left in if running { vec![0, 1, 3, 4, 50] } else { vec![4] } {
-                            for seek in if running { vec![0, 1, 3, 4, 7, 8, 9, 12, 15, 16] } else { vec![0] } {
-                                for origin in 0..=position.min(3) {
-                                    (s.mover.left, s.mover.seek, s.mover.origin) = (left, seek, origin);
-                                    if !from.iter().all(|step| each(image, &s, step)) {
-                                        return false;
-                                    }
-                                }
-                            }
-                        }
-                    }
-                }
+/// Every place that a read may have come to, where the ends run; a few beside a data end that a mover by TCP does not
+/// ask; else one.
+fn from_tape(each: Each, image: &[u8], mut s: Session, pair: (End, End)) -> bool {
+    let (lefts, seeks): (&[u64], &[u64]) = match pair {
+        ((1, 0), (2, 0)) | ((0, 0), (2, 1)) => (&[0, 1, 3, 4, 50], &[0, 1, 3, 4, 7, 8, 9, 12, 15, 16]),
+        (_, (2, 1)) => (&[3], &[1, 8]),
+        _ => (&[4], &[0]),
+    };
+    let steps = destinations();
+    for (left, seek) in lefts.iter().flat_map(|l| seeks.iter().map(move |k| (*l, *k))) {
+        for origin in 0..=s.tape.position.min(3) {
+            (s.mover.left, s.mover.seek, s.mover.origin) = (left, seek, origin);
+            if !steps.iter().all(|step| each(image, &s, step)) {
+                return false;
             }
         }
     }

@@ -5,6 +5,7 @@ use std::collections::VecDeque;
 
 use crate::convert::{fields, set_field};
 use crate::images;
+use crate::lists;
 use crate::model::requests::HANDLED;
 use crate::random::Random;
 use crate::script::Step;
@@ -22,6 +23,10 @@ pub struct Driver {
     pub r: Random,
     mode: u32,
     size: u32,
+    /// Whether the data end, and the mover, are to be joined by TCP.
+    tcp: (bool, bool),
+    /// How soon an end that halted is stopped, in percent.
+    stops: u64,
     /// How often a step is wild, in percent.
     wild: u64,
     /// A sound image to lend again after a damaged one.
@@ -32,7 +37,17 @@ pub struct Driver {
 
 impl Driver {
     pub fn new(seed: u64) -> Driver {
-        Driver { r: Random(seed), mode: 0, size: 1, wild: 0, spare: None, queue: VecDeque::new(), closed_calls: 0 }
+        Driver {
+            r: Random(seed),
+            mode: 0,
+            size: 1,
+            tcp: (false, false),
+            stops: 0,
+            wild: 0,
+            spare: None,
+            queue: VecDeque::new(),
+            closed_calls: 0,
+        }
     }
 
     /// A fresh session, its account and its cartridge.
@@ -46,6 +61,8 @@ impl Driver {
             4 | 5 => FIRST_SIZE,
             _ => r.pick(&[1, 2, 3, 4, 7, 16, 33, 64, 100]),
         };
+        self.tcp = r.pick(&[(false, false), (false, false), (false, true), (true, false), (true, true)]);
+        self.stops = r.pick(&[60, 60, 60, 6]);
         self.wild = r.pick(&[2, 8, 8, 20, 60]);
         self.spare = None;
         self.queue.clear();
@@ -104,7 +121,19 @@ impl Driver {
         // Reply sequence and error are not judged.
         let other = if self.r.percent(5) { self.r.next() as u32 } else { 0 };
         let input = Header { sequence, time, kind: 0, message, reply_to: other, error: other }.record(body);
-        Step::Request { time: self.time(), room: self.room(), input }
+        let (made, list) = (self.r.percent(85), self.lent(message));
+        Step::Request { time: self.time(), room: self.room(), made, list, input }
+    }
+
+    /// The list of addresses that goes with a request. Only a listen by TCP looks at it.
+    fn lent(&mut self, message: u32) -> Vec<u8> {
+        match self.r.below(100) {
+            0..=59 if matches!(message, 0x409 | 0xa01) => lists::right(&mut self.r),
+            60..=87 if matches!(message, 0x409 | 0xa01) => lists::any(&mut self.r),
+            88 | 89 if matches!(message, 0x409 | 0xa01) => lists::of_length(self.r.pick(&lists::LENGTHS)),
+            0..=2 => lists::any(&mut self.r),
+            _ => vec![],
+        }
     }
 
     fn plain(&mut self, message: u32) -> Step {
@@ -134,17 +163,7 @@ impl Driver {
     fn sensible(&mut self, w: &World) -> Step {
         let s = &w.session;
         if !s.login.authorized {
-            // What comes before auth: a few wrong ones, and a request that has to wait.
-            return match self.r.below(20) {
-                0 => self.some(w, 0x900),
-                1 => self.auth(w, false),
-                2 => {
-                    let message = self.r.pick(&HANDLED);
-                    if message == 0x902 { self.plain(0x108) } else { self.some(w, message) }
-                }
-                _ if s.first && self.r.percent(75) => self.words(0x900, &[4]),
-                _ => self.auth(w, true),
-            };
+            return self.before_auth(w);
         }
         if self.r.percent(4) {
             let message = self.r.pick(&[0x400, 0xa00, 0x302, 0x108, 0x102, 0x202]);
@@ -159,11 +178,15 @@ impl Driver {
             self.spare = None;
             return Step::Image(image);
         }
-        if s.source.state == 2 && self.r.percent(60) {
+        let stops = self.stops;
+        if s.source.state == 2 && self.r.percent(stops) {
             return self.plain(0x407);
         }
-        if s.mover.state == 4 && self.r.percent(60) {
+        if s.mover.state == 4 && self.r.percent(stops) {
             return self.plain(0xa04);
+        }
+        if self.r.percent(1) {
+            self.tcp = self.r.pick(&[(false, false), (false, true), (true, false), (true, true)]);
         }
         if !s.tape.opened && self.r.percent(90) {
             let mode = if self.mode == 0 && self.r.percent(95) { 1 } else { self.r.pick(&[0, 1]) };
@@ -174,18 +197,53 @@ impl Driver {
         if s.tape.opened && s.tape.position > n as usize && !matches!(s.mover.state, 1 | 2) && self.r.percent(50) {
             return self.plain(0x301);
         }
+        if (self.tcp.0 || s.source.address == 1) && self.r.percent(20) {
+            return self.data_by_tcp(s);
+        }
         match s.mover.state {
             0 => self.prepare(s),
-            1 => match s.source.state {
-                0 if self.r.percent(90) => self.words(0x40a, &[0]),
-                _ => {
-                    let message = self.r.pick(&[0x403, 0xa03, 0x407]);
-                    self.plain(message)
-                }
-            },
+            1 if s.mover.address == 1 => self.listening_by_tcp(),
+            1 => self.listening(s),
             2 => self.run(s),
             3 => self.paused(w),
+            _ if s.source.state != 0 && self.r.percent(30) => self.plain(0x403),
             _ => self.tape_work(),
+        }
+    }
+
+    /// A few wrong logins, and a request that has to wait.
+    fn before_auth(&mut self, w: &World) -> Step {
+        match self.r.below(20) {
+            0 => self.some(w, 0x900),
+            1 => self.auth(w, false),
+            2 | 3 => {
+                let message = self.r.pick(&HANDLED);
+                if message == 0x902 { self.plain(0x108) } else { self.some(w, message) }
+            }
+            _ if w.session.first && self.r.percent(75) => self.words(0x900, &[4]),
+            _ => self.auth(w, true),
+        }
+    }
+
+    /// The mover listens by LOCAL.
+    fn listening(&mut self, s: &Session) -> Step {
+        match s.source.state {
+            0 if self.r.percent(90) => self.words(0x40a, &[0]),
+            _ if self.r.percent(10) => self.event(),
+            _ => {
+                let message = self.r.pick(&[0x403, 0xa03, 0x407]);
+                self.plain(message)
+            }
+        }
+    }
+
+    /// A record size 0 is only handed in: each is refused.
+    fn without_size(&mut self, s: &Session) -> Step {
+        let mode = self.mode;
+        match self.r.below(3) {
+            0 => self.window(s),
+            1 => self.words(0xa01, &[mode, 0]),
+            _ => self.words(0xa09, &[mode, 0]),
         }
     }
 
@@ -196,12 +254,7 @@ impl Driver {
         }
         let mode = self.mode;
         if s.mover.size == 0 && self.r.percent(60) {
-            // Only handed in: each is refused.
-            return match self.r.below(3) {
-                0 => self.window(s),
-                1 => self.words(0xa01, &[mode, 0]),
-                _ => self.words(0xa09, &[mode, 0]),
-            };
+            return self.without_size(s);
         }
         let setting = match s.mover.size {
             0 => 100,
@@ -218,6 +271,9 @@ impl Driver {
         if s.mover.length == 0 || self.r.percent(5) {
             return self.window(s);
         }
+        if self.tcp.1 && self.r.percent(90) {
+            return self.mover_by_tcp();
+        }
         match s.source.state {
             0 if self.r.percent(50) => self.words(0xa01, &[mode, 0]),
             // Nobody listens.
@@ -227,6 +283,61 @@ impl Driver {
             3 => self.words(0xa01, &[mode, 0]),
             _ => self.plain(0x407),
         }
+    }
+
+    // By TCP, each end goes its own way.
+
+    /// The mover is ready to be joined.
+    fn mover_by_tcp(&mut self) -> Step {
+        let mode = self.mode;
+        if self.r.percent(50) {
+            return self.words(0xa01, &[mode, 1]);
+        }
+        let list = if self.r.percent(80) { lists::right(&mut self.r) } else { lists::any(&mut self.r) };
+        self.request(0xa09, &[wire::words(&[mode, 1]), list].concat())
+    }
+
+    /// The mover listens by TCP.
+    fn listening_by_tcp(&mut self) -> Step {
+        match self.r.below(24) {
+            0 => self.plain(0xa03),
+            1 => self.plain(0x403),
+            2 => self.plain(0xa00),
+            // Not by this way.
+            3 => self.words(0x40a, &[0]),
+            4 => self.event(),
+            5 => self.plain(0x301),
+            6 | 7 => self.tape_work(),
+            _ => Step::Made { time: self.time(), room: self.room(), mover: true },
+        }
+    }
+
+    /// The data end's next step by TCP; nothing of the mover is asked.
+    fn data_by_tcp(&mut self, s: &Session) -> Step {
+        let chance = self.r.below(20);
+        match s.source.state {
+            0 if chance < 10 => self.words(0x409, &[1]),
+            0 => {
+                let list = if chance < 18 { lists::right(&mut self.r) } else { lists::any(&mut self.r) };
+                self.request(0x40a, &[wire::words(&[1]), list].concat())
+            }
+            3 if chance < 14 => Step::Made { time: self.time(), room: self.room(), mover: false },
+            4 if chance < 14 => {
+                let backup = self.r.percent(50);
+                self.start(backup, b"dump")
+            }
+            1 if chance < 5 => Step::End { time: self.time(), room: self.room(), ok: self.r.percent(50) },
+            2 if chance < 14 => self.plain(0x407),
+            _ if chance < 16 => self.plain(0x400),
+            _ if chance < 18 => self.event(),
+            _ => self.plain(0x403),
+        }
+    }
+
+    /// Made or lost, of either end.
+    fn event(&mut self) -> Step {
+        let (time, room, mover) = (self.time(), self.room(), self.r.percent(50));
+        if self.r.percent(50) { Step::Made { time, room, mover } } else { Step::Lost { time, room, mover } }
     }
 
     fn window(&mut self, s: &Session) -> Step {
@@ -260,9 +371,10 @@ impl Driver {
         }
     }
 
-    /// The ends are joined, the mover ACTIVE.
+    /// The mover is ACTIVE.
     fn run(&mut self, s: &Session) -> Step {
-        if s.source.state == 4 {
+        let alone = s.mover.address == 1;
+        if s.source.state == 4 && !alone {
             if s.mover.mode == 1 && self.r.percent(20) {
                 return self.mover_read(s);
             }
@@ -274,12 +386,13 @@ impl Driver {
             1 => return self.plain(0xa03),
             2 => return Step::End { time: self.time(), room: self.room(), ok: self.r.percent(50) },
             3 => return self.swap(),
+            4 => return self.event(),
             _ => {}
         }
-        if s.mover.mode == 0 && s.source.operation == 1 {
+        if s.mover.mode == 0 && (alone || s.source.operation == 1) {
             return self.to_tape(s);
         }
-        if s.mover.mode == 1 && s.source.operation == 2 {
+        if s.mover.mode == 1 && (alone || s.source.operation == 2) {
             if s.mover.left == 0 && self.r.percent(85) {
                 return self.mover_read(s);
             }
@@ -306,6 +419,7 @@ impl Driver {
             15..=18 => return self.swap(),
             19..=20 => return self.to_tape(s),
             21..=22 => return self.from_tape(s),
+            41..=42 => return self.event(),
             // The tape is full: another one.
             23..=40 if s.mover.pause == 1 => {
                 let size = self.size;
@@ -538,18 +652,12 @@ impl Driver {
             58..=60 => {
                 let mut step = self.sensible(w);
                 let short = self.r.pick(&[0, 28, 100, 36_863]);
-                match &mut step {
-                    Step::Open { room, .. }
-                    | Step::Request { room, .. }
-                    | Step::To { room, .. }
-                    | Step::From { room, .. }
-                    | Step::End { room, .. } => *room = short,
-                    _ => {}
-                }
+                step.set_room(short);
                 step
             }
-            61..=68 => self.to_tape(s),
-            69..=76 => self.from_tape(s),
+            61..=66 => self.to_tape(s),
+            67..=72 => self.from_tape(s),
+            73..=76 => self.event(),
             77..=78 => Step::End { time: self.time(), room: self.room(), ok: self.r.percent(50) },
             79..=81 => self.swap(),
             // Each call may be lent another account.
@@ -614,12 +722,7 @@ impl Driver {
                     let mode = self.r.pick(&[0, 0, 1, 1, 2, 3, u32::MAX]);
                     body.extend(mode.to_be_bytes());
                 }
-                let address = self.r.pick(&[0u32, 0, 0, 1, 2, 3, u32::MAX]);
-                body.extend(address.to_be_bytes());
-                if address != 0 {
-                    let rest = self.text(20);
-                    body.extend(rest);
-                }
+                body.extend(self.address(matches!(message, 0x40a | 0xa09)));
                 self.request(message, &body)
             }
             0xa05 if self.r.percent(50) => self.window(s),
@@ -641,9 +744,21 @@ impl Driver {
         }
     }
 
+    /// An address type, and what follows it in a connect or in a listen.
+    fn address(&mut self, connect: bool) -> Vec<u8> {
+        let kind = self.r.pick(&[0u32, 0, 0, 1, 1, 1, 2, 3, u32::MAX]);
+        let rest = match kind {
+            0 => vec![],
+            1 if connect => lists::any(&mut self.r),
+            1 if self.r.percent(85) => vec![],
+            _ => self.text(20),
+        };
+        [wire::words(&[kind]), rest].concat()
+    }
+
     /// A body that is too short or too long, or whose words are others; the record itself is whole.
     fn bent(&mut self, step: Step) -> Step {
-        let Step::Request { time, room, mut input } = step else { return step };
+        let Step::Request { time, room, made, list, mut input } = step else { return step };
         match self.r.below(4) {
             0 => {
                 let cut = self.r.within(1, 8) as usize;
@@ -663,11 +778,11 @@ impl Driver {
         }
         let mark = LAST | (input.len() - 4) as u32;
         put_word(&mut input, 0, mark);
-        Step::Request { time, room, input }
+        Step::Request { time, room, made, list, input }
     }
 
     fn badly_framed(&mut self, step: Step) -> Step {
-        let Step::Request { time, room, mut input } = step else { return step };
+        let Step::Request { time, room, made, list, mut input } = step else { return step };
         match self.r.below(6) {
             0 => input[0] &= 0x7f,
             1 => input.truncate(self.r.below(28) as usize),
@@ -681,7 +796,7 @@ impl Driver {
                 put_word(&mut input, 0, mark);
             }
         }
-        Step::Request { time, room, input }
+        Step::Request { time, room, made, list, input }
     }
 
     /// Hands in a changed session. One that breaks the relation is put back after a call or two.
@@ -689,18 +804,19 @@ impl Driver {
         let before = w.session;
         let mut s = before;
         let size = s.mover.size.max(1) as u64;
-        match self.r.below(12) {
+        match self.r.below(14) {
             0 => s.sequence = u32::MAX - self.r.below(3) as u32,
             1 if s.mover.mode == 1 && s.mover.state > 1 => {
                 s.mover.moved = u64::MAX - self.r.below(2 * size);
                 s.source.processed = u64::MAX - self.r.below(2 * size);
             }
-            2 if s.mover.mode == 0 && s.mover.state == 2 => {
+            2 | 10 if s.mover.mode == 0 && s.mover.state == 2 => {
                 let records = self.r.within(1, 4);
                 let start = u64::MAX / size - records - self.r.below(2).min(u64::MAX / size - records);
                 s.mover.offset = start * size;
                 s.mover.length = self.r.pick(&[records * size, u64::MAX]);
-                s.mover.moved = s.mover.offset + self.r.within(0, records) * size;
+                let done = if self.r.percent(50) { records } else { self.r.within(0, records) };
+                s.mover.moved = s.mover.offset + done * size;
                 s.source.processed = u64::MAX - self.r.below(2 * size);
             }
             3 if s.mover.state == 3 => s.source.state = 4,
@@ -710,35 +826,40 @@ impl Driver {
             }
             5 => s.tape.position = self.r.pick(&[0, 1, 5, 40, 41, 4096, 4097, usize::MAX]),
             6 => s.mover.origin = self.r.pick(&[0, 1, s.tape.position, s.tape.position.wrapping_add(1), usize::MAX]),
+            // The other type, of one end or of both; joined or in LISTEN there are sessions that keep the relation.
+            8 | 9 => {
+                let ends = self.r.within(1, 3);
+                s.source.address ^= (ends & 1) as u32;
+                s.mover.address ^= (ends >> 1) as u32;
+            }
             // No record size, and so no window.
             7 if s.mover.state == 0 => (s.mover.size, s.mover.offset, s.mover.length) = (0, 0, 0),
-            _ => {
-                for _ in 0..self.r.within(1, 3) {
-                    let all = fields(&s);
-                    let (name, now) = self.r.pick(&all);
-                    let x = self.r.pick(&[
-                        0,
-                        1,
-                        2,
-                        3,
-                        4,
-                        5,
-                        now.wrapping_add(1),
-                        now.wrapping_sub(1),
-                        size,
-                        2 * size,
-                        32_769,
-                        u32::MAX as u64,
-                        u64::MAX,
-                    ]);
-                    set_field(&mut s, name, x);
-                }
-            }
+            _ => self.change_fields(&mut s),
         }
         self.queue.push_back(Step::Session(s));
-        if crate::model::relation::broken(&crate::convert::state(&s)).is_some() {
+        self.follow(w, &s);
+    }
+
+    /// One to three fields of a session, whatever they are.
+    fn change_fields(&mut self, s: &mut Session) {
+        let size = s.mover.size.max(1) as u64;
+        for _ in 0..self.r.within(1, 3) {
+            let all = fields(s);
+            let (name, now) = self.r.pick(&all);
+            let (up, down) = (now.wrapping_add(1), now.wrapping_sub(1));
+            let most = u32::MAX as u64;
+            let x = self.r.pick(&[0, 1, 2, 3, 4, 5, up, down, size, 2 * size, 32_769, most, u64::MAX]);
+            set_field(s, name, x);
+        }
+    }
+
+    /// The calls on a session that was handed in.
+    fn follow(&mut self, w: &World, s: &Session) {
+        let before = w.session;
+        if crate::model::relation::broken(&crate::convert::state(s)).is_some() {
             for _ in 0..self.r.within(1, 2) {
-                let call = match self.r.below(5) {
+                let call = match self.r.below(7) {
+                    5 | 6 => self.event(),
                     0 => self.to_tape(&before),
                     1 => self.from_tape(&before),
                     2 => Step::End { time: self.time(), room: self.room(), ok: true },
@@ -754,6 +875,9 @@ impl Driver {
                 self.queue.push_back(call);
             }
             self.queue.push_back(Step::Session(before));
+        } else if s.mover.mode == 0 && s.mover.state == 2 && self.r.percent(60) {
+            let call = self.to_tape(s);
+            self.queue.push_back(call);
         } else if self.r.percent(40) {
             let message = self.r.pick(&[0xa00, 0x400, 0x302]);
             let call = self.plain(message);

@@ -5,6 +5,7 @@ mod count;
 mod cross;
 mod drive;
 mod images;
+mod lists;
 mod model;
 mod random;
 mod script;
@@ -87,7 +88,7 @@ fn run(calls: u64, seed: u64) -> ExitCode {
     let mut found = None;
     let mut w = World::new();
     (w.id, w.password) = (b"id".to_vec(), b"word".to_vec());
-    cross::all(|image, session, call| {
+    cross::all(&mut |image, session, call| {
         w.session = *session;
         w.image.clear();
         w.image.extend(image);
@@ -130,7 +131,7 @@ fn run(calls: u64, seed: u64) -> ExitCode {
 fn large() -> Vec<Vec<Step>> {
     let request = |message: u32, body: &[u8]| {
         let input = Header { sequence: 7, time: 7, message, ..Header::default() }.record(body);
-        Step::Request { time: 1, room: 36_864, input }
+        Step::Request { time: 1, room: 36_864, made: false, list: vec![], input }
     };
     [134_217_728, 134_217_729]
         .into_iter()

@@ -4,10 +4,12 @@
 //!     image LENGTH HEX                 this image is lent from here on; zeros follow the bytes given
 //!     session FIELD=VALUE ..           the session is replaced by this one
 //!     open TIME ROOM                   the calls; ROOM is the output's length
-//!     request TIME ROOM INPUT
+//!     request TIME ROOM MADE LIST INPUT        whether a connection is made, and the list of addresses that is lent
 //!     to TIME ROOM LAST STREAM         move to tape
 //!     from TIME ROOM DESTINATION       move from tape; the destination's length
 //!     end TIME ROOM OK                 the method's end
+//!     made TIME ROOM MOVER             the events, of the mover (1) or of the data end (0)
+//!     lost TIME ROOM MOVER
 
 use crate::convert::{fields, set_field};
 use proved::Session;
@@ -18,15 +20,44 @@ pub enum Step {
     Image(Vec<u8>),
     Session(Session),
     Open { time: u32, room: usize },
-    Request { time: u32, room: usize, input: Vec<u8> },
+    Request { time: u32, room: usize, made: bool, list: Vec<u8>, input: Vec<u8> },
     To { time: u32, room: usize, last: bool, stream: Vec<u8> },
     From { time: u32, room: usize, destination: usize },
     End { time: u32, room: usize, ok: bool },
+    Made { time: u32, room: usize, mover: bool },
+    Lost { time: u32, room: usize, mover: bool },
 }
 
 impl Step {
     pub fn is_call(&self) -> bool {
-        !matches!(self, Step::Account(..) | Step::Image(_) | Step::Session(_))
+        self.room().is_some()
+    }
+
+    /// The output's length, of a call.
+    pub fn room(&self) -> Option<usize> {
+        match self {
+            Step::Account(..) | Step::Image(_) | Step::Session(_) => None,
+            Step::Open { room, .. }
+            | Step::Request { room, .. }
+            | Step::To { room, .. }
+            | Step::From { room, .. }
+            | Step::End { room, .. }
+            | Step::Made { room, .. }
+            | Step::Lost { room, .. } => Some(*room),
+        }
+    }
+
+    pub fn set_room(&mut self, length: usize) {
+        match self {
+            Step::Account(..) | Step::Image(_) | Step::Session(_) => {}
+            Step::Open { room, .. }
+            | Step::Request { room, .. }
+            | Step::To { room, .. }
+            | Step::From { room, .. }
+            | Step::End { room, .. }
+            | Step::Made { room, .. }
+            | Step::Lost { room, .. } => *room = length,
+        }
     }
 
     pub fn line(&self) -> String {
@@ -41,10 +72,14 @@ impl Step {
                 format!("session {}", all.join(" "))
             }
             Step::Open { time, room } => format!("open {time} {room}"),
-            Step::Request { time, room, input } => format!("request {time} {room} {}", hex(input)),
+            Step::Request { time, room, made, list, input } => {
+                format!("request {time} {room} {} {} {}", *made as u8, hex(list), hex(input))
+            }
             Step::To { time, room, last, stream } => format!("to {time} {room} {} {}", *last as u8, hex(stream)),
             Step::From { time, room, destination } => format!("from {time} {room} {destination}"),
             Step::End { time, room, ok } => format!("end {time} {room} {}", *ok as u8),
+            Step::Made { time, room, mover } => format!("made {time} {room} {}", *mover as u8),
+            Step::Lost { time, room, mover } => format!("lost {time} {room} {}", *mover as u8),
         }
     }
 
@@ -64,6 +99,7 @@ impl Step {
         let bytes = |i: usize| unhex(w.get(i)?);
         let time = || w.first()?.parse::<u32>().ok();
         let room = || whole(1);
+        let yes = |i: usize| whole(i).map(|x| x != 0);
         Some(match kind {
             "account" => Step::Account(bytes(0)?, bytes(1)?),
             "image" => {
@@ -72,10 +108,15 @@ impl Step {
                 Step::Image(image)
             }
             "open" => Step::Open { time: time()?, room: room()? },
-            "request" => Step::Request { time: time()?, room: room()?, input: bytes(2)? },
-            "to" => Step::To { time: time()?, room: room()?, last: whole(2)? != 0, stream: bytes(3)? },
+            "request" => {
+                let (made, list, input) = (yes(2)?, bytes(3)?, bytes(4)?);
+                Step::Request { time: time()?, room: room()?, made, list, input }
+            }
+            "to" => Step::To { time: time()?, room: room()?, last: yes(2)?, stream: bytes(3)? },
             "from" => Step::From { time: time()?, room: room()?, destination: whole(2)? },
-            "end" => Step::End { time: time()?, room: room()?, ok: whole(2)? != 0 },
+            "end" => Step::End { time: time()?, room: room()?, ok: yes(2)? },
+            "made" => Step::Made { time: time()?, room: room()?, mover: yes(2)? },
+            "lost" => Step::Lost { time: time()?, room: room()?, mover: yes(2)? },
             _ => return None,
         })
     }

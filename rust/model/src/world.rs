@@ -2,9 +2,9 @@
 
 use crate::convert;
 use crate::model::State;
-use crate::model::calls::{self, Given};
+use crate::model::calls::{self, Given, Lent};
 use crate::script::Step;
-use proved::Session;
+use proved::{Answer, Moved, Session};
 
 pub struct World {
     pub session: Session,
@@ -13,8 +13,11 @@ pub struct World {
     pub password: Vec<u8>,
     /// No session was handed in but by calls.
     pub natural: bool,
+    /// The core's output and destination, and the model's.
     out: Vec<u8>,
     expected: Vec<u8>,
+    dest: Vec<u8>,
+    expected_dest: Vec<u8>,
 }
 
 /// What one call did, for counting.
@@ -39,98 +42,122 @@ impl World {
             natural: true,
             out: vec![],
             expected: vec![],
+            dest: vec![],
+            expected_dest: vec![],
         }
     }
 
     /// Makes the call. An error tells the first difference.
     pub fn step(&mut self, step: &Step) -> Result<Option<Seen>, String> {
-        let before = self.session;
-        let mut s = convert::state(&before);
-        let room = match step {
-            Step::Account(id, password) => {
-                (self.id, self.password) = (id.clone(), password.clone());
-                return Ok(None);
-            }
-            Step::Image(image) => {
-                self.image.clone_from(image);
-                return Ok(None);
-            }
+        match step {
+            Step::Account(id, password) => (self.id, self.password) = (id.clone(), password.clone()),
+            Step::Image(image) => self.image.clone_from(image),
             Step::Session(session) => {
                 self.session = *session;
                 self.natural = false;
-                return Ok(None);
             }
-            Step::Open { room, .. }
-            | Step::Request { room, .. }
-            | Step::To { room, .. }
-            | Step::From { room, .. }
-            | Step::End { room, .. } => *room,
-        };
+            Step::Request { input, .. } => read(input)?,
+            _ => {}
+        }
+        step.room().map(|room| self.call(step, room)).transpose()
+    }
+
+    fn call(&mut self, step: &Step, room: usize) -> Result<Seen, String> {
+        let before = self.session;
         filled(&mut self.out, room);
         filled(&mut self.expected, room);
-        let mut image = self.image.clone();
-        let (mut dest, mut expected_dest) = (vec![], vec![]);
-        let core = &mut self.image;
-        let out = &mut self.out;
-
-        let (given, code, count, len, session) = match step {
-            Step::Open { time, .. } => {
-                let (next, g) = calls::open(*time, room);
-                s = next;
-                self.natural = true;
-                let a = proved::open(*time, out);
-                (g, a.code, 0, a.len, a.session)
-            }
-            Step::Request { time, input, .. } => {
-                let g = calls::request(&mut s, (&self.id, &self.password), &mut image, input, *time, room);
-                let a = proved::request(before, &self.id, &self.password, core, input, *time, out);
-                (g, a.code, 0, a.len, a.session)
-            }
-            Step::To { time, last, stream, .. } => {
-                let g = calls::move_to_tape(&mut s, &mut image, stream, *last, *time, room);
-                let m = proved::move_to_tape(before, core, stream, *last, *time, out);
-                (g, m.code, m.count, m.len, m.session)
-            }
-            Step::From { time, destination, .. } => {
-                filled(&mut dest, *destination);
-                filled(&mut expected_dest, *destination);
-                let g = calls::move_from_tape(&mut s, &mut image, &mut expected_dest, *time, room);
-                let m = proved::move_from_tape(before, core, &mut dest, *time, out);
-                (g, m.code, m.count, m.len, m.session)
-            }
-            Step::End { time, ok, .. } => {
-                let g = calls::end_method(&mut s, *ok, *time, room);
-                let a = proved::end_method(before, *ok, *time, out);
-                (g, a.code, 0, a.len, a.session)
-            }
-            _ => unreachable!(),
-        };
-        self.expected[..given.sent.len()].copy_from_slice(&given.sent);
-        self.session = session;
-
-        let mut wrong = vec![];
-        let mut same = |what: &str, model: u64, core: u64| {
-            if model != core {
-                wrong.push(format!("{what}: model {model}, core {core}"));
-            }
-        };
-        same("code", given.code as u64, code as u64);
-        same("count", given.count as u64, count as u64);
-        same("length", given.sent.len() as u64, len as u64);
-        for ((name, model), (_, core)) in
-            convert::fields(&convert::session(&s)).into_iter().zip(convert::fields(&session))
-        {
-            same(name, model, core);
+        let length = if let Step::From { destination, .. } = step { *destination } else { 0 };
+        filled(&mut self.dest, length);
+        filled(&mut self.expected_dest, length);
+        if let Step::Open { .. } = step {
+            self.natural = true;
         }
+        let mut s = convert::state(&before);
+        let mut image = self.image.clone();
+        let given = self.model(step, &mut s, &mut image, room);
+        let gave = self.core(step);
+        self.expected[..given.sent.len()].copy_from_slice(&given.sent);
+        self.session = gave.session;
+
+        let mut wrong = differences(&given, &convert::session(&s), &gave);
         bytes("output", &self.expected, &self.out, &mut wrong);
         bytes("image", &image, &self.image, &mut wrong);
-        bytes("destination", &expected_dest, &dest, &mut wrong);
+        bytes("destination", &self.expected_dest, &self.dest, &mut wrong);
         if !wrong.is_empty() {
             wrong.push(format!("(the model's rule: {})", given.rule));
             return Err(wrong.join("\n"));
         }
-        Ok(Some(Seen { given, closed_before: before.closed }))
+        Ok(Seen { given, closed_before: before.closed })
     }
+
+    /// The call made of the model, with an image and a session of its own.
+    fn model(&mut self, step: &Step, s: &mut State, image: &mut [u8], room: usize) -> Given {
+        match step {
+            Step::Open { time, .. } => {
+                let (next, given) = calls::open(*time, room);
+                *s = next;
+                given
+            }
+            Step::Request { time, made, list, input, .. } => {
+                let lent = Lent { account: (&self.id, &self.password), addresses: list, made: *made };
+                calls::request(s, &lent, image, input, *time, room)
+            }
+            Step::To { time, last, stream, .. } => calls::move_to_tape(s, image, stream, *last, *time, room),
+            Step::From { time, .. } => calls::move_from_tape(s, image, &mut self.expected_dest, *time, room),
+            Step::End { time, ok, .. } => calls::end_method(s, *ok, *time, room),
+            Step::Made { time, mover, .. } => calls::made(s, *mover, *time, room),
+            Step::Lost { time, mover, .. } => calls::lost(s, *mover, *time, room),
+            Step::Account(..) | Step::Image(_) | Step::Session(_) => unreachable!("is no call"),
+        }
+    }
+
+    /// The call made of the core.
+    fn core(&mut self, step: &Step) -> Moved {
+        let (s, image, out) = (self.session, &mut self.image, &mut self.out);
+        let answer = match step {
+            Step::Open { time, .. } => proved::open(*time, out),
+            Step::Request { time, made, list, input, .. } => {
+                proved::request(s, &self.id, &self.password, list, *made, image, input, *time, out)
+            }
+            Step::To { time, last, stream, .. } => {
+                return proved::move_to_tape(s, image, stream, *last, *time, out);
+            }
+            Step::From { time, .. } => return proved::move_from_tape(s, image, &mut self.dest, *time, out),
+            Step::End { time, ok, .. } => proved::end_method(s, *ok, *time, out),
+            Step::Made { time, mover, .. } => proved::made(s, *mover, *time, out),
+            Step::Lost { time, mover, .. } => proved::lost(s, *mover, *time, out),
+            Step::Account(..) | Step::Image(_) | Step::Session(_) => unreachable!("is no call"),
+        };
+        let Answer { code, len, session } = answer;
+        Moved { code, count: 0, len, session }
+    }
+}
+
+/// Numbers that are not the same; the session by its fields.
+fn differences(given: &Given, next: &Session, gave: &Moved) -> Vec<String> {
+    let mut wrong = vec![];
+    let mut same = |what: &str, model: u64, core: u64| {
+        if model != core {
+            wrong.push(format!("{what}: model {model}, core {core}"));
+        }
+    };
+    same("code", given.code as u64, gave.code as u64);
+    same("count", given.count as u64, gave.count as u64);
+    same("length", given.sent.len() as u64, gave.len as u64);
+    for ((name, model), (_, core)) in convert::fields(next).into_iter().zip(convert::fields(&gave.session)) {
+        same(name, model, core);
+    }
+    wrong
+}
+
+/// Every record is also given to the reader of addresses. What is past its count is zero.
+fn read(input: &[u8]) -> Result<(), String> {
+    let model = calls::addresses(input);
+    let core = proved::addresses(input);
+    let mut all = model.clone();
+    all.resize(core.hosts.len(), (0, 0));
+    let same = core.count as usize == model.len() && core.hosts.into_iter().zip(core.ports).eq(all);
+    if same { Ok(()) } else { Err(format!("addresses: model {model:x?}, core {core:x?}")) }
 }
 
 fn bytes(what: &str, model: &[u8], core: &[u8], wrong: &mut Vec<String>) {

@@ -2,7 +2,7 @@
 
 use super::record::{Notice, framed, sent};
 use super::refusals::{Outcome, refuse, refused};
-use super::requests::{HANDLED, Request, decode};
+use super::requests::{Address, HANDLED, Request, decode};
 use super::{State, changer, connection, ends, moves, relation, tape};
 
 pub const ROOM: usize = 36_864;
@@ -20,7 +20,8 @@ fn given(code: u32, rule: &'static str) -> Given {
     Given { code, count: 0, sent: vec![], rule }
 }
 
-const BROKEN: [&str; 9] = ["", "line 1", "line 2", "line 3", "line 4", "line 5", "line 6", "line 7", "line 8"];
+const BROKEN: [&str; 11] =
+    ["", "line 1", "line 2", "line 3", "line 4", "line 5", "line 6", "line 7", "line 8", "line 9", "line 10"];
 
 /// "Before all else the call is refused, and nothing written or changed: 1001 if the output is under 36,864 bytes, 1002
 /// if the session breaks a relation listed in docs/". "after it [closing] nothing is answered or changed."
@@ -60,14 +61,15 @@ pub fn open(time: u32, room: usize) -> (State, Given) {
     (s, g)
 }
 
-pub fn request(
-    s: &mut State,
-    account: (&[u8], &[u8]),
-    image: &mut [u8],
-    input: &[u8],
-    time: u32,
-    room: usize,
-) -> Given {
+/// What a request is lent beside the image: the account, the list that a listen by TCP answers, and whether the
+/// connection of a connect by TCP was made.
+pub struct Lent<'a> {
+    pub account: (&'a [u8], &'a [u8]),
+    pub addresses: &'a [u8],
+    pub made: bool,
+}
+
+pub fn request(s: &mut State, lent: &Lent, image: &mut [u8], input: &[u8], time: u32, room: usize) -> Given {
     if let Some(g) = guard(s, room) {
         return g;
     }
@@ -92,7 +94,7 @@ pub fn request(
                 s.closed = true;
                 return given(0, "closing");
             }
-            Some(r) => match answer(s, account, image, &r, &mut notices) {
+            Some(r) => match answer(s, lent, image, &r, &mut notices) {
                 Ok(w) => (0, w.0),
                 Err(n) => (0, refused(record.message, n)),
             },
@@ -105,14 +107,14 @@ pub fn request(
     g
 }
 
-fn answer(s: &mut State, account: (&[u8], &[u8]), image: &mut [u8], r: &Request, notices: &mut Vec<Notice>) -> Outcome {
+fn answer(s: &mut State, lent: &Lent, image: &mut [u8], r: &Request, notices: &mut Vec<Notice>) -> Outcome {
     use Request::*;
     // "4: before auth, all but CONNECT and 0x108"
     let free = matches!(r, ConnectOpen { .. } | ClientAuth { .. } | ConnectClose | ServerInfo);
     refuse(!s.authorized && !free, 4)?;
     match *r {
         ConnectOpen { version } => connection::open(s.fresh, version),
-        ClientAuth { text } => connection::auth(s, account, text),
+        ClientAuth { text } => connection::auth(s, lent.account, text),
         ConnectClose => unreachable!("has no reply"),
         ConnectionType => connection::types(),
         ServerInfo => connection::server_info(s),
@@ -132,10 +134,10 @@ fn answer(s: &mut State, account: (&[u8], &[u8]), image: &mut [u8], r: &Request,
         StartRecover { method } => ends::start(s, method, false),
         DataAbort => ends::data_abort(s, notices),
         DataStop => ends::data_stop(s),
-        DataListen { address } => ends::data_listen(s, address),
-        DataConnect { address } => ends::data_connect(s, address),
+        DataListen { address } => ends::data_listen(s, address, lent.addresses),
+        DataConnect { ref to } => ends::data_connect(s, to, lent.made),
         MoverState => ends::mover_state(s),
-        MoverListen { mode, address } => ends::mover_listen(s, mode, address),
+        MoverListen { mode, address } => ends::mover_listen(s, mode, address, lent.addresses),
         MoverContinue => ends::mover_continue(s),
         MoverAbort => ends::mover_abort(s, notices),
         MoverStop => ends::mover_stop(s),
@@ -143,7 +145,7 @@ fn answer(s: &mut State, account: (&[u8], &[u8]), image: &mut [u8], r: &Request,
         MoverRead { offset, length } => ends::mover_read(s, offset, length),
         MoverClose => ends::mover_close(s, notices),
         SetRecordSize { size } => ends::set_record_size(s, size),
-        MoverConnect { mode, address } => ends::mover_connect(s, mode, address),
+        MoverConnect { mode, ref to } => ends::mover_connect(s, mode, to, lent.made),
     }
 }
 
@@ -168,4 +170,23 @@ pub fn move_from_tape(s: &mut State, image: &mut [u8], destination: &mut [u8], t
 
 pub fn end_method(s: &mut State, ok: bool, time: u32, room: usize) -> Given {
     event(s, time, room, |s| moves::end_method(s, ok))
+}
+
+pub fn made(s: &mut State, of_mover: bool, time: u32, room: usize) -> Given {
+    event(s, time, room, |s| moves::made(s, of_mover))
+}
+
+pub fn lost(s: &mut State, of_mover: bool, time: u32, room: usize) -> Given {
+    event(s, time, room, |s| moves::lost(s, of_mover))
+}
+
+/// 02 No. 14: "our reader gives the host its list": of a record that is a connect by TCP, whatever the session.
+pub fn addresses(input: &[u8]) -> Vec<(u32, u32)> {
+    let connect = framed(input).filter(|r| r.kind == 0 && HANDLED.contains(&r.message));
+    match connect.and_then(|r| decode(r.message, r.body)) {
+        Some(
+            Request::DataConnect { to: Address::Tcp(list) } | Request::MoverConnect { to: Address::Tcp(list), .. },
+        ) => list,
+        _ => vec![],
+    }
 }

@@ -19,9 +19,9 @@ pub fn auth(s: &mut State, account: (&[u8], &[u8]), text: Option<(&[u8], &[u8])>
     Ok(Writer::words(&[0]))
 }
 
-/// "Connection types: LOCAL 0."
+/// 02 No. 14: "Connection types lists 0 and 1." (01: "Connection types: LOCAL 0.")
 pub fn types() -> Outcome {
-    Ok(Writer::words(&[0, 1, 0]))
+    Ok(Writer::words(&[0, 2, 0, 1]))
 }
 
 /// "Server info gives empty strings before auth, then `vault`, `tape`, `1`; its auth list is type 1."

@@ -2,16 +2,61 @@
 
 use super::record::Notice;
 use super::refusals::{Outcome, refuse};
-use super::state::{BACKUP, Data, ENDLESS, Mover, RECOVER, State, data, mover};
+use super::requests::{Address, address_list};
+use super::state::{BACKUP, Data, ENDLESS, LOCAL, Mover, RECOVER, State, TCP, data, mover};
 use super::xdr::Writer;
 
 fn done() -> Outcome {
     Ok(Writer::words(&[0]))
 }
 
-/// A listen's reply: error, then the address, LOCAL.
-fn listening() -> Outcome {
-    Ok(Writer::words(&[0, 0]))
+/// A listen's reply: error, then the address. 02 No. 14: "A listen by TCP answers the XDR list that the host lends with
+/// its call".
+fn listening(address: u32, lent: &[u8]) -> Outcome {
+    let mut w = Writer::words(&[0, address]);
+    if address == TCP {
+        w.0.extend(lent);
+    }
+    Ok(w)
+}
+
+/// The address of a get state. 02 No. 14: "get state gives the type, until stop, with no addresses".
+fn shown(w: &mut Writer, address: u32) {
+    w.word(address);
+    if address == TCP {
+        w.word(0);
+    }
+}
+
+// Who may listen and connect.
+
+/// "Address types other than LOCAL: 9." 02 No. 14: "9 no longer for type 1; 9 for an empty list, and for a lent one that
+/// does not decode or is above 16,384 bytes".
+fn may_listen(address: u32, lent: &[u8]) -> Result<(), u32> {
+    refuse(address > TCP, 9)?;
+    if address == TCP {
+        refuse(lent.len() > 16_384, 9)?;
+        let list = address_list(lent).ok_or(9u32)?;
+        refuse(list.is_empty(), 9)?;
+    }
+    Ok(())
+}
+
+/// "23: the other end is not in LISTEN". 02 No. 14: "9 for an empty list"; "23 when failed is lent, or a LOCAL connect
+/// finds the other end listening by TCP". Gives the type.
+fn may_connect(to: &Address, made: bool, other_listens: bool) -> Result<u32, u32> {
+    match to {
+        Address::Local => {
+            refuse(!other_listens, 23)?;
+            Ok(LOCAL)
+        }
+        Address::Tcp(list) => {
+            refuse(list.is_empty(), 9)?;
+            refuse(!made, 23)?;
+            Ok(TCP)
+        }
+        Address::Other => Err(9),
+    }
 }
 
 // Halts and pauses.
@@ -38,6 +83,27 @@ pub fn pause(s: &mut State, reason: u32) -> Notice {
     Notice::MoverPaused(reason, s.mover.seek)
 }
 
+/// The data end halts, and the mover too where they are joined. 02 No. 14, by TCP: "any halt is of one end". "then its
+/// notices: data first, mover second"
+pub fn halt_from_data(s: &mut State, reason: u32, mover: u32) -> Vec<Notice> {
+    let joined = s.joined();
+    let mut notices = vec![halt_data(s, reason)];
+    if joined {
+        notices.push(halt_mover(s, mover));
+    }
+    notices
+}
+
+/// The mover halts, and the data end too where they are joined.
+pub fn halt_from_mover(s: &mut State, reason: u32, data: u32) -> Vec<Notice> {
+    let mut notices = vec![];
+    if s.joined() {
+        notices.push(halt_data(s, data));
+    }
+    notices.push(halt_mover(s, reason));
+    notices
+}
+
 /// The ends become joined, or the mover goes on: "The tape position when the mover became ACTIVE stands for the
 /// window's offset."
 fn run_mover(s: &mut State) {
@@ -58,28 +124,29 @@ pub fn data_state(s: &State) -> Outcome {
     // est_bytes_remain, est_time_remain, the address, read_offset, read_length
     w.hyper(0);
     w.word(0);
-    w.word(0);
+    shown(&mut w, d.address);
     w.hyper(0);
     w.hyper(0);
     Ok(w)
 }
 
-/// "Listen: IDLE to LISTEN." "Address types other than LOCAL: 9."
-pub fn data_listen(s: &mut State, address: u32) -> Outcome {
+/// "Listen: IDLE to LISTEN."
+pub fn data_listen(s: &mut State, address: u32, lent: &[u8]) -> Outcome {
     refuse(s.data.state != data::IDLE, 19)?;
-    refuse(address != 0, 9)?;
+    may_listen(address, lent)?;
     s.data.state = data::LISTEN;
-    listening()
+    s.data.address = address;
+    listening(address, lent)
 }
 
-/// "Connect: own end IDLE, other end LISTEN; data becomes CONNECTED, mover ACTIVE." "23: the other end is not in
-/// LISTEN"
-pub fn data_connect(s: &mut State, address: u32) -> Outcome {
+/// "Connect: own end IDLE, other end LISTEN; data becomes CONNECTED, mover ACTIVE." By TCP the mover is no party to it.
+pub fn data_connect(s: &mut State, to: &Address, made: bool) -> Outcome {
     refuse(s.data.state != data::IDLE, 19)?;
-    refuse(address != 0, 9)?;
-    refuse(s.mover.state != mover::LISTEN, 23)?;
+    s.data.address = may_connect(to, made, s.mover.listens(LOCAL))?;
     s.data.state = data::CONNECTED;
-    run_mover(s);
+    if s.joined() {
+        run_mover(s);
+    }
     done()
 }
 
@@ -103,12 +170,7 @@ pub fn data_stop(s: &mut State) -> Outcome {
 /// CONNECT_CLOSED 1."
 pub fn data_abort(s: &mut State, notices: &mut Vec<Notice>) -> Outcome {
     refuse(matches!(s.data.state, data::IDLE | data::HALTED), 19)?;
-    let joined = s.joined();
-    // "then its notices: data first, mover second"
-    notices.push(halt_data(s, 2));
-    if joined {
-        notices.push(halt_mover(s, 1));
-    }
+    notices.extend(halt_from_data(s, 2, 1));
     done()
 }
 
@@ -124,12 +186,12 @@ pub fn mover_state(s: &State) -> Outcome {
     for quad in [m.moved, m.seek, m.left, m.window.0, m.window.1] {
         w.hyper(quad);
     }
-    w.word(0);
+    shown(&mut w, m.address);
     Ok(w)
 }
 
 /// What mover listen and connect share.
-fn may_join(s: &State, mode: u32, address: u32) -> Result<(), u32> {
+fn may_join(s: &State, mode: u32) -> Result<(), u32> {
     let m = &s.mover;
     // "6: ... mover listen, connect, continue with no tape"
     refuse(!s.tape.open, 6)?;
@@ -139,22 +201,26 @@ fn may_join(s: &State, mode: u32, address: u32) -> Result<(), u32> {
     // "Mover listen and connect: 26 if record size or window is unset, or mode 0 with offset not 0."
     refuse(m.record_size == 0 || m.window.1 == 0 || (mode == 0 && m.window.0 != 0), 26)?;
     // "Mover mode 0 goes to tape, 1 from tape; others: 9."
-    refuse(address != 0 || mode > 1, 9)
+    refuse(mode > 1, 9)
 }
 
-pub fn mover_listen(s: &mut State, mode: u32, address: u32) -> Outcome {
-    may_join(s, mode, address)?;
+pub fn mover_listen(s: &mut State, mode: u32, address: u32, lent: &[u8]) -> Outcome {
+    may_join(s, mode)?;
+    may_listen(address, lent)?;
     s.mover.state = mover::LISTEN;
     s.mover.mode = mode;
-    listening()
+    s.mover.address = address;
+    listening(address, lent)
 }
 
-pub fn mover_connect(s: &mut State, mode: u32, address: u32) -> Outcome {
-    may_join(s, mode, address)?;
-    refuse(s.data.state != data::LISTEN, 23)?;
-    s.data.state = data::CONNECTED;
+pub fn mover_connect(s: &mut State, mode: u32, to: &Address, made: bool) -> Outcome {
+    may_join(s, mode)?;
+    s.mover.address = may_connect(to, made, s.data.listens(LOCAL))?;
     s.mover.mode = mode;
     run_mover(s);
+    if s.mover.address == LOCAL {
+        s.data.state = data::CONNECTED;
+    }
     done()
 }
 
@@ -170,18 +236,14 @@ pub fn mover_continue(s: &mut State) -> Outcome {
 
 pub fn mover_abort(s: &mut State, notices: &mut Vec<Notice>) -> Outcome {
     refuse(matches!(s.mover.state, mover::IDLE | mover::HALTED), 19)?;
-    if s.joined() {
-        notices.push(halt_data(s, 4));
-    }
-    notices.push(halt_mover(s, 2));
+    notices.extend(halt_from_mover(s, 2, 4));
     done()
 }
 
 /// "Mover close: PAUSED only; mover CONNECT_CLOSED, data CONNECT_ERROR."
 pub fn mover_close(s: &mut State, notices: &mut Vec<Notice>) -> Outcome {
     refuse(s.mover.state != mover::PAUSED, 19)?;
-    notices.push(halt_data(s, 4));
-    notices.push(halt_mover(s, 1));
+    notices.extend(halt_from_mover(s, 1, 4));
     done()
 }
 
@@ -189,6 +251,35 @@ pub fn mover_stop(s: &mut State) -> Outcome {
     refuse(s.mover.state != mover::HALTED, 19)?;
     s.mover = Mover::at_rest(s.mover.record_size);
     done()
+}
+
+// Events.
+
+/// 02 No. 14: "events naming an end report made where it listens by TCP ...; elsewhere they do nothing. Made joins as a
+/// connect does". Says whether it does.
+pub fn data_made(s: &mut State) -> bool {
+    let listens = s.data.listens(TCP);
+    if listens {
+        s.data.state = data::CONNECTED;
+    }
+    listens
+}
+
+pub fn mover_made(s: &mut State) -> bool {
+    let listens = s.mover.listens(TCP);
+    if listens {
+        run_mover(s);
+    }
+    listens
+}
+
+/// 02 No. 14: "lost where it is joined so", "lost halts as the partner's abort".
+pub fn data_lost(s: &mut State) -> Vec<Notice> {
+    if s.data.is_joined() && s.data.address == TCP { vec![halt_data(s, 4)] } else { vec![] }
+}
+
+pub fn mover_lost(s: &mut State) -> Vec<Notice> {
+    if s.mover.is_joined() && s.mover.address == TCP { vec![halt_mover(s, 1)] } else { vec![] }
 }
 
 /// "Set window: IDLE or PAUSED. Record size 0: 26. 9: length 0, offset or length no multiple of the record size, offset

@@ -2,6 +2,8 @@
 //! exact rules"), and each rule stands under its sentence. "004" is the NDMP draft. Where a sentence can be read in two
 //! ways, "reading" says which way is taken.
 
+#[cfg(test)]
+mod by_hand;
 pub mod calls;
 pub mod cartridge;
 pub mod changer;
@@ -14,6 +16,8 @@ pub mod relation;
 pub mod requests;
 pub mod state;
 pub mod tape;
+#[cfg(test)]
+mod vectors;
 pub mod xdr;
 
 pub use state::State;

@@ -1,9 +1,9 @@
 //! "Moving bytes".
 
 use super::cartridge::Cartridge;
-use super::ends::{halt_data, halt_mover, pause};
+use super::ends::{self, halt_from_data, halt_from_mover, pause};
 use super::record::Notice;
-use super::state::{BACKUP, ENDLESS, RECOVER, State, data, mover};
+use super::state::{BACKUP, ENDLESS, RECOVER, State, TCP, data, mover};
 
 /// Bytes taken or handed over, what is sent, and which rule it was (for counting).
 pub struct Move {
@@ -20,27 +20,37 @@ fn one(notice: Notice, rule: &'static str) -> Move {
     Move { count: 0, notices: vec![notice], rule }
 }
 
-/// Both ends halt; data's notice first.
-fn halts(s: &mut State, data: u32, mover: u32, rule: &'static str) -> Move {
-    let notices = vec![halt_data(s, data), halt_mover(s, mover)];
+fn halts(notices: Vec<Notice>, rule: &'static str) -> Move {
     Move { count: 0, notices, rule }
+}
+
+/// The ends run in this mode and operation. 02 No. 14, by TCP: "a move asks only that the mover be ACTIVE in its mode".
+fn runs(s: &State, mode: u32, operation: u32) -> bool {
+    let active = s.mover.state == mover::ACTIVE && s.mover.mode == mode;
+    active && (s.mover.address == TCP || s.data.state == data::ACTIVE && s.data.operation == operation)
+}
+
+/// "the joined data end's processed count is the same"; a mover joined by TCP has no such end.
+fn processed(s: &mut State, count: u64) {
+    if s.joined() {
+        s.data.processed = s.data.processed.wrapping_add(count);
+    }
 }
 
 /// "To tape, first that applies".
 pub fn to_tape(s: &mut State, image: &mut [u8], stream: &[u8], last: bool) -> Move {
     // "(1) mover not ACTIVE in mode 0, or data not ACTIVE in a backup: nothing"
-    if s.mover.state != mover::ACTIVE || s.mover.mode != 0 || s.data.state != data::ACTIVE || s.data.operation != BACKUP
-    {
+    if !runs(s, 0, BACKUP) {
         return nothing("(1) not running");
     }
     let position = s.tape.position;
     // "(2) image unsound or position above n: mover halts MEDIA_ERROR 5, data CONNECT_ERROR"
     let Some(cartridge) = Cartridge::standing(image, position) else {
-        return halts(s, 4, 5, "(2) fault");
+        return halts(halt_from_mover(s, 5, 4), "(2) fault");
     };
     // "(3) stream part empty and marked last: data halts SUCCESSFUL 1, mover CONNECT_CLOSED"
     if stream.is_empty() && last {
-        return halts(s, 1, 1, "(3) end");
+        return halts(halt_from_mover(s, 1, 1), "(3) end");
     }
     // "(4) bytes moved at the window's end: PAUSED EOW 5"
     let size = s.mover.record_size as usize;
@@ -67,22 +77,18 @@ pub fn to_tape(s: &mut State, image: &mut [u8], stream: &[u8], last: bool) -> Mo
     // "Bytes moved counts whole records to tape ...; the joined data end's processed count is the same, but to tape it
     // leaves the fill out. Both are taken modulo 2^64"
     s.mover.moved = s.mover.moved.wrapping_add(size as u64);
-    s.data.processed = s.data.processed.wrapping_add(taken as u64);
+    processed(s, taken as u64);
     Move { count: taken, notices: vec![], rule: if taken < size { "(7) filled record" } else { "(7) whole record" } }
 }
 
 /// "From tape (mover ACTIVE in mode 1, data ACTIVE in a recover; otherwise nothing)".
 pub fn from_tape(s: &mut State, image: &mut [u8], destination: &mut [u8]) -> Move {
-    if s.mover.state != mover::ACTIVE
-        || s.mover.mode != 1
-        || s.data.state != data::ACTIVE
-        || s.data.operation != RECOVER
-    {
+    if !runs(s, 1, RECOVER) {
         return nothing("not running");
     }
     // "fault as (2)"
     let Some(cartridge) = Cartridge::standing(image, s.tape.position) else {
-        return halts(s, 4, 5, "fault");
+        return halts(halt_from_mover(s, 5, 4), "fault");
     };
     // "nothing left to read or no destination room: nothing"
     if s.mover.left == 0 {
@@ -126,7 +132,7 @@ pub fn from_tape(s: &mut State, image: &mut [u8], destination: &mut [u8]) -> Mov
     };
     // "a target record of another length the halt of (2), tape unmoved"
     if target as u64 != size {
-        return halts(s, 4, 5, "record of another length");
+        return halts(halt_from_mover(s, 5, 4), "record of another length");
     }
     // "Otherwise the least of bytes left, rest of that record and destination room is handed over, added to seek
     // position, taken off bytes left; the tape stands after that record."
@@ -147,7 +153,7 @@ pub fn from_tape(s: &mut State, image: &mut [u8], destination: &mut [u8]) -> Mov
     s.mover.left -= count;
     // "bytes handed over from tape; the joined data end's processed count is the same"
     s.mover.moved = s.mover.moved.wrapping_add(count);
-    s.data.processed = s.data.processed.wrapping_add(count);
+    processed(s, count);
     Move { count: count as usize, notices: vec![], rule }
 }
 
@@ -157,5 +163,18 @@ pub fn end_method(s: &mut State, ok: bool) -> Move {
     if s.data.state != data::ACTIVE {
         return nothing("not active");
     }
-    if ok { halts(s, 1, 1, "successful") } else { halts(s, 3, 1, "internal error") }
+    let (reason, rule) = if ok { (1, "successful") } else { (3, "internal error") };
+    halts(halt_from_data(s, reason, 1), rule)
+}
+
+/// 02 No. 14: "events naming an end report made".
+pub fn made(s: &mut State, of_mover: bool) -> Move {
+    let joins = if of_mover { ends::mover_made(s) } else { ends::data_made(s) };
+    nothing(if joins { "joins" } else { "does nothing" })
+}
+
+/// 02 No. 14: "lost where it is joined so".
+pub fn lost(s: &mut State, of_mover: bool) -> Move {
+    let notices = if of_mover { ends::mover_lost(s) } else { ends::data_lost(s) };
+    if notices.is_empty() { nothing("does nothing") } else { halts(notices, "halts") }
 }

@@ -1,7 +1,7 @@
 //! "1002 if the session breaks a relation listed in docs/": the lines of docs/RELATION.md. Gives the number of the
 //! first broken line.
 
-use super::state::{ENDLESS, State, data, mover};
+use super::state::{ENDLESS, LOCAL, State, TCP, data, mover};
 
 pub fn broken(s: &State) -> Option<u32> {
     let m = &s.mover;
@@ -53,9 +53,23 @@ pub fn broken(s: &State) -> Option<u32> {
     if m.state == mover::ACTIVE && s.tape.position < m.origin {
         return Some(7);
     }
-    // data is CONNECTED or ACTIVE exactly when the mover is ACTIVE or PAUSED
-    if matches!(s.data.state, data::CONNECTED | data::ACTIVE) != matches!(m.state, mover::ACTIVE | mover::PAUSED) {
+    types(s)
+}
+
+/// What the ends owe each other, and their address types.
+fn types(s: &State) -> Option<u32> {
+    let m = &s.mover;
+    // by LOCAL, data is CONNECTED or ACTIVE exactly when the mover is ACTIVE or PAUSED
+    if s.joined() != (m.is_joined() && m.address == LOCAL) {
         return Some(8);
+    }
+    // an address type is LOCAL or TCP
+    if s.data.address > TCP || m.address > TCP {
+        return Some(9);
+    }
+    // IDLE: the address type is LOCAL
+    if s.data.state == data::IDLE && s.data.address != LOCAL || m.state == mover::IDLE && m.address != LOCAL {
+        return Some(10);
     }
     None
 }

@@ -1,6 +1,17 @@
 //! The requests and their bodies (004, Appendix C).
 
+use super::state::{LOCAL, TCP};
 use super::xdr::Reader;
+
+/// Where a connect goes: 004's ndmp_addr.
+#[derive(Debug, PartialEq)]
+pub enum Address {
+    Local,
+    /// Host and port of each.
+    Tcp(Vec<(u32, u32)>),
+    /// A type other than these; the rest is not read.
+    Other,
+}
 
 #[derive(Debug)]
 pub enum Request<'a> {
@@ -53,7 +64,7 @@ pub enum Request<'a> {
         address: u32,
     },
     DataConnect {
-        address: u32,
+        to: Address,
     },
     MoverState,
     MoverListen {
@@ -77,7 +88,7 @@ pub enum Request<'a> {
     },
     MoverConnect {
         mode: u32,
-        address: u32,
+        to: Address,
     },
 }
 
@@ -141,29 +152,16 @@ pub fn decode(message: u32, body: &[u8]) -> Option<Request<'_>> {
         }
         0x403 => Request::DataAbort,
         0x407 => Request::DataStop,
-        0x409 | 0x40a => {
-            let address = r.word()?;
-            let request =
-                if message == 0x409 { Request::DataListen { address } } else { Request::DataConnect { address } };
-            // "... except after an address type other than 0 ...: there the rest is not read."
-            if address != 0 {
-                return Some(request);
-            }
-            request
-        }
+        0x409 => Request::DataListen { address: address_type(&mut r)? },
+        0x40a => Request::DataConnect { to: address(&mut r)? },
         0xa00 => Request::MoverState,
-        0xa01 | 0xa09 => {
+        0xa01 => {
             let mode = r.word()?;
-            let address = r.word()?;
-            let request = if message == 0xa01 {
-                Request::MoverListen { mode, address }
-            } else {
-                Request::MoverConnect { mode, address }
-            };
-            if address != 0 {
-                return Some(request);
-            }
-            request
+            Request::MoverListen { mode, address: address_type(&mut r)? }
+        }
+        0xa09 => {
+            let mode = r.word()?;
+            Request::MoverConnect { mode, to: address(&mut r)? }
         }
         0xa02 => Request::MoverContinue,
         0xa03 => Request::MoverAbort,
@@ -192,6 +190,46 @@ fn environment(r: &mut Reader) -> Option<()> {
         r.opaque()?;
     }
     Some(())
+}
+
+/// The address type of a listen. "Bytes left over make error 18, except after an address type other than 0 ...: there
+/// the rest is not read." 02 No. 14: "type 1 no longer leaves bytes unread".
+fn address_type(r: &mut Reader) -> Option<u32> {
+    let kind = r.word()?;
+    if kind > TCP {
+        r.skip();
+    }
+    Some(kind)
+}
+
+/// The address of a connect.
+fn address(r: &mut Reader) -> Option<Address> {
+    Some(match address_type(r)? {
+        LOCAL => Address::Local,
+        TCP => Address::Tcp(addresses(r)?),
+        _ => Address::Other,
+    })
+}
+
+/// 02 No. 14: "lists of up to 16 addresses, each with up to 64 environment pairs (more, or a port above 65,535, is 18)".
+fn addresses(r: &mut Reader) -> Option<Vec<(u32, u32)>> {
+    let count = r.word().filter(|n| *n <= 16)?;
+    (0..count)
+        .map(|_| {
+            let host = r.word()?;
+            let port = r.word().filter(|p| *p <= 65_535)?;
+            environment(r)?;
+            Some((host, port))
+        })
+        .collect()
+}
+
+/// A whole list of addresses, as a host lends it: None if it does not decode.
+pub fn address_list(bytes: &[u8]) -> Option<Vec<(u32, u32)>> {
+    let mut r = Reader(bytes);
+    let all = addresses(&mut r)?;
+    r.end()?;
+    Some(all)
 }
 
 /// ndmp_name: four strings and two quads.

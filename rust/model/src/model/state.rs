@@ -22,6 +22,10 @@ pub mod mover {
 pub const BACKUP: u32 = 1;
 pub const RECOVER: u32 = 2;
 
+/// Address types of 004: NDMP_ADDR_LOCAL, NDMP_ADDR_TCP.
+pub const LOCAL: u32 = 0;
+pub const TCP: u32 = 1;
+
 /// 004: NDMP_MOVER_MODE_NOACTION, the mode of a mover at rest (reading).
 pub const NOACTION: u32 = 2;
 
@@ -44,6 +48,8 @@ pub struct Data {
     pub state: u32,
     pub operation: u32,
     pub halt: u32,
+    /// 02 No. 14: "get state gives the type, until stop".
+    pub address: u32,
     pub processed: u64,
 }
 
@@ -54,6 +60,7 @@ pub struct Mover {
     pub pause: u32,
     pub halt: u32,
     pub record_size: u32,
+    pub address: u32,
     /// Offset and length; length 0 is no window.
     pub window: (u64, u64),
     pub moved: u64,
@@ -77,8 +84,16 @@ pub struct Changer {
 }
 
 impl Data {
+    pub fn is_joined(&self) -> bool {
+        matches!(self.state, data::CONNECTED | data::ACTIVE)
+    }
+
+    pub fn listens(&self, address: u32) -> bool {
+        self.state == data::LISTEN && self.address == address
+    }
+
     pub fn at_rest() -> Data {
-        Data { state: data::IDLE, operation: 0, halt: 0, processed: 0 }
+        Data { state: data::IDLE, operation: 0, halt: 0, address: LOCAL, processed: 0 }
     }
 }
 
@@ -86,6 +101,14 @@ impl Data {
 pub const ENDLESS: u64 = 18446744073709551615;
 
 impl Mover {
+    pub fn is_joined(&self) -> bool {
+        matches!(self.state, mover::ACTIVE | mover::PAUSED)
+    }
+
+    pub fn listens(&self, address: u32) -> bool {
+        self.state == mover::LISTEN && self.address == address
+    }
+
     /// The position that the window ends before. 02 No. 1: a window of all ones goes "from the offset up to stream
     /// position 2^64 - 1, itself outside".
     pub fn window_end(&self) -> u128 {
@@ -102,6 +125,7 @@ impl Mover {
             pause: 0,
             halt: 0,
             record_size,
+            address: LOCAL,
             window: (0, 0),
             moved: 0,
             seek: 0,
@@ -126,8 +150,9 @@ impl State {
         }
     }
 
-    /// "Data is CONNECTED or ACTIVE exactly when the mover is ACTIVE or PAUSED; then they are joined."
+    /// "Data is CONNECTED or ACTIVE exactly when the mover is ACTIVE or PAUSED; then they are joined." 02 No. 14: "A vault
+    /// end joined by TCP has no local partner, so 01's rules on joined ends and 23 hold for LOCAL only".
     pub fn joined(&self) -> bool {
-        matches!(self.data.state, data::CONNECTED | data::ACTIVE)
+        self.data.is_joined() && self.data.address == LOCAL
     }
 }

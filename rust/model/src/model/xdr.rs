@@ -33,6 +33,11 @@ impl<'a> Reader<'a> {
         fill.iter().all(|b| *b == 0).then_some(bytes)
     }
 
+    /// "there the rest is not read"
+    pub fn skip(&mut self) {
+        self.0 = &[];
+    }
+
     /// "Bytes left over make error 18."
     pub fn end(self) -> Option<()> {
         self.0.is_empty().then_some(())
