@@ -22,7 +22,11 @@ struct Step {
 
 enum News {
     None,
-    Halted { data: u32, mover: u32 },
+    /// By TCP an end halts alone.
+    Halted {
+        data: Option<u32>,
+        mover: Option<u32>,
+    },
     Paused(u32),
 }
 
@@ -51,6 +55,17 @@ fn place_is_right(m: &Mover) -> bool {
     }
 }
 
+fn address_is_right(state: u32, idle: u32, address: u32) -> bool {
+    address <= codes::TCP_ADDRESS && (state != idle || address == codes::LOCAL_ADDRESS)
+}
+
+/// By LOCAL, both or none.
+fn join_is_right(d: &Data, m: &Mover) -> bool {
+    let data = matches!(d.state, Data::CONNECTED | Data::ACTIVE) && d.address == codes::LOCAL_ADDRESS;
+    let mover = matches!(m.state, Mover::ACTIVE | Mover::PAUSED) && m.address == codes::LOCAL_ADDRESS;
+    data == mover
+}
+
 fn is_related(s: &Session) -> bool {
     let (d, m, t) = (&s.source, &s.mover, &s.tape);
     let holds = matches!(m.state, Mover::LISTEN | Mover::ACTIVE);
@@ -63,7 +78,9 @@ fn is_related(s: &Session) -> bool {
         && (!holds || m.length != 0 && t.opened && (m.mode != Mover::TO_TAPE || t.writable))
         && (m.mode != Mover::TO_TAPE || place_is_right(m))
         && (m.state != Mover::ACTIVE || m.origin <= t.position)
-        && matches!(d.state, Data::CONNECTED | Data::ACTIVE) == matches!(m.state, Mover::ACTIVE | Mover::PAUSED)
+        && address_is_right(d.state, Data::IDLE, d.address)
+        && address_is_right(m.state, Mover::IDLE, m.address)
+        && join_is_right(d, m)
 }
 
 // ---- what a move can come to
@@ -78,24 +95,52 @@ fn pause(s: &mut Session, rule: &'static str, why: u32) -> Step {
     Step { rule, count: 0, news: News::Paused(why) }
 }
 
-fn halt(s: &mut Session, rule: &'static str, data: u32, mover: u32) -> Step {
-    (s.source.state, s.source.reason) = (Data::HALTED, data);
-    (s.mover.state, s.mover.pause, s.mover.halt) = (Mover::HALTED, 0, mover);
+fn halt(s: &mut Session, rule: &'static str, data: Option<u32>, mover: Option<u32>) -> Step {
+    if let Some(reason) = data {
+        (s.source.state, s.source.reason) = (Data::HALTED, reason);
+    }
+    if let Some(reason) = mover {
+        (s.mover.state, s.mover.pause, s.mover.halt) = (Mover::HALTED, 0, reason);
+    }
     Step { rule, count: 0, news: News::Halted { data, mover } }
+}
+
+/// The mover halts, and by LOCAL the data end too.
+fn halt_mover(s: &mut Session, rule: &'static str, data: u32, mover: u32) -> Step {
+    let joined = s.mover.address == codes::LOCAL_ADDRESS;
+    halt(s, rule, joined.then_some(data), Some(mover))
+}
+
+/// The method's end: the data end halts, and by LOCAL the mover too.
+fn halt_data(s: &mut Session, rule: &'static str, data: u32) -> Step {
+    let joined = s.source.address == codes::LOCAL_ADDRESS;
+    halt(s, rule, Some(data), joined.then_some(Mover::CONNECT_CLOSED))
+}
+
+/// By TCP nothing is asked of the data end.
+fn runs(d: &Data, m: &Mover, mode: u32, operation: u32) -> bool {
+    let fed = m.address == codes::TCP_ADDRESS || d.state == Data::ACTIVE && d.operation == operation;
+    m.state == Mover::ACTIVE && m.mode == mode && fed
+}
+
+fn add_processed(d: &mut Data, m: &Mover, count: usize) {
+    if m.address == codes::LOCAL_ADDRESS {
+        d.processed = d.processed.wrapping_add(count as u64);
+    }
 }
 
 // ---- to tape
 
 fn to_tape(s: &mut Session, image: &mut [u8], stream: &[u8], last: bool) -> Step {
     let (d, m, position) = (&mut s.source, &mut s.mover, s.tape.position);
-    if m.state != Mover::ACTIVE || m.mode != Mover::TO_TAPE || d.state != Data::ACTIVE || d.operation != Data::BACKUP {
+    if !runs(d, m, Mover::TO_TAPE, Data::BACKUP) {
         return nothing("1");
     }
     if faulty(image, position) {
-        return halt(s, "2", Data::CONNECT_ERROR, Mover::MEDIA_ERROR);
+        return halt_mover(s, "2", Data::CONNECT_ERROR, Mover::MEDIA_ERROR);
     }
     if stream.is_empty() && last {
-        return halt(s, "3", Data::SUCCESSFUL, Mover::CONNECT_CLOSED);
+        return halt_mover(s, "3", Data::SUCCESSFUL, Mover::CONNECT_CLOSED);
     }
     let size = m.size as usize;
     let left = window_end(m).map_or(0, |end| end - m.moved);
@@ -116,7 +161,7 @@ fn to_tape(s: &mut Session, image: &mut [u8], stream: &[u8], last: bool) -> Step
     let (bytes, fill) = image[start..start + size].split_at_mut(part.len());
     bytes.copy_from_slice(part);
     fill.fill(0);
-    d.processed = d.processed.wrapping_add(part.len() as u64);
+    add_processed(d, m, part.len());
     m.moved = m.moved.wrapping_add(size as u64);
     s.tape.position = position + 1;
     Step { rule: if part.len() < size { "7, filled" } else { "7" }, count: part.len(), news: News::None }
@@ -147,14 +192,14 @@ fn hand(s: &mut Session, image: &[u8], entry: usize, dest: &mut [u8]) -> Step {
     let (d, m) = (&mut s.source, &mut s.mover);
     let size = m.size as usize;
     if word(image, 16 + entry * 8) != size {
-        return halt(s, "wrong length", Data::CONNECT_ERROR, Mover::MEDIA_ERROR);
+        return halt_mover(s, "wrong length", Data::CONNECT_ERROR, Mover::MEDIA_ERROR);
     }
     let into = ((m.seek - m.offset) % size as u64) as usize;
     let n = (size - into).min(dest.len()).min(m.left as usize);
     let start = 16 + word(image, 4) * 8 + word(image, 20 + entry * 8) + into;
     dest[..n].copy_from_slice(&image[start..start + n]);
     let count = n as u64;
-    d.processed = d.processed.wrapping_add(count);
+    add_processed(d, m, n);
     m.moved = m.moved.wrapping_add(count);
     m.seek += count;
     m.left -= count;
@@ -164,12 +209,11 @@ fn hand(s: &mut Session, image: &[u8], entry: usize, dest: &mut [u8]) -> Step {
 
 fn from_tape(s: &mut Session, image: &[u8], dest: &mut [u8]) -> Step {
     let (d, m) = (&s.source, &s.mover);
-    if m.state != Mover::ACTIVE || m.mode != Mover::FROM_TAPE || d.state != Data::ACTIVE || d.operation != Data::RECOVER
-    {
+    if !runs(d, m, Mover::FROM_TAPE, Data::RECOVER) {
         return nothing("idle");
     }
     if faulty(image, s.tape.position) {
-        return halt(s, "fault", Data::CONNECT_ERROR, Mover::MEDIA_ERROR);
+        return halt_mover(s, "fault", Data::CONNECT_ERROR, Mover::MEDIA_ERROR);
     }
     if m.left == 0 {
         return nothing("nothing left");
@@ -210,8 +254,8 @@ fn report(s: &mut Session, step: Step, time: u32, out: &mut [u8]) -> Told {
     let len = match step.news {
         News::None => 0,
         News::Halted { data, mover } => {
-            let at = send(s, out, 0, time, message::NOTIFY_DATA_HALTED, &[data]);
-            send(s, out, at, time, message::NOTIFY_MOVER_HALTED, &[mover])
+            let at = data.map_or(0, |reason| send(s, out, 0, time, message::NOTIFY_DATA_HALTED, &[reason]));
+            mover.map_or(at, |reason| send(s, out, at, time, message::NOTIFY_MOVER_HALTED, &[reason]))
         }
         News::Paused(why) => {
             let seek = s.mover.seek;
@@ -260,8 +304,8 @@ pub fn end_method(s: &mut Session, ok: bool, time: u32, out: &mut [u8]) -> Told 
     }
     let step = match (s.source.state == Data::ACTIVE, ok) {
         (false, _) => nothing("nothing"),
-        (true, true) => halt(s, "SUCCESSFUL", Data::SUCCESSFUL, Mover::CONNECT_CLOSED),
-        (true, false) => halt(s, "INTERNAL_ERROR", Data::INTERNAL_ERROR, Mover::CONNECT_CLOSED),
+        (true, true) => halt_data(s, "SUCCESSFUL", Data::SUCCESSFUL),
+        (true, false) => halt_data(s, "INTERNAL_ERROR", Data::INTERNAL_ERROR),
     };
     report(s, step, time, out)
 }

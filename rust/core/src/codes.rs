@@ -40,6 +40,7 @@ numbers! {
     MOST_LISTED: u32 = 64;
     MOST_ADDRESSES: u32 = 16;
     MOST_PORT: u32 = 65535;
+    MOST_LENT: usize = 16384;
     LOCAL_ADDRESS: u32 = 0;
     TCP_ADDRESS: u32 = 1;
     TEXT_AUTH: u32 = 1;

@@ -38,8 +38,8 @@ macro_rules! by_value {
 }
 
 by_value! {
-    Data { state, operation, reason, processed }
-    Mover { state, mode, pause, halt, size, offset, length, moved, seek, left, origin }
+    Data { state, operation, reason, address, processed }
+    Mover { state, mode, pause, halt, size, address, offset, length, moved, seek, left, origin }
     Tape { opened, writable, position }
     Changer { opened, pending }
     Login { authorized }
@@ -56,6 +56,9 @@ unsafe extern "C" {
         id_len: usize,
         password: *const u8,
         password_len: usize,
+        addresses: *const u8,
+        addresses_len: usize,
+        made: bool,
         image: *mut u8,
         n: usize,
         input: *const u8,
@@ -86,6 +89,9 @@ unsafe extern "C" {
         k: usize,
     ) -> Moved;
     fn mossgoblin_end_method(s: Session, ok: bool, time: u32, out: *mut u8, n: usize) -> Answer;
+    fn mossgoblin_made(s: Session, mover: bool, time: u32, out: *mut u8, n: usize) -> Answer;
+    fn mossgoblin_lost(s: Session, mover: bool, time: u32, out: *mut u8, n: usize) -> Answer;
+    fn mossgoblin_addresses(input: *const u8, n: usize) -> Addresses;
     fn mossgoblin_sound(image: *const u8, n: usize) -> bool;
     fn mossgoblin_entry(image: *const u8, n: usize, i: usize) -> Entry;
 }
@@ -100,16 +106,30 @@ pub struct Entry {
     pub start: usize,
 }
 
-// Safety, of all seven: the slices are whole and apart, and the functions ask for nothing else.
+/// Where a connect by TCP may go, as `crates/capi` has it: so many hosts, as numbers, each with the port beside it. What is past the count is 0.
+#[repr(C)]
+#[derive(Clone, Copy, Debug, PartialEq)]
+pub struct Addresses {
+    pub count: u32,
+    pub hosts: [u32; codes::MOST_ADDRESSES as usize],
+    pub ports: [u32; codes::MOST_ADDRESSES as usize],
+}
+
+// Safety, of all ten: the slices are whole and apart, and the functions ask for nothing else.
 
 pub fn open(time: u32, out: &mut [u8]) -> Answer {
     unsafe { mossgoblin_open(time, out.as_mut_ptr(), out.len()) }
 }
 
+/// The addresses are what a listen by TCP answers: an XDR list, without the type. Made is whether the connection of a connect by TCP was made. Other
+/// requests look at neither.
+#[allow(clippy::too_many_arguments)]
 pub fn request(
     s: Session,
     id: &[u8],
     password: &[u8],
+    addresses: &[u8],
+    made: bool,
     image: &mut [u8],
     input: &[u8],
     time: u32,
@@ -122,6 +142,9 @@ pub fn request(
             id.len(),
             password.as_ptr(),
             password.len(),
+            addresses.as_ptr(),
+            addresses.len(),
+            made,
             image.as_mut_ptr(),
             image.len(),
             input.as_ptr(),
@@ -166,6 +189,21 @@ pub fn move_from_tape(s: Session, image: &[u8], dest: &mut [u8], time: u32, out:
 
 pub fn end_method(s: Session, ok: bool, time: u32, out: &mut [u8]) -> Answer {
     unsafe { mossgoblin_end_method(s, ok, time, out.as_mut_ptr(), out.len()) }
+}
+
+/// The event of a connection that was made where the mover, or else the data end, listens by TCP.
+pub fn made(s: Session, mover: bool, time: u32, out: &mut [u8]) -> Answer {
+    unsafe { mossgoblin_made(s, mover, time, out.as_mut_ptr(), out.len()) }
+}
+
+/// The event of a connection that was lost where the mover, or else the data end, is joined by TCP.
+pub fn lost(s: Session, mover: bool, time: u32, out: &mut [u8]) -> Answer {
+    unsafe { mossgoblin_lost(s, mover, time, out.as_mut_ptr(), out.len()) }
+}
+
+/// The addresses of a record that is a connect by TCP; none of any other.
+pub fn addresses(input: &[u8]) -> Addresses {
+    unsafe { mossgoblin_addresses(input.as_ptr(), input.len()) }
 }
 
 /// The image is a sound cartridge.

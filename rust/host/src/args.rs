@@ -1,18 +1,21 @@
 //! The options of `mossgoblin serve`.
 use crate::line::Limits;
 use crate::options::{Known, Written, alone, valued};
+use crate::ports::{self, Ports};
 use std::ffi::OsStr;
 use std::os::unix::ffi::OsStrExt;
 use std::path::PathBuf;
 use std::time::Duration;
 
-pub const SERVE: [Known; 14] = [
+pub const SERVE: [Known; 16] = [
     valued("--listen"),
     valued("--cartridge"),
     valued("--new-cartridge"),
     valued("--account"),
     valued("--stream"),
     valued("--restore-to"),
+    valued("--data-address"),
+    valued("--data-ports"),
     valued("--status"),
     alone("--strict"),
     valued("--sync"),
@@ -31,6 +34,7 @@ pub struct Args {
     pub password: Vec<u8>,
     pub stream: Option<PathBuf>,
     pub restore_to: Option<PathBuf>,
+    pub ports: Ports,
     pub status: Option<String>,
     pub limits: Limits,
     pub strict: bool,
@@ -98,6 +102,10 @@ pub fn serve(w: &Written) -> Result<Args, String> {
         password,
         stream: w.value("--stream").map(PathBuf::from),
         restore_to: w.value("--restore-to").map(PathBuf::from),
+        ports: Ports {
+            addresses: ports::addresses(w.text("--data-address")?.unwrap_or("127.0.0.1"))?,
+            range: w.text("--data-ports")?.map(ports::range).transpose()?,
+        },
         status: w.text("--status")?.map(status),
         limits,
         strict: w.has("--strict"),

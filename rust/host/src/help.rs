@@ -25,6 +25,7 @@ mossgoblin serve: put a cartridge on a port, for any NDMP v4 client
 
   mossgoblin serve --listen ADDRESS:PORT --cartridge FILE --account ID:PASSWORD
                    [--new-cartridge SIZE] [--stream DIR|FILE] [--restore-to DIR|FILE]
+                   [--data-address ADDRESS[,ADDRESS..]] [--data-ports LOW-HIGH]
                    [--strict] [--sync each|marks] [--status [ADDRESS:]PORT]
                    [--login-within SECONDS] [--idle SECONDS] [--hold SECONDS]
                    [--send-within SECONDS] [--quiet]
@@ -46,6 +47,15 @@ mossgoblin serve: put a cartridge on a port, for any NDMP v4 client
                           that is there; any other name is a file for the one file of
                           the archive, or for a folder's archive as it is. What stood
                           there stays until the stream was found whole.
+  --data-address ADDRESS[,ADDRESS..]
+                          where another vault or server connects for a copy by TCP:
+                          IPv4 addresses of this machine, at most 16 (127.0.0.1, for
+                          those on this machine). A port is open there only from a
+                          listen by TCP until a peer has connected, or an abort. Nobody
+                          logs in there: whoever connects first is the peer, and the log
+                          names it.
+  --data-ports LOW-HIGH   the ports that may be opened there, such as 10100-10131 for a
+                          firewall; by default any that is free
   --strict                end a backup at the first file that cannot be read. Without it
                           such a file is left out, named in the log and counted in the
                           backup's last line.
@@ -60,11 +70,15 @@ mossgoblin serve: put a cartridge on a port, for any NDMP v4 client
                           login, and can change nothing.
   --login-within SECONDS  end a connection that has not logged in by then (30)
   --idle SECONDS          end a connection that sends nothing for so long (3600)
-  --hold SECONDS          the same while it has the tape and nothing moves (600)
-  --send-within SECONDS   end a connection that does not take an answer for so long (60)
+  --hold SECONDS          the same while it has the tape and nothing moves (600). By TCP,
+                          a peer that is waited for meanwhile is given up, and the
+                          client told
+  --send-within SECONDS   end a connection that does not take an answer for so long (60).
+                          A backup by TCP waits as long for a peer that has confirmed
+                          all and does not close
   --quiet                 no progress and no refusals on standard error, only errors
 
-The devices are `tape0` and `changer0`, the method is `dump`, addresses are LOCAL.
+The devices are `tape0` and `changer0`, the method is `dump`, addresses are LOCAL and TCP.
 A backup, seen from the client: connect open (version 4), client auth (text), tape open
 `tape0` for writing, mover set record size (10,240 where it is left out), mover set window,
 mover listen (mode 0), data connect, data start backup. At `mover paused` with reason 5 (end
@@ -72,6 +86,9 @@ of window): set the next window and continue; a window of length 2^64 - 1 has no
 `data halted`: data stop, mover stop, tape close.
 A recover is the same with mode 1 and data start recover, from a rewound tape; the mover
 reads are made by the vault.
+A copy between two vaults has a session on each: mover listen by TCP where the tape is gives
+addresses, data connect to them where the files are, data start backup; or data listen and
+mover connect. In such a recover the client sends the mover reads.
 
 Names of a recover are those in the archive, with or without FILESYSTEM before them: only
 these are restored. Other wishes are not followed, and the log says so.
@@ -84,6 +101,8 @@ Examples:
   mossgoblin serve --listen 127.0.0.1:10000 --cartridge tape --new-cartridge 128M \\
                    --account vault:noon --stream docs --restore-to /tmp/restored
   mossgoblin serve --listen=127.0.0.1:10000 --cartridge=tape --account=vault:noon --status=8080
+  mossgoblin serve --listen 10.0.0.2:10000 --cartridge tape --account vault:noon \\
+                   --data-address 10.0.0.2 --data-ports 10100-10131
 ";
 
 pub const NEW: &str = "\

@@ -1,9 +1,11 @@
 //! One connection's session and what it works on: the core's value, the cartridge while its tape is open, and the
 //! method.
 use crate::cartridge::Cartridge;
+use crate::ends::Ends;
 use crate::folder::Id;
 use crate::job::Job;
 use crate::log::Log;
+use crate::ports::Ports;
 use crate::progress::Progress;
 use crate::vault::Vault;
 use crate::watch::Watch;
@@ -37,6 +39,8 @@ pub struct Shared {
     pub password: Vec<u8>,
     pub stream: Option<PathBuf>,
     pub restore_to: Option<PathBuf>,
+    /// Where peers connect.
+    pub ports: Ports,
     /// The cartridge, which is neither backed up nor restored over.
     pub except: Vec<Id>,
     pub limits: Limits,
@@ -109,6 +113,12 @@ pub struct Line<'a> {
     /// The cartridge, while this session's tape is open.
     pub held: Option<Cartridge>,
     pub job: Option<Job>,
+    /// The peers of ends that are joined by TCP.
+    pub ends: Ends,
+    /// Whether it was told, since the last listen, that a peer could not be taken.
+    pub unmet: bool,
+    /// When the client last said something, or bytes moved.
+    pub heard: Instant,
     pub wishes: Wishes,
     /// The length of the stream that the job reads, where it is known.
     pub whole: Option<u64>,
@@ -121,7 +131,7 @@ pub struct Line<'a> {
 }
 
 /// Bytes of a backup after which the cartridge file follows, at least and at most.
-pub const LEAST_BURST: usize = 4 << 20;
+const LEAST_BURST: usize = 4 << 20;
 const MOST_BURST: usize = 32 << 20;
 /// The client is not heard meanwhile: it should not take longer.
 const STORE_TIME: Duration = Duration::from_millis(400);
@@ -141,11 +151,40 @@ pub fn image(held: &mut Option<Cartridge>) -> &mut [u8] {
     held.as_mut().map_or(&mut [], |c| &mut c.image)
 }
 
+impl<'a> Line<'a> {
+    pub fn new(socket: TcpStream, shared: &'a Shared, number: usize, core: Session, out: Vec<u8>) -> Line<'a> {
+        Line {
+            shared,
+            number,
+            core,
+            told: core,
+            held: None,
+            job: None,
+            ends: Ends::default(),
+            unmet: false,
+            heard: Instant::now(),
+            wishes: Wishes::default(),
+            whole: None,
+            out,
+            progress: Progress::new(&shared.log, number),
+            unstored: 0,
+            burst: LEAST_BURST,
+            socket,
+        }
+    }
+}
+
 impl Line<'_> {
     /// One request of the core: the client's record, or one of the host's own. What comes back is not taken over yet.
     pub fn ask(&mut self, record: &[u8]) -> proved::Answer {
+        self.ask_with(record, &[], false)
+    }
+
+    /// With the addresses that a listen by TCP answers, and whether the connection of a connect by TCP was made.
+    pub fn ask_with(&mut self, record: &[u8], addresses: &[u8], made: bool) -> proved::Answer {
         let (id, password) = (&self.shared.id, &self.shared.password);
-        proved::request(self.core, id, password, image(&mut self.held), record, seconds(), &mut self.out)
+        let (image, out) = (image(&mut self.held), &mut self.out);
+        proved::request(self.core, id, password, addresses, made, image, record, seconds(), out)
     }
 
     /// Takes over what a call made of the session; `from` is the tape's position before a call that may have written
@@ -161,6 +200,10 @@ impl Line<'_> {
         }
         self.core = next;
         self.progress.states(&self.core, self.whole);
+        for (end, joined) in self.ends.follow(&self.core) {
+            let (peer, bytes) = (joined.name, joined.bytes);
+            self.progress.line(format_args!("{end}'s connection with {peer} is closed, {bytes} bytes"));
+        }
         Ok(())
     }
 
@@ -248,7 +291,7 @@ impl Line<'_> {
     /// Shows the session as it is now to the status page.
     pub fn show(&self) {
         if let Some(watch) = &self.shared.watch {
-            watch.is(self.number, &self.core, self.whole);
+            watch.is(self.number, &self.core, self.whole, self.ends.far());
         }
     }
 }

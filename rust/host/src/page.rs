@@ -1,11 +1,12 @@
 //! What the status page says, as HTML without a script and as JSON. Text from outside is escaped.
 use crate::commands::{counted, grouped};
+use crate::ends::Far;
 use crate::line::Shared;
 use crate::log::clock;
-use crate::progress::{percent, window};
+use crate::progress::{by_tcp, percent, window};
 use crate::server::MOST_CONNECTIONS;
 use crate::watch::{All, Seen, Tape};
-use proved::{Data, Mover, Session};
+use proved::{Data, Mover, Session, codes};
 use std::fmt::Write;
 use std::time::Duration;
 
@@ -77,22 +78,36 @@ fn part_of(n: u64, whole: u64) -> u64 {
     if whole == 0 { 0 } else { (n as u128 * 100 / whole as u128) as u64 }
 }
 
-fn data_told(s: &Session) -> String {
-    match s.source.state {
+/// An end's address type, and its open ports or its peer.
+fn far_told(address: u32, far: &Far) -> String {
+    let mut text = String::from(by_tcp(address));
+    if !far.ports.is_empty() {
+        text += &format!(" at {}", escaped(&far.ports.join(", ")));
+    }
+    if let Some(peer) = &far.peer {
+        text += &format!(" with {}, {} bytes", escaped(peer), grouped(far.bytes));
+    }
+    text
+}
+
+fn data_told(s: &Session, far: &Far) -> String {
+    let text = match s.source.state {
         Data::HALTED => format!("{} ({})", s.source.state_name(), s.source.halt_name()),
         Data::ACTIVE => format!("{} ({})", s.source.state_name(), s.source.operation_name()),
         _ => s.source.state_name().into(),
-    }
+    };
+    text + &far_told(s.source.address, far)
 }
 
-fn mover_told(s: &Session) -> String {
+fn mover_told(s: &Session, far: &Far) -> String {
     let m = &s.mover;
-    match m.state {
+    let text = match m.state {
         Mover::PAUSED => format!("{} ({})", m.state_name(), m.pause_name()),
         Mover::HALTED => format!("{} ({})", m.state_name(), m.halt_name()),
         Mover::IDLE => m.state_name().into(),
         _ => format!("{} ({})", m.state_name(), m.mode_name()),
-    }
+    };
+    text + &far_told(m.address, far)
 }
 
 /// The window in force and how far it is moved; of the session that has the tape.
@@ -136,8 +151,8 @@ fn row(number: usize, seen: &Seen) -> String {
         escaped(&seen.peer),
         span(seen.since.elapsed()),
         if s.login.authorized { "yes" } else { "no" }.into(),
-        data_told(s),
-        mover_told(s),
+        data_told(s, &seen.far[0]),
+        mover_told(s, &seen.far[1]),
         record,
         window,
         grouped(m.moved),
@@ -248,6 +263,13 @@ pub fn html(s: &Shown) -> String {
     )
 }
 
+fn address_json(address: u32, far: &Far) -> String {
+    let kind = if address == codes::TCP_ADDRESS { "TCP" } else { "LOCAL" };
+    let ports: Vec<String> = far.ports.iter().map(|at| quoted(at)).collect();
+    let peer = far.peer.as_ref().map_or("null".into(), |p| quoted(p));
+    format!("{{\"type\":\"{kind}\",\"ports\":[{}],\"peer\":{peer},\"bytes\":{}}}", ports.join(","), far.bytes)
+}
+
 fn session_json(number: usize, seen: &Seen) -> String {
     let (s, m) = (&seen.session, &seen.session.mover);
     let window = if m.length == 0 {
@@ -258,8 +280,8 @@ fn session_json(number: usize, seen: &Seen) -> String {
     };
     format!(
         "{{\"number\":{number},\"peer\":{},\"seconds\":{},\"authorized\":{},\
-         \"data\":{{\"state\":{},\"operation\":{},\"halt\":{},\"processed\":{},\"stream\":{}}},\
-         \"mover\":{{\"state\":{},\"mode\":{},\"pause\":{},\"halt\":{},\"record_size\":{},\"window\":{window},\"moved\":{}}},\
+         \"data\":{{\"state\":{},\"operation\":{},\"halt\":{},\"processed\":{},\"stream\":{},\"address\":{}}},\
+         \"mover\":{{\"state\":{},\"mode\":{},\"pause\":{},\"halt\":{},\"record_size\":{},\"address\":{},\"window\":{window},\"moved\":{}}},\
          \"tape\":{{\"open\":{},\"writable\":{},\"position\":{}}},\"changer\":{{\"open\":{}}}}}",
         quoted(&seen.peer),
         seen.since.elapsed().as_secs(),
@@ -269,11 +291,13 @@ fn session_json(number: usize, seen: &Seen) -> String {
         quoted(s.source.halt_name()),
         s.source.processed,
         seen.whole.map_or("null".into(), |n| n.to_string()),
+        address_json(s.source.address, &seen.far[0]),
         quoted(m.state_name()),
         quoted(m.mode_name()),
         quoted(m.pause_name()),
         quoted(m.halt_name()),
         m.size,
+        address_json(m.address, &seen.far[1]),
         m.moved,
         s.tape.opened,
         s.tape.writable,

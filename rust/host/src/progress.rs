@@ -1,7 +1,7 @@
 //! What a session tells of itself: a line for each change of state; on a terminal, while bytes move, one that is
 //! rewritten.
 use crate::log::Log;
-use proved::{Data, Mover, Session};
+use proved::{Data, Mover, Session, codes};
 use std::fmt::Display;
 use std::time::{Duration, Instant};
 
@@ -33,13 +33,18 @@ pub fn window(m: &Mover, number: impl Fn(u64) -> String) -> String {
     }
 }
 
+/// Said of an end whose address is no LOCAL one.
+pub fn by_tcp(address: u32) -> &'static str {
+    if address == codes::TCP_ADDRESS { " by TCP" } else { "" }
+}
+
 /// Data's and mover's state, with the bytes moved, their rate where bytes moved, and the window.
 fn told(s: &Session, rate: Option<f64>) -> String {
-    let mut text = format!("data {}", s.source.state_name());
+    let mut text = format!("data {}{}", s.source.state_name(), by_tcp(s.source.address));
     if s.source.state == Data::HALTED {
         text += &format!(" ({})", s.source.halt_name());
     }
-    text += &format!(", mover {}", s.mover.state_name());
+    text += &format!(", mover {}{}", s.mover.state_name(), by_tcp(s.mover.address));
     match s.mover.state {
         Mover::PAUSED => text += &format!(" ({})", s.mover.pause_name()),
         Mover::HALTED => text += &format!(" ({})", s.mover.halt_name()),
@@ -83,7 +88,10 @@ impl<'a> Progress<'a> {
 
     fn rate(&self, s: &Session) -> Option<f64> {
         let seconds = self.since.elapsed().as_secs_f64();
-        let ran = self.states == (Data::ACTIVE, Mover::ACTIVE);
+        let (data, mover) = self.states;
+        // By TCP the mover needs no data end.
+        let far = s.mover.address == codes::TCP_ADDRESS;
+        let ran = mover == Mover::ACTIVE && (far || data == Data::ACTIVE);
         (ran && seconds > 0.0).then(|| s.mover.moved.saturating_sub(self.bytes) as f64 / seconds / 1e6)
     }
 
@@ -95,7 +103,9 @@ impl<'a> Progress<'a> {
         }
         let rate = self.rate(s);
         (self.states, self.since, self.bytes) = (now, Instant::now(), s.mover.moved);
-        if self.log.rewrites() && s.source.state != Data::HALTED {
+        let far = s.mover.address == codes::TCP_ADDRESS;
+        let halted = s.source.state == Data::HALTED || far && s.mover.state == Mover::HALTED;
+        if self.log.rewrites() && !halted {
             self.rewrite(s, rate, whole);
         } else {
             self.line(told(s, rate));
@@ -151,7 +161,9 @@ mod tests {
         let endless = active(1024, Mover::ENDLESS, 2048);
         let text = "data ACTIVE, mover ACTIVE, 2048 bytes, window from 1024 with no end";
         assert_eq!(shown(&endless, None, Some(4096)), format!("{text}, 50% of the stream"));
-        let paused = active(0, 0, 2048);
+        let mut paused = active(0, 0, 2048);
         assert_eq!(shown(&paused, None, Some(0)), "data ACTIVE, mover ACTIVE, 2048 bytes");
+        paused.mover.address = codes::TCP_ADDRESS;
+        assert_eq!(told(&paused, None), "data ACTIVE, mover ACTIVE by TCP, 2048 bytes");
     }
 }

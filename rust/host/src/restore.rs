@@ -30,6 +30,8 @@ enum Way {
 
 pub struct Target {
     path: PathBuf,
+    /// What the stream comes from, for people.
+    from: &'static str,
     options: Option<Options>,
     way: Way,
     bytes: u64,
@@ -59,12 +61,13 @@ pub fn may_write(path: &Path, except: &[Id]) -> Result<(), String> {
 }
 
 impl Target {
-    pub fn open(path: &Path, options: Options) -> io::Result<Target> {
+    pub fn open(path: &Path, from: &'static str, options: Options) -> io::Result<Target> {
         may_write(path, &options.except).map_err(bad)?;
         // Opened and left again: so that a folder that is not there is told at once.
         let folder = if is_folder(path)? { path.to_path_buf() } else { parted(path)?.0 };
         Place::new(&folder, &options.except)?;
-        Ok(Target { path: path.to_path_buf(), options: Some(options), way: Way::Start(Vec::new()), bytes: 0 })
+        let way = Way::Start(Vec::new());
+        Ok(Target { path: path.to_path_buf(), from, options: Some(options), way, bytes: 0 })
     }
 
     /// Takes the way that the first bytes tell.
@@ -129,9 +132,10 @@ impl Target {
 
     /// Why a stream that stops here is not whole.
     pub fn cut_short(&self) -> String {
+        let from = self.from;
         match self.bytes {
-            0 => "there is no stream on the tape here".into(),
-            n => format!("the tape ends before the stream does, after {n} bytes: it was cut short"),
+            0 => format!("there is no stream on {from} here"),
+            n => format!("{from} ends before the stream does, after {n} bytes: it was cut short"),
         }
     }
 

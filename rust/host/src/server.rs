@@ -1,6 +1,6 @@
 //! Starting the vault, and one thread for each connection.
 use crate::args::Args;
-use crate::cartridge;
+use crate::cartridge::{self, Cartridge};
 use crate::folder::Id;
 use crate::line::{Over, Shared};
 use crate::log::Log;
@@ -11,9 +11,10 @@ use crate::status;
 use crate::sys;
 use crate::vault::Vault;
 use crate::watch::Watch;
+use std::fmt::Display;
 use std::fs::File;
 use std::io::{ErrorKind, Read, Write, stdout};
-use std::net::{SocketAddr, TcpListener};
+use std::net::{IpAddr, SocketAddr, TcpListener, TcpStream};
 use std::panic::{AssertUnwindSafe, catch_unwind};
 use std::path::Path;
 use std::sync::atomic::{AtomicBool, AtomicUsize, Ordering};
@@ -74,7 +75,8 @@ fn listen(option: &str, address: &str) -> Result<TcpListener, String> {
     })
 }
 
-pub fn run(args: Args) -> Result<(), String> {
+/// What can be known to be wrong before anything is made.
+fn check(args: &Args) -> Result<(), String> {
     args.stream.as_deref().map_or(Ok(()), check_stream)?;
     args.restore_to.as_deref().map_or(Ok(()), check_target)?;
     if args.restore_to.as_deref().is_some_and(|to| same_name(to, &args.cartridge)) {
@@ -83,27 +85,39 @@ pub fn run(args: Args) -> Result<(), String> {
             args.cartridge.display()
         ));
     }
-    // The ports first: a cartridge is made only if the vault can start.
-    let listener = listen("--listen", &args.listen)?;
-    let page = args.status.as_deref().map(|a| listen("--status", a)).transpose()?;
+    args.ports.check()
+}
+
+/// The cartridge, which is made first where that was asked for.
+fn cartridge_of(args: &Args) -> Result<Cartridge, String> {
     if let Some(body) = args.new_cartridge {
         cartridge::create(&args.cartridge, body)?;
     }
     let cartridge = cartridge::load(&args.cartridge)?;
-    let except = cartridge.ids();
     if let Some(to) = &args.restore_to {
-        may_write(to, &except).map_err(|why| format!("--restore-to {}: {why}", to.display()))?;
+        may_write(to, &cartridge.ids()).map_err(|why| format!("--restore-to {}: {why}", to.display()))?;
     }
+    Ok(cartridge)
+}
+
+pub fn run(args: Args) -> Result<(), String> {
+    check(&args)?;
+    // The ports first: a cartridge is made only if the vault can start.
+    let listener = listen("--listen", &args.listen)?;
+    let page = args.status.as_deref().map(|a| listen("--status", a)).transpose()?;
+    let cartridge = cartridge_of(&args)?;
+    let except = cartridge.ids();
     let watch = page.is_some().then(|| Watch::new(&cartridge, &args.cartridge));
     let address = listener.local_addr().map_err(|e| e.to_string())?;
     let _ = writeln!(stdout(), "listening on {address}");
-    let Args { id, password, stream, restore_to, limits, strict, marks, quiet, .. } = args;
+    let Args { id, password, stream, restore_to, ports, limits, strict, marks, quiet, .. } = args;
     let shared = Arc::new(Shared {
         vault: Vault::new(cartridge),
         id,
         password,
         stream,
         restore_to,
+        ports,
         except,
         limits,
         strict,
@@ -113,32 +127,43 @@ pub fn run(args: Args) -> Result<(), String> {
         open: Mutex::default(),
         ending: AtomicBool::new(false),
     });
-    warn_of(&shared.log, "--listen", address, "logins and data go over the network as they are");
-    if let Some(page) = page {
-        let at = page.local_addr().map_err(|e| e.to_string())?;
-        let _ = writeln!(stdout(), "status on http://{at}/");
-        warn_of(&shared.log, "--status", at, "names of files and clients are read there without a login");
-        status::start(page, shared.clone(), address.to_string()).map_err(|e| format!("--status: {e}"))?;
+    warn_of(&shared.log, "--listen", address.ip(), address, "logins and data go over the network as they are");
+    for at in &shared.ports.addresses {
+        warn_of(&shared.log, "--data-address", (*at).into(), at, UNKNOWN_PEER);
     }
-    let signals = sys::signals().map_err(|e| format!("signals: {e}"))?;
-    let ended = shared.clone();
-    named("signals").spawn(move || end(signals, &ended)).map_err(|e| format!("signals: {e}"))?;
+    page.map_or(Ok(()), |page| start_page(page, &shared, address)).map_err(|e| format!("--status: {e}"))?;
+    hear_signals(shared.clone()).map_err(|e| format!("signals: {e}"))?;
     accept(&listener, shared)
 }
 
+const UNKNOWN_PEER: &str =
+    "whoever connects first to an open data port is the peer, and data go over the network as they are";
+
 /// What is to be said of an address that others reach.
-fn reached(option: &str, at: SocketAddr, what: &str) -> Option<String> {
-    (!at.ip().to_canonical().is_loopback()).then(|| format!("{option} {at} is not this machine's alone: {what}"))
+fn reached(option: &str, ip: IpAddr, at: impl Display, what: &str) -> Option<String> {
+    (!ip.to_canonical().is_loopback()).then(|| format!("{option} {at} is not this machine's alone: {what}"))
 }
 
-fn warn_of(log: &Log, option: &str, at: SocketAddr, what: &str) {
-    if let Some(text) = reached(option, at, what) {
+fn warn_of(log: &Log, option: &str, ip: IpAddr, at: impl Display, what: &str) {
+    if let Some(text) = reached(option, ip, at, what) {
         log.error(text);
     }
 }
 
 fn named(name: &str) -> Builder {
     Builder::new().name(name.into())
+}
+
+fn start_page(page: TcpListener, shared: &Arc<Shared>, vault: SocketAddr) -> std::io::Result<()> {
+    let at = page.local_addr()?;
+    let _ = writeln!(stdout(), "status on http://{at}/");
+    warn_of(&shared.log, "--status", at.ip(), at, "names of files and clients are read there without a login");
+    status::start(page, shared.clone(), vault.to_string())
+}
+
+fn hear_signals(shared: Arc<Shared>) -> std::io::Result<()> {
+    let signals = sys::signals()?;
+    named("signals").spawn(move || end(signals, &shared)).map(drop)
 }
 
 /// How long sessions are waited for, each of which ends after its step.
@@ -177,6 +202,22 @@ fn end(mut signals: File, shared: &Shared) {
     std::process::exit(code);
 }
 
+/// One connection, from its first line in the log to its last.
+fn one(socket: TcpStream, peer: SocketAddr, shared: &Shared, number: usize, stranger: Leaves) {
+    let note = Progress::new(&shared.log, number);
+    note.line(format_args!("connected from {peer}"));
+    shared.came(number, &socket);
+    let end = catch_unwind(AssertUnwindSafe(|| serve(socket, shared, number, stranger)));
+    match end {
+        Ok(Ok(())) => note.line("closed"),
+        Ok(Err(Over::Gone(why))) => note.line(why),
+        Ok(Err(Over::Failed(why))) => note.error(why),
+        Err(_) => note.error("ended by a fault of the program"),
+    }
+    // After its line: when all are gone the program may end.
+    shared.went(number);
+}
+
 fn accept(listener: &TcpListener, shared: Arc<Shared>) -> Result<(), String> {
     let (count, strangers) = (Arc::new(AtomicUsize::new(0)), Arc::new(AtomicUsize::new(0)));
     for number in 1.. {
@@ -201,19 +242,7 @@ fn accept(listener: &TcpListener, shared: Arc<Shared>) -> Result<(), String> {
         let there = shared.clone();
         let work = move || {
             let _left = left;
-            let shared = there;
-            let note = Progress::new(&shared.log, number);
-            note.line(format_args!("connected from {peer}"));
-            shared.came(number, &socket);
-            let end = catch_unwind(AssertUnwindSafe(|| serve(socket, &shared, number, stranger)));
-            match end {
-                Ok(Ok(())) => note.line("closed"),
-                Ok(Err(Over::Gone(why))) => note.line(why),
-                Ok(Err(Over::Failed(why))) => note.error(why),
-                Err(_) => note.error("ended by a fault of the program"),
-            }
-            // After its line: when all are gone the program may end.
-            shared.went(number);
+            one(socket, peer, &there, number, stranger);
         };
         if let Err(e) = named("session").spawn(work) {
             shared.log.error(format_args!("{peer}: turned away, no thread could be made: {e}"));
@@ -253,7 +282,8 @@ mod tests {
             ("[::]:1", true),
             ("192.168.0.1:1", true),
         ] {
-            assert_eq!(reached("--listen", at.parse().unwrap(), "x").is_some(), told, "{at}");
+            let at: SocketAddr = at.parse().unwrap();
+            assert_eq!(reached("--listen", at.ip(), at, "x").is_some(), told, "{at}");
         }
     }
 }

@@ -1,11 +1,10 @@
 //! One connection: each record goes to the core, and what the core writes goes to the client.
 use crate::frames::{End, Frames};
-use crate::line::{LEAST_BURST, Line, Over, Result, Shared, seconds};
-use crate::moves;
-use crate::progress::Progress;
+use crate::line::{Line, Over, Result, Shared, seconds};
 use crate::server::Leaves;
+use crate::steps;
 use crate::sys;
-use crate::wishes::{self, Wishes};
+use crate::wishes;
 use proved::{Data, OUTPUT, codes};
 use std::ffi::OsStr;
 use std::net::TcpStream;
@@ -42,24 +41,9 @@ pub fn serve(socket: TcpStream, shared: &Shared, number: usize, stranger: Leaves
     let mut frames = Frames::new(socket.try_clone().map_err(told)?);
     let mut out = vec![0; OUTPUT];
     let opened = proved::open(seconds(), &mut out);
-    let progress = Progress::new(&shared.log, number);
     let peer = socket.peer_addr().map_or("?".into(), |a| a.to_string());
     let core = opened.session;
-    let line = Line {
-        shared,
-        number,
-        core,
-        told: core,
-        held: None,
-        job: None,
-        wishes: Wishes::default(),
-        whole: None,
-        out,
-        progress,
-        unstored: 0,
-        burst: LEAST_BURST,
-        socket,
-    };
+    let line = Line::new(socket, shared, number, core, out);
     if let Some(watch) = &shared.watch {
         watch.came(number, peer, core);
     }
@@ -67,11 +51,12 @@ pub fn serve(socket: TcpStream, shared: &Shared, number: usize, stranger: Leaves
     let mut c = Connection { line, stranger: Some(stranger), since, wrong: 0, writes: Vec::new(), replies: Vec::new() };
     c.line.send(opened.len)?;
     while !shared.ending.load(Ordering::SeqCst) {
-        // Moves go on as long as the client says nothing.
-        if moves::step(&mut c.line)? && !frames.waiting() {
-            continue;
-        }
-        if !c.next(&mut frames)? || c.line.core.closed {
+        // Moves go on as long as the client says nothing. What they tell comes after the answers that wait.
+        let more = c.replies.is_empty() && steps::step(&mut c.line)?;
+        let speaks = frames.waiting();
+        if !more && !speaks && c.line.ends.any() {
+            c.line.wait()?;
+        } else if (speaks || !more) && (!c.next(&mut frames)? || c.line.core.closed) {
             return Ok(());
         }
     }
@@ -107,10 +92,9 @@ impl Connection<'_> {
         let limits = self.line.shared.limits;
         let (idle, until, why) = if !self.line.core.login.authorized {
             (limits.login, Some(self.since + limits.login), "not logged in within")
-        } else if self.line.held.is_some() {
-            (limits.hold.min(limits.idle), None, "had the tape and said nothing for")
         } else {
-            (limits.idle, None, "said nothing for")
+            let (idle, why) = self.line.patience();
+            (idle, None, why)
         };
         match frames.read(idle, until) {
             Ok(()) => {}
@@ -118,6 +102,7 @@ impl Connection<'_> {
             Err(End::Silent) => return Err(Over::Gone(format!("ended: {why} {} seconds", idle.as_secs()))),
             Err(end) => return Err(Over::Gone(format!("connection ended: {end:?}"))),
         }
+        self.line.heard = Instant::now();
         let more = self.writes.len() < MOST_WAITING && frames.next().is_some_and(writes);
         self.request(frames.record(), more)?;
         Ok(true)
@@ -138,7 +123,7 @@ impl Connection<'_> {
             line.take();
         }
         let (before, was) = (line.core.tape.position, line.core.source.state);
-        let done = line.ask(record);
+        let done = line.answer(record);
         line.became(done.code, done.session, writes(record).then_some(before))?;
         let refused = refusal(&line.out[..done.len]);
         self.replies.extend(&line.out[..done.len]);

@@ -1,9 +1,10 @@
 //! What the standard library lacks of the system's calls: for Linux, on machines with words of 64 bits.
-use std::ffi::{CStr, CString, OsStr, OsString, c_char, c_int, c_uint, c_void};
+use std::ffi::{CStr, CString, OsStr, OsString, c_char, c_int, c_uint, c_ulong, c_void};
 use std::fs::File;
 use std::io;
 use std::os::fd::{AsRawFd, FromRawFd};
 use std::os::unix::ffi::{OsStrExt, OsStringExt};
+use std::time::Duration;
 
 #[cfg(not(all(target_os = "linux", any(target_arch = "x86_64", target_arch = "aarch64"))))]
 compile_error!("the numbers below are those of Linux on x86_64 and aarch64");
@@ -45,11 +46,25 @@ pub struct Time {
     pub nanos: i64,
 }
 
+/// A file that is waited for, and for what.
 #[repr(C)]
-struct Poll {
+pub struct Poll {
     fd: c_int,
     events: i16,
     seen: i16,
+}
+
+/// Bytes, or a connection, can be taken; bytes can be written; the other side sends no more.
+pub const IN: i16 = 1;
+pub const OUT: i16 = 4;
+pub const ENDED: i16 = 0x2000;
+/// Seen without being asked for: an error, or both sides send no more.
+const BROKEN: i16 = 8 | 0x10;
+
+impl Poll {
+    pub fn new(file: &impl AsRawFd, events: i16) -> Poll {
+        Poll { fd: file.as_raw_fd(), events, seen: 0 }
+    }
 }
 
 unsafe extern "C" {
@@ -73,6 +88,7 @@ unsafe extern "C" {
     fn signal(number: c_int, handler: usize) -> usize;
     fn pipe2(ends: *mut c_int, flags: c_int) -> c_int;
     fn write(fd: c_int, bytes: *const c_void, n: usize) -> isize;
+    fn ioctl(fd: c_int, what: c_ulong, ...) -> c_int;
     fn __errno_location() -> *mut c_int;
 }
 
@@ -192,10 +208,37 @@ pub fn attributes(file: &File) -> Vec<u8> {
 
 /// Whether some bytes can be written without a wait longer than this.
 pub fn writable(file: &impl AsRawFd, milliseconds: i32) -> bool {
-    const OUT: i16 = 4;
-    let mut one = Poll { fd: file.as_raw_fd(), events: OUT, seen: 0 };
+    let mut one = Poll::new(file, OUT);
     // An error of the other side is told by the write itself.
     unsafe { poll(&mut one, 1, milliseconds) == 1 }
+}
+
+/// Waits until one of them has what is waited for, or an error, or the time is over.
+pub fn wait(of: &mut [Poll], most: Duration) {
+    // Up, so that no wait is of nothing, over and over.
+    let milliseconds = most.as_micros().div_ceil(1_000).min(c_int::MAX as u128) as c_int;
+    // Ended by a signal, it is as if the time were over.
+    unsafe { poll(of.as_mut_ptr(), of.len() as u64, milliseconds) };
+}
+
+/// Whether a socket's other side sends no more, or is gone, however many bytes wait to be read.
+pub fn has_ended(socket: &impl AsRawFd) -> bool {
+    let mut one = Poll::new(socket, ENDED);
+    unsafe { poll(&mut one, 1, 0) == 1 && one.seen & (ENDED | BROKEN) != 0 }
+}
+
+/// Whether a socket has an error, or sends no more either way.
+pub fn is_broken(socket: &impl AsRawFd) -> bool {
+    let mut one = Poll::new(socket, 0);
+    unsafe { poll(&mut one, 1, 0) == 1 && one.seen & BROKEN != 0 }
+}
+
+/// Bytes, and the end, that were written to a socket and that the other side's system has not confirmed.
+pub fn unconfirmed(socket: &impl AsRawFd) -> io::Result<usize> {
+    const OUT_QUEUE: c_ulong = 0x5411;
+    let mut n: c_int = 0;
+    done(unsafe { ioctl(socket.as_raw_fd(), OUT_QUEUE, &raw mut n) })?;
+    Ok(n.max(0) as usize)
 }
 
 /// A number that a socket is set to.
@@ -217,6 +260,15 @@ pub fn keep_alive(socket: &impl AsRawFd) -> io::Result<()> {
     socket_number(socket, TCP, IDLE, 60)?;
     socket_number(socket, TCP, INTERVAL, 10)?;
     socket_number(socket, TCP, COUNT, 6)
+}
+
+/// Whether the other side sees, when it is closed, a connection that broke, or one that ended.
+pub fn break_on_close(socket: &impl AsRawFd, breaks: bool) -> io::Result<()> {
+    const LINGER: c_int = 13;
+    // On, for no seconds, or off.
+    let value: [c_int; 2] = [breaks.into(), 0];
+    let n = size_of_val(&value) as c_uint;
+    done(unsafe { setsockopt(socket.as_raw_fd(), SOCKET, LINGER, (&raw const value).cast(), n) }).map(drop)
 }
 
 /// What was received is told to the other side at once, this time.

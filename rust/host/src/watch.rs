@@ -1,6 +1,7 @@
 //! What the status page shows, kept up to date by those who serve. Only this is shared with the page, never a session or
 //! the cartridge itself.
 use crate::cartridge::{CAPACITY, Cartridge, Disk};
+use crate::ends::Far;
 use proved::Session;
 use std::collections::BTreeMap;
 use std::path::Path;
@@ -14,6 +15,8 @@ pub struct Seen {
     pub session: Session,
     /// The stream's length, where it is known.
     pub whole: Option<u64>,
+    /// The peers of data and mover.
+    pub far: [Far; 2],
 }
 
 /// The tape as its file has it.
@@ -59,12 +62,12 @@ impl Watch {
 
     pub fn came(&self, number: usize, peer: String, session: Session) {
         let since = Instant::now();
-        self.lock().sessions.insert(number, Seen { peer, since, session, whole: None });
+        self.lock().sessions.insert(number, Seen { peer, since, session, whole: None, far: Default::default() });
     }
 
-    pub fn is(&self, number: usize, session: &Session, whole: Option<u64>) {
+    pub fn is(&self, number: usize, session: &Session, whole: Option<u64>, far: [Far; 2]) {
         if let Some(seen) = self.lock().sessions.get_mut(&number) {
-            (seen.session, seen.whole) = (*session, whole);
+            (seen.session, seen.whole, seen.far) = (*session, whole, far);
         }
     }
 

@@ -1,7 +1,10 @@
 //! What the vault asks of the disk, seen from below: what is told is there first; and a disk that fails.
 mod common;
+use common::far::{End, becomes, listen, prepare};
 use common::*;
 use std::fs;
+use std::io::Write;
+use std::net::TcpStream;
 use std::path::Path;
 use std::time::{Duration, Instant};
 
@@ -347,6 +350,87 @@ fn disk_that_fails_during_a_backup_halts_it() {
     c.join(Mover::TO_TAPE, 32_768, 1 << 30).unwrap();
     c.start_backup().unwrap();
     assert_eq!(c.run(0, |_| ()).unwrap().why, DONE);
+}
+
+/// Joins the data end of one session and the mover of another by TCP, and starts a backup.
+fn begin_far(data: &mut Client, mover: &mut Client, window: u64) {
+    use common::far::{End, join, prepare};
+    prepare(mover, Mover::TO_TAPE, 32_768, window);
+    join(data, mover, Mover::TO_TAPE, End::Mover(0));
+    data.start_backup().unwrap();
+}
+
+/// The same of a peer's stream; and when the other vault tells its success, all is on this one's disk.
+#[test]
+fn nothing_of_a_peer_is_told_before_it_is_on_the_disk() {
+    let s = Scratch::new();
+    let (shim, tape, from, log) = (Shim::new(&s), s.path("tape"), s.path("from"), s.path("log"));
+    fs::write(&from, noise(1, 9 << 20)).unwrap();
+    let whole = archive(&from);
+    let vault = start(&shim, &tape, &log, &["--new-cartridge", "16M"]);
+    let office = Host::start(&s.path("own"), &["--new-cartridge", "1M", "--stream", text_of(&from)]);
+    let (mut data, mut mover) = (office.login(), vault.login());
+    begin_far(&mut data, &mut mover, 32_768 * 100);
+    for round in 1..=2 {
+        assert_eq!(mover.noticed(NOTIFY_MOVER_PAUSED).unwrap(), Mover::END_OF_WINDOW);
+        let moved = mover.moved().unwrap();
+        assert_eq!((moved, sound(&fs::read(&tape).unwrap())), (32_768 * 100 * round, Ok((100 * round, moved))));
+        if round == 2 {
+            shim.say("slow-fdatasync", 500_000);
+        }
+        mover.window(moved, 32_768 * 100).unwrap();
+        mover.good(MOVER_CONTINUE, b"").unwrap();
+    }
+    assert_eq!(data.noticed(NOTIFY_DATA_HALTED).unwrap(), Data::SUCCESSFUL);
+    let on_tape = list(&fs::read(&tape).unwrap()).unwrap().concat();
+    assert!(on_tape.starts_with(&whole), "{} of {} bytes", on_tape.len(), whole.len());
+    shim.unsay("slow-fdatasync");
+    assert_eq!(mover.noticed(NOTIFY_MOVER_HALTED).unwrap(), Mover::CONNECT_CLOSED);
+    let (puts, syncs, sends) = judged(&shim.trace(), &tape);
+    assert!(puts >= 9 && syncs >= 6 && sends > 10, "{puts} {syncs} {sends}");
+}
+
+/// A vault whose disk fails tells its own client, and its peer does not tell a success.
+#[test]
+fn disk_that_fails_during_a_copy_halts_both_ends() {
+    let s = Scratch::new();
+    let (shim, tape, from, log) = (Shim::new(&s), s.path("tape"), s.path("from"), s.path("log"));
+    fs::write(&from, noise(1, 1 << 20)).unwrap();
+    let vault = start(&shim, &tape, &log, &["--new-cartridge", "16M"]);
+    let office = Host::start(&s.path("own"), &["--new-cartridge", "1M", "--stream", text_of(&from)]);
+    let (mut data, mut mover) = (office.login(), vault.login());
+    // All of it comes before the first store, and the second window is not reached.
+    for (fault, window) in [("fail-pwrite", Mover::ENDLESS), ("fail-fdatasync", 65_536)] {
+        shim.say(fault, ENOSPC);
+        begin_far(&mut data, &mut mover, window);
+        assert_eq!(mover.noticed(NOTIFY_MOVER_HALTED).unwrap(), Mover::MEDIA_ERROR);
+        assert_eq!(data.noticed(NOTIFY_DATA_HALTED).unwrap(), Data::CONNECT_ERROR);
+        assert_eq!((mover.moved().unwrap(), sound(&fs::read(&tape).unwrap())), (0, Ok((0, 0))));
+        shim.unsay(fault);
+        common::far::stop(&mut data, &mut mover);
+    }
+    begin_far(&mut data, &mut mover, Mover::ENDLESS);
+    assert_eq!(data.noticed(NOTIFY_DATA_HALTED).unwrap(), Data::SUCCESSFUL);
+}
+
+/// A disk that fails while the other end of the session waits for its peer: it goes on waiting, and its peer is taken.
+#[test]
+fn disk_that_fails_leaves_the_port_of_the_other_end() {
+    let s = Scratch::new();
+    let (shim, tape, log) = (Shim::new(&s), s.path("tape"), s.path("log"));
+    let host = start(&shim, &tape, &log, &["--new-cartridge", "1M"]);
+    let mut c = host.login();
+    prepare(&mut c, Mover::TO_TAPE, 4_096, Mover::ENDLESS);
+    let mut sender = TcpStream::connect(listen(&mut c, End::Mover(0))[0]).unwrap();
+    becomes(&mut c, End::Mover(0), Mover::ACTIVE);
+    let at = listen(&mut c, End::Data);
+    shim.say("fail-pwrite", ENOSPC);
+    sender.write_all(&noise(1, 100_000)).unwrap();
+    // It is on the tape then, in memory.
+    std::thread::sleep(Duration::from_millis(300));
+    let _peer = TcpStream::connect(at[0]).unwrap();
+    becomes(&mut c, End::Data, Data::CONNECTED);
+    assert_eq!(c.noticed(NOTIFY_MOVER_HALTED).unwrap(), Mover::MEDIA_ERROR);
 }
 
 /// As a drive's buffer: at marks, rewind, close and end.

@@ -5,7 +5,7 @@ use std::fs;
 use std::io::{Read, Write};
 use std::net::TcpStream;
 use std::path::Path;
-use std::process::{Command, Stdio};
+use std::process::Stdio;
 use std::time::{Duration, Instant};
 
 fn text_of(path: &Path) -> &str {
@@ -114,7 +114,7 @@ fn login_times(logins: &[(Account, Account)]) -> Vec<Duration> {
     for _ in 0..2_000 {
         for (i, ([id, word], record)) in all.iter().enumerate() {
             let begun = Instant::now();
-            let done = proved::request(session, id, word, &mut [], record, 0, &mut out);
+            let done = proved::request(session, id, word, &[], false, &mut [], record, 0, &mut out);
             least[i] = least[i].min(begun.elapsed());
             assert!(done.code == 0 && !done.session.login.authorized);
         }
@@ -178,6 +178,16 @@ fn address_that_others_reach_is_warned_of() {
     let port = host.address.strip_prefix("0.0.0.0:").unwrap();
     told(&log, &[&format!("mossgoblin: --listen 0.0.0.0:{port} is not this machine's alone: logins and data go over")]);
     told(&log, &["mossgoblin: --status 0.0.0.0:", " is not this machine's alone: names of files and clients are read"]);
+    drop(host);
+    // Where the machine has another address than its own; nothing is sent for this.
+    let own =
+        std::net::UdpSocket::bind("0.0.0.0:0").and_then(|u| u.connect("192.0.2.1:9").and_then(|()| u.local_addr()));
+    if let Some(ip) = own.ok().map(|at| at.ip()).filter(|ip| !ip.is_loopback()) {
+        let _host = start("127.0.0.1:0", &["--data-address", &format!("127.0.0.1,{ip}")]);
+        let what = "whoever connects first to an open data port is the peer, and data go over the network as they are";
+        told(&log, &[&format!("mossgoblin: --data-address {ip} is not this machine's alone: {what}")]);
+        assert!(!fs::read_to_string(&log).unwrap().contains("--data-address 127.0.0.1 "));
+    }
 }
 
 #[test]
@@ -324,11 +334,6 @@ fn wishes_are_followed_or_told() {
     assert_eq!(recover(&[["b.empty", "/elsewhere"]]), (DONE, told_names(&["b.empty"])));
     told(&log, &["asks for other places or names; the vault restores to "]);
     assert_eq!(recover(&[["../a", ""]]), (FAILED, Vec::new()));
-}
-
-fn signal(host: &Host, name: &str) {
-    let id = host.child.id().to_string();
-    assert!(Command::new("kill").args([name, &id]).status().unwrap().success());
 }
 
 #[test]

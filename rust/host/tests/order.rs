@@ -110,8 +110,17 @@ impl Deck {
     fn call(&mut self, message: u32, body: &[u8]) {
         let record = request(1, message, body);
         let before = self.session.tape.position;
-        let done =
-            proved::request(self.session, b"vault", b"noon", &mut self.cartridge.image, &record, 0, &mut self.out);
+        let done = proved::request(
+            self.session,
+            b"vault",
+            b"noon",
+            &[],
+            false,
+            &mut self.cartridge.image,
+            &record,
+            0,
+            &mut self.out,
+        );
         if writes(&record) && done.session.tape.position != before {
             self.cartridge.written(before);
         }

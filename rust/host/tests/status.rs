@@ -143,6 +143,62 @@ fn page_and_json_tell_the_window() {
 }
 
 #[test]
+fn page_and_json_tell_of_peers() {
+    use common::far::{End, accept, becomes, connect, listen, port, prepare};
+    let s = Scratch::new();
+    let (from, tape) = (s.path("from"), s.path("tape"));
+    fs::write(&from, noise(1, 2_500)).unwrap();
+    let (host, page) = start(&tape, &["--stream", from.to_str().unwrap()]);
+    let mut c = host.login();
+    let none = "\"address\":{\"type\":\"LOCAL\",\"ports\":[],\"peer\":null,\"bytes\":0}";
+    assert_eq!(get(&page, "/status.json").1.matches(none).count(), 2);
+    prepare(&mut c, Mover::TO_TAPE, 1_000, Mover::ENDLESS);
+    let at = listen(&mut c, End::Mover(0))[0];
+    contains(&get(&page, "/").1, &[&format!("<td>LISTEN (to tape) by TCP at {at}</td>")]);
+    let json = format!("\"address\":{{\"type\":\"TCP\",\"ports\":[\"{at}\"],\"peer\":null,\"bytes\":0}}");
+    contains(&get(&page, "/status.json").1, &[&json, none]);
+
+    let mut peer = TcpStream::connect(at).unwrap();
+    peer.write_all(&[7; 5_500]).unwrap();
+    soon(|| (c.moved().unwrap() == 5_000).then_some(())).expect("the records are not taken");
+    let from = peer.local_addr().unwrap();
+    let body = get(&page, "/").1;
+    contains(&body, &[&format!("<td>ACTIVE (to tape) by TCP with {from}, 5,500 bytes</td>")]);
+    let json = format!("\"address\":{{\"type\":\"TCP\",\"ports\":[],\"peer\":\"{from}\",\"bytes\":5500}}");
+    contains(&get(&page, "/status.json").1, &[&json]);
+    contains(&body, &[&format!("session 1: mover is joined by TCP with {from}, which connected")]);
+
+    let (listener, at) = port();
+    connect(&mut c, End::Data, &[at]);
+    let _other = accept(&listener);
+    contains(&get(&page, "/").1, &[&format!("<td>CONNECTED by TCP with {at}, 0 bytes</td>")]);
+    c.start_backup().unwrap();
+    soon(|| get(&page, "/").1.contains(&format!("ACTIVE (backup) by TCP with {at}, 7,168 bytes")).then_some(()))
+        .expect("the bytes that were sent are not told");
+    drop(peer);
+    becomes(&mut c, End::Mover(0), Mover::HALTED);
+    contains(&get(&page, "/").1, &["<td>HALTED (connection closed) by TCP</td>"]);
+}
+
+/// Of what a peer sends to a mover that is paused, no more is taken than the buffer holds.
+#[test]
+fn paused_mover_reads_256_kib_ahead_at_most() {
+    use common::far::{End, listen, prepare};
+    let s = Scratch::new();
+    let (host, page) = start(&s.path("tape"), &[]);
+    let mut c = host.login();
+    prepare(&mut c, Mover::TO_TAPE, 1_000, 2_000);
+    let mut peer = TcpStream::connect(listen(&mut c, End::Mover(0))[0]).unwrap();
+    peer.set_write_timeout(Some(Duration::from_millis(300))).unwrap();
+    while peer.write(&[7; 65_536]).is_ok() {}
+    assert_eq!(c.noticed(NOTIFY_MOVER_PAUSED).unwrap(), Mover::END_OF_WINDOW);
+    let text = get(&page, "/status.json").1;
+    let bytes = text.rsplit_once("\"bytes\":").unwrap().0.rsplit_once("\"bytes\":").unwrap().1;
+    let bytes: u64 = bytes.split('}').next().unwrap().parse().unwrap();
+    assert!((2_000..=2_000 + (256 << 10)).contains(&bytes), "{bytes} in {text}");
+}
+
+#[test]
 fn text_from_outside_is_escaped() {
     let s = Scratch::new();
     let from = s.folder("from");

@@ -202,3 +202,27 @@ fn idle_connection_ends() {
     let mut c = host.login();
     c.tape_open(TO_WRITE).unwrap();
 }
+
+/// Writes that come together wait for one answer, and a move goes on meanwhile: what it tells is sent behind that answer, in the
+/// order of the numbers.
+#[test]
+fn notices_come_behind_answers_that_wait() {
+    let s = Scratch::new();
+    let from = s.path("from");
+    fs::write(&from, noise(1, 16 << 20)).unwrap();
+    let host = Host::start(&s.path("tape"), &["--new-cartridge", "32M", "--stream", from.to_str().unwrap()]);
+    let mut c = host.login();
+    c.tape_open(TO_WRITE).unwrap();
+    // More than one step, and less than two.
+    c.join(Mover::TO_TAPE, 32_768, 6 << 20).unwrap();
+    let start = request(c.sequence + 1, DATA_START_BACKUP, &[text("dump"), words(&[0])].concat());
+    let writes: Vec<u8> = (2..8).flat_map(|i| request(c.sequence + i, TAPE_WRITE, &text([1; 100]))).collect();
+    c.socket.write_all(&[start, writes].concat()).unwrap();
+    let mut refused = 0;
+    // Each has the number that is due, or this fails.
+    for _ in 0..8 {
+        let m = c.receive().unwrap();
+        refused += (m.header.message == TAPE_WRITE && m.first() == codes::ILLEGAL_STATE) as u32;
+    }
+    assert_eq!(refused, 6);
+}

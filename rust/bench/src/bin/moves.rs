@@ -46,6 +46,7 @@ fn random_mover(random: &mut Random, size: usize, position: usize) -> Mover {
         pause: random.below(6) as u32,
         halt: random.below(6) as u32,
         size: size as u32,
+        address: if state == Mover::IDLE { 0 } else { random.one(&[0, 0, 0, 1]) },
         offset,
         length,
         moved: if state < Mover::ACTIVE { 0 } else { offset + unit * random.below(1 + records as usize) as u64 },
@@ -55,26 +56,31 @@ fn random_mover(random: &mut Random, size: usize, position: usize) -> Mover {
     }
 }
 
-/// The data end as the mover's state and mode ask for, or nearly.
+/// The data end as the mover's state, mode and address type ask for, or nearly.
 fn random_data(random: &mut Random, m: &Mover) -> Data {
-    let joined = matches!(m.state, Mover::ACTIVE | Mover::PAUSED);
-    let states = if joined {
-        [Data::ACTIVE, Data::ACTIVE, Data::ACTIVE, Data::CONNECTED]
+    let joined = matches!(m.state, Mover::ACTIVE | Mover::PAUSED) && m.address == 0;
+    let (state, address) = if joined {
+        (random.one(&[Data::ACTIVE, Data::ACTIVE, Data::ACTIVE, Data::CONNECTED]), 0)
     } else {
-        [Data::IDLE, Data::IDLE, Data::HALTED, Data::LISTEN]
+        let apart = [(Data::IDLE, 0), (Data::HALTED, 0), (Data::LISTEN, 0), (Data::HALTED, 1), (Data::LISTEN, 1)];
+        let (state, address) = random.one(&apart);
+        random.one(&[(state, address), (state, address), (Data::ACTIVE, 1), (Data::CONNECTED, 1)])
     };
     let operation = if m.mode == Mover::TO_TAPE { Data::BACKUP } else { Data::RECOVER };
     Data {
-        state: random.one(&states),
+        state,
         operation: random.one(&[operation, operation, operation, operation, operation, operation, 3 - operation, 0]),
         reason: random.below(6) as u32,
+        address,
         processed: random.one(&[0, 1000, u64::MAX]),
     }
 }
 
 /// One number of a session changed, so that it may break the relation, or a flag of it.
 fn disturb(random: &mut Random, s: &mut Session) {
-    match random.below(16) {
+    match random.below(18) {
+        15 => s.source.address = random.below(3) as u32,
+        16 => s.mover.address = random.below(3) as u32,
         0 => s.source.state = random.below(6) as u32,
         1 => s.mover.state = random.below(6) as u32,
         2 => s.mover.mode = random.below(3) as u32,

@@ -1,5 +1,6 @@
 //! A vault that is started and ended with a value, and what tests judge by.
 #![allow(dead_code, unused_imports)]
+pub mod far;
 pub use host::client::{Client, Ended, TO_READ, TO_WRITE, Why};
 pub use host::own::{Running, noise};
 pub use proved::{Data, Mover, codes};
@@ -145,6 +146,11 @@ pub fn told(log: &Path, parts: &[&str]) {
         parts.iter().all(|p| text.contains(p)).then_some(())
     };
     soon(has).unwrap_or_else(|| panic!("{parts:?} is not all in {}", fs::read_to_string(log).unwrap()));
+}
+
+pub fn signal(host: &Host, name: &str) {
+    let id = host.child.id().to_string();
+    assert!(Command::new("kill").args([name, &id]).status().unwrap().success());
 }
 
 /// What is there within ten seconds, or at one of three looks, however busy the machine is.
