@@ -43,6 +43,9 @@ undecodable = 18
 abbrev pub illegalState : ℕ
 illegalState = 19
 
+abbrev pub noMemory : ℕ
+noMemory = 22
+
 abbrev pub otherNotListening : ℕ
 otherNotListening = 23
 
@@ -110,6 +113,10 @@ mostPort = 65535
 abbrev pub mostLent : ℕ
 mostLent = 16384
 
+-- "a lent store of 16,384 bytes"
+abbrev pub storeLength : ℕ
+storeLength = 16384
+
 -- ---- what a client asks for
 -- "Address types other than LOCAL"
 abbrev pub localAddress : ℕ
@@ -133,15 +140,15 @@ abbrev pub errors : List ℕ
 errors =
     notSupported ∷ deviceOpened ∷ notAuthorized ∷ permissionDenied ∷ notOpen ∷ ioError
     ∷ illegalArguments ∷ atMark ∷ atEnd ∷ badFile ∷ noDevice ∷ undecodable
-    ∷ illegalState ∷ otherNotListening ∷ readInProgress ∷ precondition ∷ []
+    ∷ illegalState ∷ noMemory ∷ otherNotListening ∷ readInProgress ∷ precondition ∷ []
 
 -- 004's MTIO operations, in its order
 abbrev pub mtioOperations : List ℕ
 mtioOperations = forwardFiles ∷ backFiles ∷ forwardRecords ∷ backRecords ∷ rewindTape ∷ writeMarks ∷ offLine ∷ []
 
 pub record AsWritten : Type 0 where
-  pub errors-are : errors ≡ 1 ∷ 3 ∷ 4 ∷ 5 ∷ 6 ∷ 7 ∷ 9 ∷ 12 ∷ 13 ∷ 15 ∷ 16 ∷ 18 ∷ 19 ∷ 23 ∷ 25 ∷ 26 ∷ []
+  pub errors-are : errors ≡ 1 ∷ 3 ∷ 4 ∷ 5 ∷ 6 ∷ 7 ∷ 9 ∷ 12 ∷ 13 ∷ 15 ∷ 16 ∷ 18 ∷ 19 ∷ 22 ∷ 23 ∷ 25 ∷ 26 ∷ []
   pub calls-are : shortOutput ∷ brokenSession ∷ [] ≡ 1001 ∷ 1002 ∷ []
   pub operations-are : mtioOperations ≡ 0 ∷ 1 ∷ 2 ∷ 3 ∷ 4 ∷ 5 ∷ 6 ∷ []
-  pub limits-are : largestMessage ∷ longestRecord ∷ senseBytes ∷ mostListed ∷ mostAddresses ∷ mostPort ∷ mostLent ∷ [] ≡ 36864 ∷ 32768 ∷ 18 ∷ 64 ∷ 16 ∷ 65535 ∷ 16384 ∷ []
+  pub limits-are : largestMessage ∷ longestRecord ∷ senseBytes ∷ mostListed ∷ mostAddresses ∷ mostPort ∷ mostLent ∷ storeLength ∷ [] ≡ 36864 ∷ 32768 ∷ 18 ∷ 64 ∷ 16 ∷ 65535 ∷ 16384 ∷ 16384 ∷ []
   pub client-are : localAddress ∷ tcpAddress ∷ textAuth ∷ versionFour ∷ [] ≡ 0 ∷ 1 ∷ 1 ∷ 4 ∷ []

@@ -28,6 +28,8 @@ pub const UNDECODABLE: u32 = 18;
 
 pub const ILLEGAL_STATE: u32 = 19;
 
+pub const NO_MEMORY: u32 = 22;
+
 pub const OTHER_NOT_LISTENING: u32 = 23;
 
 pub const READ_IN_PROGRESS: u32 = 25;
@@ -73,6 +75,9 @@ pub const MOST_PORT: u32 = 65535;
 
 // The most bytes of the list that is lent to a listen by TCP.
 pub const MOST_LENT: usize = 16384;
+
+// The bytes of the store of a data end's environment.
+pub const STORE_LENGTH: usize = 16384;
 
 // The address types LOCAL and TCP.
 pub const LOCAL_ADDRESS: u32 = 0;

@@ -1,0 +1,4 @@
+pub mod Pairs
+pub mod Store
+pub mod Holds
+pub mod StoreCases
