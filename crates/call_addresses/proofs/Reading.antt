@@ -131,6 +131,7 @@ own-row (Message.Tape TapeKind.Read) k = tt
 own-row (Message.Data DataKind.State) k = tt
 own-row (Message.Data DataKind.Backup) k = tt
 own-row (Message.Data DataKind.Recover) k = tt
+own-row (Message.Data DataKind.Environment) k = tt
 own-row (Message.Data DataKind.Stop) k = tt
 own-row (Message.Data DataKind.Listen) k = tt
 own-row (Message.Mover MoverKind.State) k = tt

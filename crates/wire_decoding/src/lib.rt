@@ -76,6 +76,7 @@ pub fn decode_data(k: DataKind, body: &[u8]) -> Request
         DataKind::State => bare(body, Request::Data(DataRequest::State)),
         DataKind::Backup => messages::start_backup(body),
         DataKind::Recover => messages::start_recover(body),
+        DataKind::Environment => bare(body, Request::Data(DataRequest::Environment)),
         DataKind::Stop => bare(body, Request::Data(DataRequest::Stop)),
         DataKind::Listen => messages::data_listen(body),
     }

@@ -17,6 +17,7 @@ ghost use Rattle.wire_frame.specs.declared.DataKind.the-variants as DataKind;
 ghost use Rattle.wire_frame.specs.declared.MoverKind.the-variants as MoverKind;
 ghost use Rattle.wire_frame.specs.declared.JointKind.the-variants as JointKind;
 use super::fields::judged;
+use super::fields::pairs_behind;
 use super::fields::text_of;
 use wire_layouts::Scan;
 use wire_layouts::Text;
@@ -24,6 +25,7 @@ use wire_requests::ConnectRequest;
 use wire_requests::DataRequest;
 use wire_requests::JointRequest;
 use wire_requests::MoverRequest;
+use wire_requests::Pairs;
 use wire_requests::Request;
 use wire_requests::ScsiRequest;
 use wire_requests::TapeRequest;
@@ -112,14 +114,24 @@ pub fn start_backup(body: &[u8]) -> Request
     ensures { λ r. ⌜ r ≡ dataBody DataKind.Backup (now (body .entry)) ⌝ }
 {
     let k = scan_body(b"tp", body);
-    judged(k.ok, Request::Data(DataRequest::Backup(text_of(k, 0))))
+    let method = text_of(k, 0);
+    let pairs = pairs_behind(method, k.words[1]);
+    judged(k.ok, Request::Data(DataRequest::Backup(method, pairs)))
 }
 
 pub fn start_recover(body: &[u8]) -> Request
     ensures { λ r. ⌜ r ≡ dataBody DataKind.Recover (now (body .entry)) ⌝ }
 {
     let k = scan_body(b"pnt", body);
-    judged(k.ok, Request::Data(DataRequest::Recover(text_of(k, 2))))
+    // the list of pairs is the first field: they begin behind its count
+    let pairs = Pairs {
+        start: 4,
+        count: k.words[0],
+    };
+    judged(
+        k.ok,
+        Request::Data(DataRequest::Recover(text_of(k, 2), pairs)),
+    )
 }
 
 // Scans a body with an address: by the one layout where its type is TCP, and else by the other.

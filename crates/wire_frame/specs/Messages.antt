@@ -1,4 +1,4 @@
--- "What the vault handles": the message numbers of NDMP version 4 (004, Appendix C) that are requests here, by interface.
+-- "What the vault handles", and 0x404 of 02 No. 3: the message numbers of NDMP version 4 (004, Appendix C) that are requests here, by interface.
 use Prim.Native.Nat.{ℕ}
 use mathlib.Core.Bool.{Bool}
 use mathlib.Core.List.{List, [], _∷_}
@@ -48,6 +48,7 @@ table =
     ∷ is 0x401 (Data DataKind.Backup) 0 0
     ∷ is 0x402 (Data DataKind.Recover) 0 0
     ∷ is 0x403 (Joint JointKind.DataAbort) 0 0
+    ∷ is 0x404 (Data DataKind.Environment) 0 1
     ∷ is 0x407 (Data DataKind.Stop) 0 0
     ∷ is 0x409 (Data DataKind.Listen) 0 1
     ∷ is 0x40A (Joint JointKind.DataConnect) 0 0

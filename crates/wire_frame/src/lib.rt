@@ -35,6 +35,7 @@ pub enum DataKind {
     State,
     Backup,
     Recover,
+    Environment,
     Stop,
     Listen,
 }
@@ -145,6 +146,7 @@ pub fn row_of(number: u32) -> Row
         0x401 => line(Message::Data(DataKind::Backup), 0, 0),
         0x402 => line(Message::Data(DataKind::Recover), 0, 0),
         0x403 => line(Message::Joint(JointKind::DataAbort), 0, 0),
+        0x404 => line(Message::Data(DataKind::Environment), 0, 1),
         0x407 => line(Message::Data(DataKind::Stop), 0, 0),
         0x409 => line(Message::Data(DataKind::Listen), 0, 1),
         0x40A => line(Message::Joint(JointKind::DataConnect), 0, 0),

@@ -1,35 +1,39 @@
 -- How long bodies and records are, and that a refusal is as long as its message's reply. Assumes nothing.
 use Prim.Native.Nat.{ℕ, _+_, _*_, _≤_}
 use mathlib.Core.Bool.{Bool, true, false}
-use mathlib.Core.Path.{_≡_, refl}
+use mathlib.Core.Path.{_≡_, refl, ap}
 use mathlib.Core.List.{List, [], _∷_, _++_}
 use native.Mathlib.Omega.{arith}
 use lib.Dec.{eqb}
 use lib.ListN.{length, take, length-append, length-take, length-replicate}
 use Rattle.codes.specs.Codes.{tcpAddress}
 use Rattle.xdr.specs.Choose.{choose}
-use Rattle.xdr.specs.Xdr.{be32, be32s}
+use Rattle.xdr.specs.Xdr.{be32, be32s, word, sameBytes}
 use Rattle.xdr.proofs.Laws.{length-be32s}
 use Rattle.xdr.proofs.Tests.{by-test}
 use Rattle.xdr_opaque.specs.Put.{opaque}
 use Rattle.xdr_opaque.proofs.Laws.{length-opaque-filled}
+use Rattle.wire_pairs.specs.Pairs.{Pair, textsOf, pairBytes, separatorName, separator, isNamed, withSeparator}
+use Rattle.wire_pairs.specs.Store.{isLaid, laidFrom, keptFrom, keptPairs, environmentOf}
+use Rattle.wire_pairs.proofs.Sizes.{most-pairs, environment-size}
 use Rattle.wire_frame.specs.Messages.{look, rowOf}
 use Rattle.wire_frame.proofs.Laws.{length-record}
 use Rattle.wire_replies.specs.declared.Reply.{Reply}
 use Rattle.wire_replies.specs.declared.Reply.the-variants.{Header, Refused, Plain, Listening, ListeningTcp, ConnectionTypes, ServerInfo, ScsiState}
-use Rattle.wire_replies.specs.declared.Reply.the-variants.{Cdb, Sense, Check, TapeState, Mtio, Wrote, Read, DataState, MoverState}
+use Rattle.wire_replies.specs.declared.Reply.the-variants.{Cdb, Sense, Check, TapeState, Mtio, Wrote, Read, DataState, Environment, MoverState}
 use Rattle.wire_replies.specs.declared.Notice.{Notice}
 use Rattle.wire_replies.specs.declared.Notice.the-variants.{DataHalted, Connected, MoverHalted, MoverPaused}
 use Rattle.wire_replies.specs.Replies.{Body, opaques, bodyBytes, wordsOnly, sense, serverTexts, addressWords, shapeOf, isShowing, replyBytes, noticeWords, noticeBytes}
-use Rattle.wire_replies.specs.Fit.{Sendable, AnswersFit}
+use Rattle.wire_replies.specs.Fit.{Sendable, AnswersFit, EnvironmentFits}
 use Rattle.wire_replies.specs.Refusals.{RefusalsAsLong}
 use Rattle.wire_replies.specs.Addresses.{AddressReplies}
+use Rattle.wire_replies.specs.EnvironmentReplies.{EnvironmentReplies}
 
 pub length-sense : (pending : Bool) → length (sense pending) ≡ 18
 unfolding sense
 length-sense pending = refl
 
--- ---- only a read and a listen by TCP show lent bytes
+-- ---- only a read, a listen by TCP and an environment show lent bytes
 pub shows-nothing : (r : Reply) (l m : List ℕ) → isShowing r ≡ false → shapeOf r l ≡ shapeOf r m
 unfolding isShowing shapeOf
 shows-nothing (Header e) l m h = refl
@@ -48,6 +52,7 @@ shows-nothing (Mtio e residue) l m h = refl
 shows-nothing (Wrote e count) l m h = refl
 shows-nothing (Read e start len) l m h = let z : _≡_ {A = ℕ} 0 1 = cc in absurd (omega arith)
 shows-nothing (DataState v) l m h = refl
+shows-nothing Environment l m h = let z : _≡_ {A = ℕ} 0 1 = cc in absurd (omega arith)
 shows-nothing (MoverState v) l m h = refl
 
 -- ---- how long a body is
@@ -84,6 +89,20 @@ unfolding serverTexts opaques
 server-small true = simp (length-body, length-append, length-opaque-filled) (omega arith)
 server-small false = simp (length-body, length-append, length-opaque-filled) (omega arith)
 
+-- the texts of pairs are their bytes
+pub opaques-texts : (ps : List Pair) → opaques (textsOf ps) ≡ pairBytes ps
+unfolding opaques textsOf pairBytes
+opaques-texts [] = refl
+opaques-texts (p ∷ ps) = ap (λ (r : List ℕ). opaque (p .name) ++ (opaque (p .value) ++ r)) (opaques-texts ps)
+
+-- error, count, and the pairs of a store
+pub length-environment : (store : List ℕ) → length (bodyBytes (shapeOf Environment store)) ≡ 8 + length (pairBytes (environmentOf store))
+unfolding shapeOf
+length-environment store = rw (length-body, opaques-texts) (omega arith)
+
+pairs-small : (store : List ℕ) → isLaid store ≡ true → length store ≤ 16384 → length (bodyBytes (shapeOf Environment store)) ≤ 32776
+pairs-small store h k = rw length-environment (omega (arith, environment-size store h))
+
 -- an address without its list has at most two words
 pub address-short : (address : ℕ) → length (addressWords address) ≤ 2
 unfolding addressWords
@@ -108,6 +127,7 @@ body-small (Mtio e residue) image s = few _ (omega arith)
 body-small (Wrote e count) image s = few _ (omega arith)
 body-small (Read e start len) image s = one-text _ _ (omega arith) (simp length-take (omega (arith, s .1)))
 body-small (DataState v) image s = few _ (simp length-append (omega (arith, address-short (v .address))))
+body-small Environment image s = pairs-small image (s .0) (s .1)
 body-small (MoverState v) image s = few _ (omega (arith, address-short (v .address)))
 
 -- "An unknown message's 1, and 18, stand in the header with no body": nothing of the image is sent
@@ -135,9 +155,15 @@ pub fit : AnswersFit
 fit s t m e s′ t′ s″ t″ r image a b h =
     simp length-append (omega (arith, reply-small s t m e r image h, notice-small s′ t′ a, notice-small s″ t″ b))
 
+pub environment-fits : EnvironmentFits
+unfolding replyBytes Sendable
+environment-fits s t m e store h =
+    (most-pairs store (h .0), rw (length-record, length-environment) (omega (arith, environment-size store (h .0), h .1)))
+
 -- ---- refusals and accepted replies, message by message: both lists are computed
 pub as-long : RefusalsAsLong
 unfolding shapeOf bodyBytes opaques serverTexts addressWords be32s be32 opaque rowOf look choose
+    environmentOf withSeparator keptPairs keptFrom isNamed separatorName separator textsOf word
 as-long = record { every = refl; as-long = refl }
 
 -- ---- what is told of addresses, byte for byte
@@ -152,4 +178,19 @@ addresses =
       tcp-data = refl;
       local-mover = refl;
       tcp-mover = refl;
+    }
+
+-- ---- what is given of stores, byte for byte
+pub environments : EnvironmentReplies
+unfolding shapeOf bodyBytes opaques opaque be32s be32 choose word sameBytes isLaid laidFrom environmentOf withSeparator keptPairs keptFrom isNamed separatorName separator textsOf
+environments =
+    record {
+      laid = refl;
+      none-kept = refl;
+      one-kept = refl;
+      given = refl;
+      cut-not-given = refl;
+      long-not-given = refl;
+      empty-kept = refl;
+      two-kept = refl;
     }

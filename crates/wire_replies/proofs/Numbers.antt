@@ -16,7 +16,7 @@ use Rattle.wire_frame.specs.Frame.{recordBytes}
 use Rattle.wire_frame.specs.Messages.{look, rowOf}
 use Rattle.wire_replies.specs.declared.Reply.{Reply}
 use Rattle.wire_replies.specs.declared.Reply.the-variants.{Header, Refused, Plain, Listening, ListeningTcp, ConnectionTypes, ServerInfo, ScsiState, Cdb}
-use Rattle.wire_replies.specs.declared.Reply.the-variants.{Sense, Check, TapeState, Mtio, Wrote, Read, DataState, MoverState}
+use Rattle.wire_replies.specs.declared.Reply.the-variants.{Sense, Check, TapeState, Mtio, Wrote, Read, DataState, Environment, MoverState}
 use Rattle.wire_replies.specs.Replies.{bodyBytes, opaques, shapeOf, numberOf, headerError, replyBytes}
 use Rattle.wire_replies.specs.Writers.{headerWords}
 use Rattle.wire_replies.specs.Numbers.{placeOf, numberIn, bodyIn, bare, NumbersTold}
@@ -85,6 +85,7 @@ in-body (Mtio e residue) image f g = f refl (record { there = omega arith; is = 
 in-body (Wrote e count) image f g = f refl (record { there = omega arith; is = refl })
 in-body (Read e start len) image f g = f refl (record { there = omega arith; is = refl })
 in-body (DataState v) image f g = f refl (record { there = omega arith; is = refl })
+in-body Environment image f g = f refl (record { there = omega arith; is = refl })
 in-body (MoverState v) image f g = f refl (record { there = omega arith; is = refl })
 
 module _ (s t m c : ℕ) (image : List ℕ) where

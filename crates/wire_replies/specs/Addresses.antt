@@ -12,7 +12,7 @@ use Rattle.wire_replies.specs.declared.Reply.the-variants.{Listening, Li
 use Rattle.wire_replies.specs.Replies.{bodyBytes, shapeOf}
 
 -- a word below 256
-abbrev small : ℕ → List ℕ
+abbrev pub small : ℕ → List ℕ
 small n = 0 ∷ 0 ∷ 0 ∷ n ∷ []
 
 -- what a host lends: one address, 10.0.0.1 and port 10,000, with no pairs

@@ -5,3 +5,4 @@ pub mod RoundTrip
 pub mod Refusals
 pub mod Numbers
 pub mod Addresses
+pub mod EnvironmentReplies

@@ -9,7 +9,7 @@ use Rattle.xdr.specs.Xdr.{word, be32}
 use Rattle.wire_frame.specs.Messages.{rowOf}
 use Rattle.wire_replies.specs.declared.Reply.{Reply}
 use Rattle.wire_replies.specs.declared.Reply.the-variants.{Header, Refused, Plain, Listening, ListeningTcp, ConnectionTypes, ServerInfo, ScsiState, Cdb}
-use Rattle.wire_replies.specs.declared.Reply.the-variants.{Sense, Check, TapeState, Mtio, Wrote, Read, DataState, MoverState}
+use Rattle.wire_replies.specs.declared.Reply.the-variants.{Sense, Check, TapeState, Mtio, Wrote, Read, DataState, Environment, MoverState}
 use Rattle.wire_replies.specs.Replies.{numberOf, replyBytes}
 use Rattle.wire_replies.specs.Refusals.{Blank, blank, blanks}
 
@@ -31,6 +31,7 @@ placeOf (Mtio e residue) = 0
 placeOf (Wrote e count) = 0
 placeOf (Read e start len) = 0
 placeOf (DataState v) = 1
+placeOf Environment = 0
 placeOf (MoverState v) = 0
 
 -- "An unknown message's 1, and 18, stand in the header with no body; all others in the body, header error 0": the number of a reply

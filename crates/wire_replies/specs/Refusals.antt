@@ -9,7 +9,7 @@ use Rattle.wire_frame.specs.Messages.{Line, is, table, rowOf}
 use Rattle.wire_replies.specs.declared.DataView.{DataView}
 use Rattle.wire_replies.specs.declared.MoverView.{MoverView}
 use Rattle.wire_replies.specs.declared.Reply.{Reply}
-use Rattle.wire_replies.specs.declared.Reply.the-variants.{Plain, Listening, ConnectionTypes, ServerInfo, ScsiState, Cdb, TapeState, Mtio, Wrote, Read, DataState, MoverState}
+use Rattle.wire_replies.specs.declared.Reply.the-variants.{Plain, Listening, ConnectionTypes, ServerInfo, ScsiState, Cdb, TapeState, Mtio, Wrote, Read, DataState, Environment, MoverState}
 use Rattle.wire_replies.specs.Replies.{bodyBytes, shapeOf}
 
 abbrev noData : DataView
@@ -33,7 +33,7 @@ noMover =
     }
 
 -- a message's number, its accepted reply with nothing told, and how many words of that stand in a list: a refusal has the
--- list empty
+-- list empty. With nothing kept an environment's list is the separator's pair.
 pub data Blank : Type 0 where
   blank : ℕ → Reply → ℕ → Blank
 
@@ -59,6 +59,7 @@ blanks =
     ∷ blank 0x401 Plain 0
     ∷ blank 0x402 Plain 0
     ∷ blank 0x403 Plain 0
+    ∷ blank 0x404 Environment 8
     ∷ blank 0x407 Plain 0
     ∷ blank 0x409 Listening 0
     ∷ blank 0x40A Plain 0

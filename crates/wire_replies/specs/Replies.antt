@@ -8,11 +8,13 @@ use Rattle.codes.specs.Codes.{localAddress, tcpAddress, versionFour}
 use Rattle.xdr.specs.Choose.{choose}
 use Rattle.xdr.specs.Xdr.{be32s}
 use Rattle.xdr_opaque.specs.Put.{opaque}
+use Rattle.wire_pairs.specs.Pairs.{textsOf}
+use Rattle.wire_pairs.specs.Store.{environmentOf}
 use Rattle.wire_frame.specs.Frame.{recordBytes}
 use Rattle.wire_replies.specs.declared.DataView.{DataView}
 use Rattle.wire_replies.specs.declared.MoverView.{MoverView}
 use Rattle.wire_replies.specs.declared.Reply.{Reply}
-use Rattle.wire_replies.specs.declared.Reply.the-variants.{Header, Refused, Plain, Listening, ListeningTcp, ConnectionTypes, ServerInfo, ScsiState, Cdb, Sense, Check, TapeState, Mtio, Wrote, Read, DataState, MoverState}
+use Rattle.wire_replies.specs.declared.Reply.the-variants.{Header, Refused, Plain, Listening, ListeningTcp, ConnectionTypes, ServerInfo, ScsiState, Cdb, Sense, Check, TapeState, Mtio, Wrote, Read, DataState, Environment, MoverState}
 use Rattle.wire_replies.specs.declared.Notice.{Notice}
 use Rattle.wire_replies.specs.declared.Notice.the-variants.{DataHalted, Connected, MoverHalted, MoverPaused}
 
@@ -57,7 +59,7 @@ unfoldable pub addressWords : ℕ → List ℕ
 addressWords address = choose (eqb address tcpAddress) (tcpAddress ∷ 0 ∷ []) (localAddress ∷ [])
 
 -- The body of each reply, in 004's order. "other reply fields are zero or empty"; what is not kept is zero. What is shown
--- of lent bytes lies in `shown`: of a read in the image, and of a listen by TCP it is the list.
+-- of lent bytes lies in `shown`: of a read in the image; of a listen by TCP it is the list, of an environment the store.
 unfoldable pub shapeOf : Reply → List ℕ → Body
 shapeOf (Header e) shown = wordsOnly []
 shapeOf (Refused b e a) shown = wordsOnly (replicate b 0 ++ (e ∷ replicate a 0))
@@ -85,6 +87,9 @@ shapeOf (DataState v) shown =
     wordsOnly
     (3 ∷ 0 ∷ v .operation ∷ v .state ∷ v .reason ∷ high (v .processed) ∷ low (v .processed) ∷ 0 ∷ 0 ∷ 0
     ∷ (addressWords (v .address) ++ (0 ∷ 0 ∷ 0 ∷ 0 ∷ [])))
+-- ndmp_data_get_env_reply: error, and the pairs: "Answer 0x404 from it"
+shapeOf Environment shown =
+    record { words = 0 ∷ length (environmentOf shown) ∷ []; raw = []; texts = textsOf (environmentOf shown); tail = [] }
 -- error, mode, state, pause and halt reason, record size and number, moved, seek position, bytes left, window, address
 shapeOf (MoverState v) shown =
     wordsOnly
@@ -109,6 +114,7 @@ isShowing (Mtio e residue) = false
 isShowing (Wrote e count) = false
 isShowing (Read e start len) = true
 isShowing (DataState v) = false
+isShowing Environment = true
 isShowing (MoverState v) = false
 
 -- paper 01's number of each reply: 0 where the request is accepted, 12 and 13 where the tape says so
@@ -129,6 +135,7 @@ numberOf (Mtio e residue) = e
 numberOf (Wrote e count) = e
 numberOf (Read e start len) = e
 numberOf (DataState v) = 0
+numberOf Environment = 0
 numberOf (MoverState v) = 0
 
 -- "An unknown message's 1, and 18, stand in the header with no body; all others in the body, header error 0"
@@ -149,6 +156,7 @@ headerError (Mtio e residue) = 0
 headerError (Wrote e count) = 0
 headerError (Read e start len) = 0
 headerError (DataState v) = 0
+headerError Environment = 0
 headerError (MoverState v) = 0
 
 -- a reply as it is sent: type 1, the request's message and sequence number

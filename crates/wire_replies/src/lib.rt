@@ -1,9 +1,10 @@
 // Replies and notices: what each is by its layout. `wire_writing` writes them.
-ghost use Rattle.wire_replies.specs.Fit.{AnswersFit};
+ghost use Rattle.wire_replies.specs.Fit.{AnswersFit, EnvironmentFits};
 ghost use Rattle.wire_replies.specs.RoundTrip.{RepliesBack};
 ghost use Rattle.wire_replies.specs.Refusals.{RefusalsAsLong};
 ghost use Rattle.wire_replies.specs.Numbers.{NumbersTold};
 ghost use Rattle.wire_replies.specs.Addresses.{AddressReplies};
+ghost use Rattle.wire_replies.specs.EnvironmentReplies.{EnvironmentReplies};
 
 // What get state tells of the data end.
 #[repr(C)]
@@ -37,7 +38,8 @@ pub struct MoverView {
 // outcome (0, 12 or 13), the rest have the error 0; Plain is that error alone. ListeningTcp shows the list of
 // addresses that was lent. Cdb is an execute CDB that hands over nothing, Sense one that hands over the first bytes
 // of the sense (pending or not) as data in, Check one that ends with status 2 and the extended sense. TapeState is
-// the file and the block, Mtio the residue, Wrote the count, and Read where the bytes lie in the image.
+// the file and the block, Mtio the residue, Wrote the count, and Read where the bytes lie in the image. Environment
+// gives the pairs of the store that was lent.
 pub enum Reply {
     Header(u32),
     Refused(u32, u32, u32),
@@ -55,6 +57,7 @@ pub enum Reply {
     Wrote(u32, u32),
     Read(u32, usize, usize),
     DataState(DataView),
+    Environment,
     MoverState(MoverView),
 }
 
@@ -66,9 +69,10 @@ pub enum Notice {
     MoverPaused(u32, u64),
 }
 
-// No work: its contract is that the largest answer with two notices fits the output, so that the crate is proved only with it.
+// No work: its contract is that the largest answer with two notices fits the output, and how long the largest environment
+// is, so that the crate is proved only with it.
 pub fn answers_fit()
-    ensures { λ r. ⌜ AnswersFit ⌝ }
+    ensures { λ r. ⌜ AnswersFit × EnvironmentFits ⌝ }
 {}
 
 // The same, of what is sent being read back.
@@ -89,4 +93,9 @@ pub fn numbers_told()
 // The same, of the replies that tell of addresses, byte for byte.
 pub fn address_replies()
     ensures { λ r. ⌜ AddressReplies ⌝ }
+{}
+
+// The same, of the reply that gives an environment, byte for byte.
+pub fn environment_replies()
+    ensures { λ r. ⌜ EnvironmentReplies ⌝ }
 {}

@@ -12,7 +12,10 @@ use Rattle.xdr.specs.Choose.{choose}
 use Rattle.xdr.specs.Xdr.{be32}
 use Rattle.xdr.proofs.Laws.{length-be32}
 use Rattle.xdr.proofs.Tests.{pick-if, pick-else}
-use Rattle.xdr_opaque.proofs.Fields.{From, all-of, from-length, past, word-is}
+use Rattle.xdr_opaque.specs.Opaque.{filled}
+use Rattle.xdr_opaque.specs.Put.{opaque}
+use Rattle.xdr_opaque.proofs.Fields.{From, all-of, from-length, past, word-is, opaque-bytes}
+use Rattle.wire_pairs.specs.Pairs.{Pair, pairsFrom}
 use Rattle.wire_frame.specs.declared.ConnectKind.the-variants as ConnectKind
 use Rattle.wire_frame.specs.declared.ConfigKind.the-variants as ConfigKind
 use Rattle.wire_frame.specs.declared.ScsiKind.the-variants as ScsiKind
@@ -22,28 +25,31 @@ use Rattle.wire_frame.specs.declared.MoverKind.the-variants as MoverKind
 use Rattle.wire_frame.specs.declared.JointKind.the-variants as JointKind
 use Rattle.wire_frame.specs.declared.Message.{Message}
 use Rattle.wire_frame.specs.declared.Message.the-variants as Message
-use Rattle.wire_layouts.specs.Layout.{word, text, Field, one, tag, four, Value, value, writeAs, partAt, single, fieldAt, whole, before, andValue, andRead, readAs}
-use Rattle.wire_layouts.specs.Laws.{FieldsFit}
-use Rattle.wire_layouts.specs.Scans.{emptyScan, put, puts, summed, scanned}
+use Rattle.wire_layouts.specs.Layout.{word, text, Field, one, tag, four, bytes, Value, value, place, writeAs, partAt, single, fieldAt, whole, before, andValue, andRead, readAs}
+use Rattle.wire_layouts.specs.Laws.{contents, FieldsFit}
+use Rattle.wire_layouts.specs.Scans.{pairs, emptyScan, put, puts, summed, scanned}
 use Rattle.wire_layouts.specs.AddressLists.{isTcp}
 use Rattle.wire_layouts.specs.declared.Scan.{Scan}
 use Rattle.wire_layouts.specs.declared.Text.{Text}
 use Rattle.wire_layouts.proofs.Back.{round-trip}
 use Rattle.wire_layouts.proofs.Within.{whole-kept}
 use Rattle.wire_layouts.proofs.AddressTypes.{type-written}
-use Rattle.wire_requests.specs.Bodies.{listenFields, connectFields, layoutOf, requestOf, readBy, decoded}
+use Rattle.wire_requests.specs.Bodies.{behindText, pairsAt, listenFields, connectFields, layoutOf, requestOf, readBy, decoded}
 use Rattle.wire_requests.specs.Within.{bytesAt}
-use Rattle.wire_requests.specs.Sent.{Addr, local, tcp, Arg, ulong, tcpAddrs, union, argBytes, Sent, argsOf, sentBytes, SentFits, AtPlace, Means}
+use Rattle.wire_requests.specs.Sent.{Name, Addr, local, tcp, Arg, ulong, octets, pvals, tcpAddrs, union, argBytes}
+use Rattle.wire_requests.specs.Sent.{Sent, argsOf, sentBytes, SentFits, AtPlace, AtPairs, Means}
 use Rattle.wire_requests.specs.Sent.{connect-open, client-auth, connect-close, connection-type, server-info, scsi-open, scsi-close, scsi-state, scsi-reset, execute-cdb}
-use Rattle.wire_requests.specs.Sent.{tape-open, tape-close, tape-state, tape-mtio, tape-write, tape-read, data-state, start-backup, start-recover, data-stop, data-listen}
+use Rattle.wire_requests.specs.Sent.{tape-open, tape-close, tape-state, tape-mtio, tape-write, tape-read, data-state, start-backup, start-recover, data-get-env, data-stop, data-listen}
 use Rattle.wire_requests.specs.Sent.{mover-state, mover-listen, mover-continue, mover-stop, set-window, mover-read, set-record-size}
 use Rattle.wire_requests.specs.Sent.{data-abort, data-connect, mover-abort, mover-close, mover-connect}
 use Rattle.wire_requests.specs.RoundTrip.{Known, OtherThan, OtherType, RequestsBack}
+use Rattle.wire_requests.specs.declared.Pairs.{Pairs}
 use Rattle.wire_requests.specs.declared.ConnectRequest.the-variants as ConnectRequest
 use Rattle.wire_requests.specs.declared.Request.{Request}
 use Rattle.wire_requests.specs.declared.Request.the-variants.{Connect, Bad}
 use Rattle.wire_requests.proofs.Laws.{by-layout}
 use Rattle.wire_requests.proofs.Sent.{fieldFor, valueFor, args-fit, args-written, AnyPlaces, of-places}
+use Rattle.wire_requests.proofs.Starts.{listed-back, behind-text, After, first-text}
 
 read-whole : (m : Message) (b : List ℕ) (ws : List (Value Text)) → readAs (layoutOf m b) b 0 ≡ whole ws
     → readBy m b ≡ requestOf m (puts 0 ws (emptyScan true))
@@ -57,6 +63,21 @@ read-any m h vs f P a =
     let r = round-trip (layoutOf m b) vs f in
     let e : decoded m b ≡ requestOf m (puts 0 (r .places) (emptyScan true)) = by-layout m b h ∙ read-whole m b (r .places) (r .reads) in
     rw e (of-places b (r .places) 0 (emptyScan true) (λ k. P (requestOf m k)) (rw (r .same) a))
+
+-- the same where it is known what was read of the first field
+read-first : (m : Message) → Known m → (v : Value (List ℕ)) (us : List (Value (List ℕ))) → FieldsFit (layoutOf m (writeAs (v ∷ us))) (v ∷ us) → (w : Value Text)
+    → ((ws : List (Value Text)) → readAs (layoutOf m (writeAs (v ∷ us))) (writeAs (v ∷ us)) 0 ≡ whole ws → After w ws) → (P : Request → Type 0)
+    → AnyPlaces (writeAs (v ∷ us)) us 1 (put 0 (w .first) (emptyScan true)) (λ k. P (requestOf m k)) → P (decoded m (writeAs (v ∷ us)))
+unfolding puts
+read-first m h v us f w known P a =
+    let b = writeAs (v ∷ us) in
+    let r = round-trip (layoutOf m b) (v ∷ us) f in
+    let n = known (r .places) (r .reads) in
+    let e : decoded m b ≡ requestOf m (puts 1 (n .others) (put 0 (w .first) (emptyScan true))) =
+    by-layout m b h ∙ read-whole m b (r .places) (r .reads) ∙ ap (λ (ws : List (Value Text)). requestOf m (puts 0 ws (emptyScan true))) (n .same) in
+    let s : contents b w ∷ map (contents b) (n .others) ≡ v ∷ us = rw (n .same) at (r .same) in
+    let t : map (contents b) (n .others) ≡ us = cc in
+    rw e (of-places b (n .others) 1 (put 0 (w .first) (emptyScan true)) (λ k. P (requestOf m k)) (rw t a))
 
 by-args : {m : Message} (s : Sent m) → Known m → map fieldFor (argsOf s) ≡ layoutOf m (sentBytes s) → SentFits s
     → AnyPlaces (sentBytes s) (map valueFor (argsOf s)) 0 (emptyScan true) (λ k. Means s (sentBytes s) (requestOf m k))
@@ -99,6 +120,37 @@ mover-connect-row mode (tcp addrs) =
 at-place : {b s : List ℕ} {P : Text → Type 0} (t : Text) → bytesAt b t ≡ s → P t → AtPlace b s P
 at-place t e p = record { stands = t; holds = e; so = p }
 
+at-pairs : {b : List ℕ} {env : List Pair} {P : Pairs → Type 0} (ps : Pairs) → pairsFrom b (ps .count) (ps .start) ≡ env → P ps → AtPairs b env P
+at-pairs ps e p = record { stand = ps; hold = e; so = p }
+
+-- ---- start requests: the pairs of a recover begin behind the first word, those of a backup behind its method, whose place is known
+recover-pairs : (env : List Pair) (list : List Name) (butype : List ℕ) → SentFits (start-recover env list butype)
+    → pairsFrom (sentBytes (start-recover env list butype)) (length env) 4 ≡ env
+unfolding sentBytes flatMap
+recover-pairs env list butype f = listed-back env _ (all-of (flatMap argBytes (argsOf (start-recover env list butype)))) (f .0 .1)
+
+module _ (butype : List ℕ) (env : List Pair) (f : SentFits (start-backup butype env)) where
+  from-method : From (sentBytes (start-backup butype env)) 0 (opaque butype ++ (argBytes (pvals env) ++ []))
+  unfolding sentBytes flatMap
+  from-method = all-of (sentBytes (start-backup butype env))
+
+  backup-pairs : pairsFrom (sentBytes (start-backup butype env)) (length env) (4 + filled (length butype) + 4) ≡ env
+  backup-pairs = listed-back env [] (behind-text butype _ from-method) (f .1 .0 .1)
+
+  backup-back : Means (start-backup butype env) (sentBytes (start-backup butype env)) (decoded (Message.Data DataKind.Backup) (sentBytes (start-backup butype env)))
+  unfolding put sentBytes
+  backup-back =
+      let s = start-backup butype env in
+      let e = args-written (argsOf s) in
+      let b = writeAs (map valueFor (argsOf s)) in
+      let p = place 4 (length butype) in
+      let from : From b 0 (opaque butype ++ (argBytes (pvals env) ++ [])) = rw e from-method in
+      let pairs-there : pairsFrom b (length env) (4 + filled (length butype) + 4) ≡ env = rw e backup-pairs in
+      rw (← e)
+      (read-first (Message.Data DataKind.Backup) tt (valueFor (octets butype)) (valueFor (pvals env) ∷ []) (args-fit (argsOf s) f) (value (bytes p) [])
+      (λ ws r. first-text butype _ (pairs ∷ []) ws from (f .0) r) (Means s b)
+      (at-place p (opaque-bytes _ butype from (f .0)) (at-pairs (pairsAt (behindText p) (length env)) pairs-there refl)))
+
 sent-back : {m : Message} (s : Sent m) → SentFits s → Means s (sentBytes s) (decoded m (sentBytes s))
 unfolding put choose
 sent-back (connect-open version) f = by-args (connect-open version) tt refl f refl
@@ -118,8 +170,10 @@ sent-back (tape-mtio op count) f = by-args (tape-mtio op count) tt refl f refl
 sent-back (tape-write dataOut) f = by-args (tape-write dataOut) tt refl f (λ t e. at-place t e refl)
 sent-back (tape-read count) f = by-args (tape-read count) tt refl f refl
 sent-back data-state f = by-args data-state tt refl f refl
-sent-back (start-backup butype env) f = by-args (start-backup butype env) tt refl f (λ t e. at-place t e refl)
-sent-back (start-recover env list butype) f = by-args (start-recover env list butype) tt refl f (λ t e. at-place t e refl)
+sent-back (start-backup butype env) f = backup-back butype env f
+sent-back (start-recover env list butype) f =
+    by-args (start-recover env list butype) tt refl f (λ t e. at-place t e (at-pairs (pairsAt 0 (length env)) (recover-pairs env list butype f) refl))
+sent-back data-get-env f = by-args data-get-env tt refl f refl
 sent-back data-stop f = by-args data-stop tt refl f refl
 sent-back (data-listen byTcp) f = by-args (data-listen byTcp) tt (data-listen-row byTcp) f refl
 sent-back mover-state f = by-args mover-state tt refl f refl
@@ -158,6 +212,7 @@ every (Message.Tape TapeKind.Read) h = tape-read 0
 every (Message.Data DataKind.State) h = data-state
 every (Message.Data DataKind.Backup) h = start-backup [] []
 every (Message.Data DataKind.Recover) h = start-recover [] [] []
+every (Message.Data DataKind.Environment) h = data-get-env
 every (Message.Data DataKind.Stop) h = data-stop
 every (Message.Data DataKind.Listen) h = data-listen false
 every (Message.Mover MoverKind.State) h = mover-state

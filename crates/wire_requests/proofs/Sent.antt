@@ -9,6 +9,7 @@ use lib.ListN.{length}
 use Rattle.codes.specs.Codes.{mostListed, mostAddresses}
 use Rattle.xdr.specs.Xdr.{be32, be64}
 use Rattle.xdr_opaque.specs.Put.{opaque, Each}
+use Rattle.wire_pairs.specs.Pairs.{Pair}
 use Rattle.wire_layouts.specs.Layout.{Part, word, hyper, text, Field, one, many, tag, Item, four, eight, bytes, Value, value, itemBytes, valueBytes, writeAs}
 use Rattle.wire_layouts.specs.Laws.{content, contents, PartFits, is-word, is-hyper, is-text, is-port, PartsFit, no-part, part-on, TimesFit, no-time, time-on, FieldFits, is-one}
 use Rattle.wire_layouts.specs.Laws.{ElementFits, is-element, is-many, is-lists, is-list, is-tag, FieldsFit, no-field, field-on}
@@ -17,11 +18,11 @@ use Rattle.wire_layouts.specs.declared.Scan.{Scan}
 use Rattle.wire_layouts.specs.declared.Text.{Text}
 use Rattle.wire_layouts.proofs.Back.{bytes-append}
 use Rattle.wire_requests.specs.Within.{bytesAt}
-use Rattle.wire_requests.specs.Sent.{Pval, pvalBytes, PvalFits, Name, nameBytes, NameFits, TcpAddr, tcpAddrBytes, TcpAddrFits}
+use Rattle.wire_requests.specs.Sent.{pvalBytes, PvalFits, Name, nameBytes, NameFits, TcpAddr, tcpAddrBytes, TcpAddrFits}
 use Rattle.wire_requests.specs.Sent.{Arg, ulong, uquad, octets, pvals, nameList, tcpAddrs, union, argBytes, ArgFits}
 
 -- ---- the field of a layout that an argument is, and its value there
-abbrev pvalItems : Pval → List (Item (List ℕ))
+abbrev pvalItems : Pair → List (Item (List ℕ))
 pvalItems p = bytes (p .name) ∷ bytes (p .value) ∷ []
 
 abbrev nameItems : Name → List (Item (List ℕ))
@@ -49,7 +50,7 @@ valueFor (tcpAddrs addrs) = value (four (length addrs)) (flatMap addrItems addrs
 valueFor (union k) = value (four k) []
 
 -- ---- the values fit
-pvals-fit : (ps : List Pval) → Each PvalFits ps → TimesFit (PartsFit (text ∷ text ∷ [])) (length ps) (flatMap pvalItems ps)
+pvals-fit : (ps : List Pair) → Each PvalFits ps → TimesFit (PartsFit (text ∷ text ∷ [])) (length ps) (flatMap pvalItems ps)
 unfolding flatMap
 pvals-fit [] h = no-time
 pvals-fit (p ∷ ps) h = time-on (part-on (is-text (h .0 .0)) (part-on (is-text (h .0 .1)) no-part)) (pvals-fit ps (h .1))
@@ -92,7 +93,7 @@ args-fit [] h = no-field
 args-fit (a ∷ xs) h = field-on (arg-fits a (h .0)) (args-fit xs (h .1))
 
 -- ---- and are written as the arguments are
-pvals-written : (ps : List Pval) → flatMap itemBytes (flatMap pvalItems ps) ≡ flatMap pvalBytes ps
+pvals-written : (ps : List Pair) → flatMap itemBytes (flatMap pvalItems ps) ≡ flatMap pvalBytes ps
 unfolding flatMap
 pvals-written [] = refl
 pvals-written (p ∷ ps) = rw (append-assoc, ← pvals-written ps)

@@ -71,6 +71,7 @@ apart (Message.Tape TapeKind.Read) b s = absurd s
 apart (Message.Data DataKind.State) b s = absurd s
 apart (Message.Data DataKind.Backup) b s = absurd s
 apart (Message.Data DataKind.Recover) b s = absurd s
+apart (Message.Data DataKind.Environment) b s = absurd s
 apart (Message.Data DataKind.Stop) b s = absurd s
 apart (Message.Data DataKind.Listen) b s = listen-apart b 0 (isTcp b 0) refl s
 apart (Message.Mover MoverKind.State) b s = absurd s

@@ -45,6 +45,7 @@ of-kept b (Message.Tape TapeKind.Read) k h = tt
 of-kept b (Message.Data DataKind.State) k h = tt
 of-kept b (Message.Data DataKind.Backup) k h = h _
 of-kept b (Message.Data DataKind.Recover) k h = h _
+of-kept b (Message.Data DataKind.Environment) k h = tt
 of-kept b (Message.Data DataKind.Stop) k h = tt
 of-kept b (Message.Data DataKind.Listen) k h = tt
 of-kept b (Message.Mover MoverKind.State) k h = tt

@@ -1,12 +1,13 @@
 -- The bodies of requests (004, Appendix C): the layout of each, and the request that its fields are, or Bad, which is error 18. A text is
 -- its place in the body.
-use Prim.Native.Nat.{ℕ}
+use Prim.Native.Nat.{ℕ, _+_}
 use mathlib.Core.Bool.{Bool, true, false}
 use mathlib.Core.List.{List, [], _∷_}
 use lib.Dec.{eqb}
 use lib.ListN.{getD}
 use Rattle.xdr.specs.Choose.{choose}
 use Rattle.codes.specs.Codes.{localAddress, tcpAddress, textAuth}
+use Rattle.xdr_opaque.specs.Opaque.{filled}
 use Rattle.wire_layouts.specs.Layout.{word, hyper, text, Field, one, tag, place}
 use Rattle.wire_layouts.specs.Scans.{pairs, names, addresses, scanned}
 use Rattle.wire_layouts.specs.AddressLists.{isTcp}
@@ -28,6 +29,7 @@ use Rattle.wire_frame.specs.declared.MoverKind.the-variants as MoverKind
 use Rattle.wire_frame.specs.declared.JointKind.the-variants as JointKind
 use Rattle.wire_frame.specs.declared.Message.{Message}
 use Rattle.wire_frame.specs.declared.Message.the-variants as Message
+use Rattle.wire_requests.specs.declared.Pairs.{Pairs}
 use Rattle.wire_requests.specs.declared.ConnectRequest.the-variants as ConnectRequest
 use Rattle.wire_requests.specs.declared.ConfigRequest.the-variants as ConfigRequest
 use Rattle.wire_requests.specs.declared.ScsiRequest.the-variants as ScsiRequest
@@ -47,6 +49,14 @@ hyperOf k i = getD (k .hypers) i 0
 
 abbrev pub textOf : Scan → ℕ → Text
 textOf k i = place (getD (k .starts) i 0) (getD (k .lens) i 0)
+
+-- the offset behind a text and its fill
+abbrev pub behindText : Text → ℕ
+behindText t = t .start + filled (t .len)
+
+-- the pairs of a list of so many, whose count stands at an offset: the first begins behind it
+abbrev pub pairsAt : ℕ → ℕ → Pairs
+pairsAt list n = record { start = list + 4; count = n }
 
 -- An address by whether its type is TCP. A listen names the type alone; behind that of a connect by TCP stands its list: "type 1 no longer leaves
 -- bytes unread". Of any other type than LOCAL and TCP the rest is not read.
@@ -80,6 +90,7 @@ layoutOf (Message.Tape TapeKind.Read) b = one word ∷ []
 layoutOf (Message.Data DataKind.State) b = []
 layoutOf (Message.Data DataKind.Backup) b = one text ∷ pairs ∷ []
 layoutOf (Message.Data DataKind.Recover) b = pairs ∷ names ∷ one text ∷ []
+layoutOf (Message.Data DataKind.Environment) b = []
 layoutOf (Message.Data DataKind.Stop) b = []
 layoutOf (Message.Data DataKind.Listen) b = listenFields (isTcp b 0)
 layoutOf (Message.Mover MoverKind.State) b = []
@@ -116,8 +127,9 @@ requestOf (Message.Tape TapeKind.Mtio) k = Tape (TapeRequest.Mtio (wordOf k 0) (
 requestOf (Message.Tape TapeKind.Write) k = Tape (TapeRequest.Write (textOf k 0))
 requestOf (Message.Tape TapeKind.Read) k = Tape (TapeRequest.Read (wordOf k 0))
 requestOf (Message.Data DataKind.State) k = Data DataRequest.State
-requestOf (Message.Data DataKind.Backup) k = Data (DataRequest.Backup (textOf k 0))
-requestOf (Message.Data DataKind.Recover) k = Data (DataRequest.Recover (textOf k 2))
+requestOf (Message.Data DataKind.Backup) k = Data (DataRequest.Backup (textOf k 0) (pairsAt (behindText (textOf k 0)) (wordOf k 1)))
+requestOf (Message.Data DataKind.Recover) k = Data (DataRequest.Recover (textOf k 2) (pairsAt 0 (wordOf k 0)))
+requestOf (Message.Data DataKind.Environment) k = Data DataRequest.Environment
 requestOf (Message.Data DataKind.Stop) k = Data DataRequest.Stop
 requestOf (Message.Data DataKind.Listen) k = Data (DataRequest.Listen (wordOf k 0))
 requestOf (Message.Mover MoverKind.State) k = Mover MoverRequest.State

@@ -71,6 +71,7 @@ Apart (Message.Tape k) b = ⊥
 Apart (Message.Data DataKind.State) b = ⊥
 Apart (Message.Data DataKind.Backup) b = ⊥
 Apart (Message.Data DataKind.Recover) b = ⊥
+Apart (Message.Data DataKind.Environment) b = ⊥
 Apart (Message.Data DataKind.Stop) b = ⊥
 Apart (Message.Data DataKind.Listen) b = NoType (word b 0)
 Apart (Message.Mover MoverKind.State) b = ⊥

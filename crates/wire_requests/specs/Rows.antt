@@ -4,6 +4,7 @@ use Prim.Native.Nat.{ℕ, zero, suc}
 use mathlib.Core.Path.{_≡_}
 use mathlib.Core.List.{List, [], _∷_, _++_, map}
 use lib.ListN.{length, replicate}
+use Rattle.wire_pairs.specs.Pairs.{Pair, pair, pairsFrom}
 use Rattle.wire_layouts.specs.Layout.{place}
 use Rattle.wire_frame.specs.declared.ConnectKind.the-variants as ConnectKind
 use Rattle.wire_frame.specs.declared.ConfigKind.the-variants as ConfigKind
@@ -15,6 +16,7 @@ use Rattle.wire_frame.specs.declared.JointKind.the-variants as JointKind
 use Rattle.wire_frame.specs.declared.Message.{Message}
 use Rattle.wire_frame.specs.declared.Message.the-variants as Message
 use Rattle.wire_requests.specs.Bodies.{decoded}
+use Rattle.wire_requests.specs.declared.Pairs.{Pairs}
 use Rattle.wire_requests.specs.declared.ConnectRequest.the-variants as ConnectRequest
 use Rattle.wire_requests.specs.declared.ConfigRequest.the-variants as ConfigRequest
 use Rattle.wire_requests.specs.declared.ScsiRequest.the-variants as ScsiRequest
@@ -80,6 +82,10 @@ addressList n = small n ++ addressesOf n
 abbrev pub inquiry : List ℕ
 inquiry = 18 ∷ 0 ∷ 0 ∷ 0 ∷ 36 ∷ 0 ∷ []
 
+-- where the first pair begins, behind the count, and how many they are
+abbrev pub found : ℕ → ℕ → Pairs
+found at n = record { start = at; count = n }
+
 -- ---- bodies, and the request of each
 abbrev pub bodies : List SampleBody
 bodies =
@@ -102,8 +108,12 @@ bodies =
     ∷ body (Message.Tape TapeKind.Read) (0 ∷ 0 ∷ 4 ∷ 0 ∷ [])
     ∷ body (Message.Data DataKind.State) []
     ∷ body (Message.Data DataKind.Backup) (string dump [] ++ environment (0 ∷ 0 ∷ []))
+    ∷ body (Message.Data DataKind.Backup) (string vault none ++ environment (0 ∷ 0 ∷ []))
     ∷ body (Message.Data DataKind.Backup) (string dump [] ++ small 64 ++ replicate 512 0)
+    ∷ body (Message.Data DataKind.Backup) (string dump [] ++ small 0)
     ∷ body (Message.Data DataKind.Recover) (environment (0 ∷ 0 ∷ []) ++ nlist (0 ∷ []) ++ string dump [])
+    ∷ body (Message.Data DataKind.Recover) (small 0 ++ nlist (0 ∷ []) ++ string dump [])
+    ∷ body (Message.Data DataKind.Environment) []
     ∷ body (Message.Data DataKind.Stop) []
     ∷ body (Message.Data DataKind.Listen) (small 0)
     ∷ body (Message.Data DataKind.Listen) (small 1)
@@ -149,9 +159,13 @@ requests =
     ∷ Request.Tape (TapeRequest.Write (place 4 3))
     ∷ Request.Tape (TapeRequest.Read 1024)
     ∷ Request.Data DataRequest.State
-    ∷ Request.Data (DataRequest.Backup (place 4 4))
-    ∷ Request.Data (DataRequest.Backup (place 4 4))
-    ∷ Request.Data (DataRequest.Recover (place 72 4))
+    ∷ Request.Data (DataRequest.Backup (place 4 4) (found 12 1))
+    ∷ Request.Data (DataRequest.Backup (place 4 5) (found 16 1))
+    ∷ Request.Data (DataRequest.Backup (place 4 4) (found 12 64))
+    ∷ Request.Data (DataRequest.Backup (place 4 4) (found 12 0))
+    ∷ Request.Data (DataRequest.Recover (place 72 4) (found 4 1))
+    ∷ Request.Data (DataRequest.Recover (place 56 4) (found 4 0))
+    ∷ Request.Data DataRequest.Environment
     ∷ Request.Data DataRequest.Stop
     ∷ Request.Data (DataRequest.Listen 0)
     ∷ Request.Data (DataRequest.Listen 1)
@@ -195,6 +209,7 @@ badBodies =
     ∷ body (Message.Data DataKind.Recover) (environment (0 ∷ 0 ∷ []) ++ nlist (0 ∷ []) ++ string (100 ∷ []) (1 ∷ 0 ∷ 0 ∷ []))
     ∷ body (Message.Data DataKind.Backup) (string dump [] ++ small 65 ++ replicate 520 0)
     ∷ body (Message.Connect ConnectKind.Close) (0 ∷ [])
+    ∷ body (Message.Data DataKind.Environment) (0 ∷ [])
     ∷ body (Message.Data DataKind.Listen) (small 0 ++ 7 ∷ [])
     ∷ body (Message.Data DataKind.Listen) (small 1 ++ 7 ∷ [])
     ∷ body (Message.Mover MoverKind.Listen) (small 0 ++ small 1 ++ small 0)
@@ -207,6 +222,12 @@ badBodies =
     ∷ body (Message.Mover MoverKind.Window) (wide 1 2 ++ wide 0 3 ++ 0 ∷ [])
     ∷ []
 
+-- the pairs of the first backup and of the first recover above: "A" is "BC"
+abbrev pub onePair : List Pair
+onePair = pair (65 ∷ []) (66 ∷ 67 ∷ []) ∷ []
+
 pub record RowsHold : Type 0 where
   pub decodes : map (λ (r : SampleBody). decoded (r .message) (r .bytes)) bodies ≡ requests
   pub refuses : map (λ (r : SampleBody). decoded (r .message) (r .bytes)) badBodies ≡ map (λ (r : SampleBody). Request.Bad) badBodies
+  pub of-backup : pairsFrom (string dump [] ++ environment (0 ∷ 0 ∷ [])) 1 12 ≡ onePair
+  pub of-recover : pairsFrom (environment (0 ∷ 0 ∷ []) ++ nlist (0 ∷ []) ++ string dump []) 1 4 ≡ onePair

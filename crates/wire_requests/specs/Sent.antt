@@ -17,8 +17,10 @@ use Rattle.wire_frame.specs.declared.MoverKind.the-variants as MoverKind
 use Rattle.wire_frame.specs.declared.JointKind.the-variants as JointKind
 use Rattle.wire_frame.specs.declared.Message.{Message}
 use Rattle.wire_frame.specs.declared.Message.the-variants as Message
+use Rattle.wire_pairs.specs.Pairs.{Pair, pairsFrom}
 use Rattle.wire_layouts.specs.declared.Text.{Text}
 use Rattle.wire_requests.specs.Within.{bytesAt}
+use Rattle.wire_requests.specs.declared.Pairs.{Pairs}
 use Rattle.wire_requests.specs.declared.ConnectRequest.the-variants as ConnectRequest
 use Rattle.wire_requests.specs.declared.ConfigRequest.the-variants as ConfigRequest
 use Rattle.wire_requests.specs.declared.ScsiRequest.the-variants as ScsiRequest
@@ -30,14 +32,10 @@ use Rattle.wire_requests.specs.declared.Request.{Request}
 use Rattle.wire_requests.specs.declared.Request.the-variants.{Connect, Config, Scsi, Tape, Data, Mover, Joint}
 
 -- ---- ndmp_pval and ndmp_name, and their bytes
-pub record Pval : Type 0 where
-  pub name : List ℕ
-  pub value : List ℕ
-
-abbrev pub pvalBytes : Pval → List ℕ
+abbrev pub pvalBytes : Pair → List ℕ
 pvalBytes p = opaque (p .name) ++ opaque (p .value)
 
-abbrev pub PvalFits : Pval → Type 0
+abbrev pub PvalFits : Pair → Type 0
 PvalFits p = (length (p .name) < 2 ^ 32) × (length (p .value) < 2 ^ 32)
 
 pub record Name : Type 0 where
@@ -65,7 +63,7 @@ NameFits n =
 pub record TcpAddr : Type 0 where
   pub ip : ℕ
   pub port : ℕ
-  pub env : List Pval
+  pub env : List Pair
 
 abbrev pub tcpAddrBytes : TcpAddr → List ℕ
 tcpAddrBytes a = be32 (a .ip) ++ (be32 (a .port) ++ (be32 (length (a .env)) ++ flatMap pvalBytes (a .env)))
@@ -84,7 +82,7 @@ pub data Arg : Type 0 where
   ulong : ℕ → Arg
   uquad : ℕ → Arg
   octets : List ℕ → Arg
-  pvals : List Pval → Arg
+  pvals : List Pair → Arg
   nameList : List Name → Arg
   tcpAddrs : List TcpAddr → Arg
   union : ℕ → Arg
@@ -128,8 +126,9 @@ pub data Sent : Message → Type 0 where
   tape-write : (dataOut : List ℕ) → Sent (Message.Tape TapeKind.Write)
   tape-read : (count : ℕ) → Sent (Message.Tape TapeKind.Read)
   data-state : Sent (Message.Data DataKind.State)
-  start-backup : (butype : List ℕ) (env : List Pval) → Sent (Message.Data DataKind.Backup)
-  start-recover : (env : List Pval) (list : List Name) (butype : List ℕ) → Sent (Message.Data DataKind.Recover)
+  start-backup : (butype : List ℕ) (env : List Pair) → Sent (Message.Data DataKind.Backup)
+  start-recover : (env : List Pair) (list : List Name) (butype : List ℕ) → Sent (Message.Data DataKind.Recover)
+  data-get-env : Sent (Message.Data DataKind.Environment)
   data-stop : Sent (Message.Data DataKind.Stop)
   data-listen : (byTcp : Bool) → Sent (Message.Data DataKind.Listen)
   mover-state : Sent (Message.Mover MoverKind.State)
@@ -175,6 +174,7 @@ argsOf (tape-read count) = ulong count ∷ []
 argsOf data-state = []
 argsOf (start-backup butype env) = octets butype ∷ pvals env ∷ []
 argsOf (start-recover env list butype) = pvals env ∷ nameList list ∷ octets butype ∷ []
+argsOf data-get-env = []
 argsOf data-stop = []
 argsOf (data-listen byTcp) = union (typeWord byTcp) ∷ []
 argsOf mover-state = []
@@ -202,6 +202,12 @@ pub record AtPlace (b s : List ℕ) (P : Text → Type 0) : Type 0 where
   pub holds : bytesAt b stands ≡ s
   pub so : P stands
 
+-- the pairs of a start request are read from b as they were sent
+pub record AtPairs (b : List ℕ) (env : List Pair) (P : Pairs → Type 0) : Type 0 where
+  pub stand : Pairs
+  pub hold : pairsFrom b (stand .count) (stand .start) ≡ env
+  pub so : P stand
+
 abbrev pub Means : {m : Message} → Sent m → List ℕ → Request → Type 0
 Means (connect-open version) b r = r ≡ Connect (ConnectRequest.Open version)
 Means (client-auth id password) b r = AtPlace b id (λ i. AtPlace b password (λ p. r ≡ Connect (ConnectRequest.Auth i p)))
@@ -220,8 +226,9 @@ Means (tape-mtio op count) b r = r ≡ Tape (TapeRequest.Mtio op count)
 Means (tape-write dataOut) b r = AtPlace b dataOut (λ d. r ≡ Tape (TapeRequest.Write d))
 Means (tape-read count) b r = r ≡ Tape (TapeRequest.Read count)
 Means data-state b r = r ≡ Data DataRequest.State
-Means (start-backup butype env) b r = AtPlace b butype (λ t. r ≡ Data (DataRequest.Backup t))
-Means (start-recover env list butype) b r = AtPlace b butype (λ t. r ≡ Data (DataRequest.Recover t))
+Means (start-backup butype env) b r = AtPlace b butype (λ t. AtPairs b env (λ ps. r ≡ Data (DataRequest.Backup t ps)))
+Means (start-recover env list butype) b r = AtPlace b butype (λ t. AtPairs b env (λ ps. r ≡ Data (DataRequest.Recover t ps)))
+Means data-get-env b r = r ≡ Data DataRequest.Environment
 Means data-stop b r = r ≡ Data DataRequest.Stop
 Means (data-listen byTcp) b r = r ≡ Data (DataRequest.Listen (typeWord byTcp))
 Means mover-state b r = r ≡ Mover MoverRequest.State

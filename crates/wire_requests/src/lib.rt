@@ -34,11 +34,18 @@ pub enum TapeRequest {
     Read(u32),
 }
 
-// The texts are the names of the methods.
+// The pairs of a start request: where the first begins in the body, and how many they are.
+pub struct Pairs {
+    pub start: usize,
+    pub count: u32,
+}
+
+// A start request holds the name of its method and its pairs.
 pub enum DataRequest {
     State,
-    Backup(Text),
-    Recover(Text),
+    Backup(Text, Pairs),
+    Recover(Text, Pairs),
+    Environment,
     Stop,
     Listen(u32),
 }

@@ -1,7 +1,7 @@
 -- Bodies and records by the writes that make them. Assumes nothing.
 use Prim.Native.Nat.{ℕ, _+_, _-_, _*_, _≤_}
 use Prim.{tt}
-use mathlib.Core.Bool.{Bool}
+use mathlib.Core.Bool.{Bool, true}
 use mathlib.Core.Path.{_≡_, refl, sym, _∙_}
 use mathlib.Core.List.{List, [], _∷_, _++_}
 use native.Mathlib.Omega.{arith}
@@ -14,15 +14,17 @@ use Rattle.xdr.specs.Xdr.{be32s, overlay}
 use Rattle.xdr.proofs.Laws.{length-be32s, be32s-append, overlay-none, overlay-front}
 use Rattle.xdr_opaque.specs.Put.{Put, opaque}
 use Rattle.xdr_opaque.proofs.Laws.{then}
+use Rattle.wire_pairs.specs.Pairs.{pairBytes}
+use Rattle.wire_pairs.specs.Store.{isLaid, environmentOf}
 use Rattle.wire_frame.specs.Frame.{recordBytes}
 use Rattle.wire_replies.specs.declared.Reply.{Reply}
 use Rattle.wire_replies.specs.declared.Reply.the-variants.{Header, Refused, Plain, Listening, ListeningTcp, ConnectionTypes, ServerInfo, ScsiState}
-use Rattle.wire_replies.specs.declared.Reply.the-variants.{Cdb, Sense, Check, TapeState, Mtio, Wrote, Read, DataState, MoverState}
+use Rattle.wire_replies.specs.declared.Reply.the-variants.{Cdb, Sense, Check, TapeState, Mtio, Wrote, Read, DataState, Environment, MoverState}
 use Rattle.wire_replies.specs.Replies.{Body, opaques, bodyBytes, wordsOnly, sense, shapeOf, headerError, replyBytes}
 use Rattle.wire_replies.specs.Fit.{Sendable}
 use Rattle.wire_replies.specs.Writers.{PutUpTo, headerWords}
 use Rattle.wire_replies.proofs.Reply.{the-type}
-use Rattle.wire_replies.proofs.Laws.{length-sense, body-small}
+use Rattle.wire_replies.proofs.Laws.{length-sense, opaques-texts, body-small}
 
 -- ---- a body by its writes
 pub none : {at : ℕ} {l : List ℕ} → Put at [] l at l
@@ -71,6 +73,13 @@ unfolding shapeOf
 refused b e a p q r =
     only _ (more-words (replicate b 0) (e ∷ replicate a 0) p (more-words (e ∷ []) (replicate a 0) q r))
 
+-- the error 0, a count, and so many pairs
+pub counted : {at next last : ℕ} {l m m′ : List ℕ} (n : ℕ) (store : List ℕ) → n ≡ length (environmentOf store)
+    → Put at (be32s (0 ∷ n ∷ [])) l next m → Put next (pairBytes (environmentOf store)) m last m′
+    → Put at (bodyBytes (shapeOf Environment store)) l last m′
+unfolding shapeOf
+counted n store e p q = whole _ (rw e at p) none (rw opaques-texts q) no-words
+
 -- ---- what a reply that can be sent copies
 pub refused-within : (r : Reply) (image : List ℕ) (b e a : ℕ) → Sendable r image → r ≡ Refused b e a → b + a ≤ 17
 unfolding Sendable
@@ -88,6 +97,10 @@ pub lent-within : (r : Reply) (image : List ℕ) → Sendable r image → r ≡ 
 unfolding Sendable
 lent-within r image s f = rw f at s
 
+pub store-within : (r : Reply) (image : List ℕ) → Sendable r image → r ≡ Environment → (isLaid image ≡ true) × (length image ≤ 16384)
+unfolding Sendable
+store-within r image s f = rw f at s
+
 -- the first bytes of the sense
 pub sense-length : (n : ℕ) (pending : Bool) (l : List ℕ) → l ≡ sense pending → n ≤ 18 → length (take n l) ≡ n
 sense-length n pending l e h =
@@ -100,7 +113,7 @@ part start len l = let e : start + len - start ≡ len = omega arith in rw e
 
 -- ---- the error in the header: none in a reply of any kind but the first
 abbrev others : List ℕ
-others = 1 ∷ 2 ∷ 3 ∷ 4 ∷ 5 ∷ 6 ∷ 7 ∷ 8 ∷ 9 ∷ 10 ∷ 11 ∷ 12 ∷ 13 ∷ 14 ∷ 15 ∷ 16 ∷ []
+others = 1 ∷ 2 ∷ 3 ∷ 4 ∷ 5 ∷ 6 ∷ 7 ∷ 8 ∷ 9 ∷ 10 ∷ 11 ∷ 12 ∷ 13 ∷ 14 ∷ 15 ∷ 16 ∷ 17 ∷ []
 
 pub no-header : (r : Reply) → OneOf others (tagOf the-type r) → 0 ≡ headerError r
 unfolding headerError
@@ -120,6 +133,7 @@ no-header (Mtio e residue) h = refl
 no-header (Wrote e count) h = refl
 no-header (Read e start len) h = refl
 no-header (DataState v) h = refl
+no-header Environment h = refl
 no-header (MoverState v) h = refl
 
 -- ---- a record: the mark and the header, written in front of a body

@@ -1,11 +1,13 @@
 // Replies and notices, written into a caller's output.
 ghost use mathlib.Core.Path.{_≡_};
+ghost use mathlib.Core.Bool.{true};
 ghost use mathlib.Core.List.{[], _∷_};
 ghost use Prim.Native.Nat.{_+_, _*_, _≤_};
 ghost use lib.ListN.{length};
-ghost use Rattle.codes.specs.Codes.{largestMessage, senseBytes, mostLent};
+ghost use Rattle.codes.specs.Codes.{largestMessage, senseBytes, mostLent, storeLength};
 ghost use Rattle.xdr.specs.Xdr.{be32s, overlay};
 ghost use Rattle.xdr_opaque.specs.Put.{Put};
+ghost use Rattle.wire_pairs.specs.Store.{isLaid};
 ghost use Rattle.wire_frame.specs.Frame.{recordBytes};
 ghost use Rattle.wire_replies.specs.declared.Reply.the-variants as Reply;
 ghost use Rattle.wire_replies.specs.Replies.{wordsOnly, sense, addressWords, shapeOf, bodyBytes, headerError, replyBytes, noticeBytes};
@@ -150,6 +152,16 @@ fn put_data_state(out: &mut [u8], at: usize, v: DataView) -> usize
     xdr_opaque::put_words(out, second, &[0, 0, 0, 0])
 }
 
+// Writes the pairs of a store, behind their count.
+fn put_environment(out: &mut [u8], at: usize, store: &[u8]) -> usize
+    requires { ⌜ (at + 16428 ≤ length (now out)) × (isLaid (now store) ≡ true) × (length (now store) ≤ storeLength) ⌝ }
+    ensures { λ r. ⌜ Put at (bodyBytes (shapeOf Reply.Environment (now (store .entry)))) (now (out .entry)) r (now (out .exit)) ⌝ }
+{
+    let count = wire_giving::count(store);
+    let first = xdr_opaque::put_words(out, at, &[0, count]);
+    wire_giving::put_pairs(out, first, store)
+}
+
 // Writes the mover; a hyper is its two words.
 fn put_mover_state(out: &mut [u8], at: usize, v: MoverView) -> usize
     requires { ⌜ at + 76 ≤ length (now out) ⌝ }
@@ -182,7 +194,7 @@ fn put_mover_state(out: &mut [u8], at: usize, v: MoverView) -> usize
 }
 
 // Writes a reply's body at an offset; returns the offset after it. The bytes of a read lie in the image; in its place a
-// listen by TCP is lent its list.
+// listen by TCP is lent its list, and an environment the store.
 pub fn write_body(out: &mut [u8], at: usize, reply: Reply, image: &[u8]) -> usize
     requires { ⌜ (at + 32800 ≤ length (now out)) × Sendable reply (now image) ⌝ }
     ensures { λ r. ⌜ Put at (bodyBytes (shapeOf reply (now (image .entry)))) (now (out .entry)) r (now (out .exit)) ⌝ }
@@ -212,6 +224,7 @@ pub fn write_body(out: &mut [u8], at: usize, reply: Reply, image: &[u8]) -> usiz
         Reply::Wrote(outcome, count) => put_body(out, at, &[outcome, count]),
         Reply::Read(outcome, start, len) => put_read(out, at, outcome, &image[start..start + len]),
         Reply::DataState(view) => put_data_state(out, at, view),
+        Reply::Environment => put_environment(out, at, image),
         Reply::MoverState(view) => put_mover_state(out, at, view),
     }
 }

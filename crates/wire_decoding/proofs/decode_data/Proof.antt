@@ -37,6 +37,12 @@ bare-requires-2 c κs = search needs
 enum-told-5 : tie.Need-enum-told-5
 enum-told-5 c = search needs
 
+bare-requires-3 : tie.Need-bare-requires-3
+bare-requires-3 c κs = search needs
+
+enum-told-6 : tie.Need-enum-told-6
+enum-told-6 c = search needs
+
 data-listen-requires : tie.Need-data-listen-requires
 data-listen-requires c κs = search needs
 
@@ -58,7 +64,11 @@ returns-4 c = rw (c .before .enum-told4 .given .1) (c .bare2 .ensures)
 
 returns-5 : tie.Need-returns-5
 unfolding dataBody
-returns-5 c = rw (c .before .enum-told5 .given .1) (c .data-listen .ensures)
+returns-5 c = rw (c .before .enum-told5 .given .1) (c .bare3 .ensures)
+
+returns-6 : tie.Need-returns-6
+unfolding dataBody
+returns-6 c = rw (c .before .enum-told6 .given .1) (c .data-listen .ensures)
 
 pub decode-data-spec : {M : Type 1} → statement M
 decode-data-spec =
@@ -73,9 +83,12 @@ decode-data-spec =
     enum-told-4
     bare-requires-2
     enum-told-5
+    bare-requires-3
+    enum-told-6
     data-listen-requires
     returns
     returns-2
     returns-3
     returns-4
-    returns-5)
+    returns-5
+    returns-6)

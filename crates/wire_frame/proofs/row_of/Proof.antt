@@ -112,6 +112,9 @@ line-requires-33 c κs = search needs
 line-requires-34 : tie.Need-line-requires-34
 line-requires-34 c κs = search needs
 
+line-requires-35 : tie.Need-line-requires-35
+line-requires-35 c κs = search needs
+
 returns : tie.Need-returns
 unfolding rowOf look choose
 returns c = rw (c .line .ensures, c .before .match .keys1)
@@ -245,8 +248,12 @@ unfolding rowOf look choose
 returns-33 c = rw (c .line33 .ensures, c .before .match .keys33)
 
 returns-34 : tie.Need-returns-34
+unfolding rowOf look choose
+returns-34 c = rw (c .line34 .ensures, c .before .match .keys34)
+
+returns-35 : tie.Need-returns-35
 unfolding rowOf
-returns-34 c = c .line34 .ensures ∙ absent Unit table _ (c .before .match .rest)
+returns-35 c = c .line35 .ensures ∙ absent Unit table _ (c .before .match .rest)
 
 pub row-of-spec : {M : Type 1} → statement M
 row-of-spec =
@@ -286,6 +293,7 @@ row-of-spec =
     line-requires-32
     line-requires-33
     line-requires-34
+    line-requires-35
     returns
     returns-2
     returns-3
@@ -319,4 +327,5 @@ row-of-spec =
     returns-31
     returns-32
     returns-33
-    returns-34)
+    returns-34
+    returns-35)

@@ -2,7 +2,7 @@
 use lib.ListN.{length-take}
 use native.Mathlib.Omega.{arith}
 use Rattle.wire_replies.specs.Replies.{shapeOf}
-use Rattle.wire_writing.proofs.Laws.{no-body, refused-within, lent-within, sense-within, read-within, part}
+use Rattle.wire_writing.proofs.Laws.{no-body, refused-within, lent-within, sense-within, read-within, store-within, part}
 use borrow.Author.Needs.{needs}
 use Rattle.wire_writing.proofs.write_body.Statement.{statement}
 use Rattle.wire_writing.proofs.write_body.Tie as tie
@@ -12,6 +12,7 @@ use Rattle.wire_writing.proofs.put_body.Reads as put-body-reads
 use Rattle.wire_writing.proofs.put_cdb.Reads as put-cdb-reads
 use Rattle.wire_writing.proofs.put_check.Reads as put-check-reads
 use Rattle.wire_writing.proofs.put_data_state.Reads as put-data-state-reads
+use Rattle.wire_writing.proofs.put_environment.Reads as put-environment-reads
 use Rattle.wire_writing.proofs.put_listening.Reads as put-listening-reads
 use Rattle.wire_writing.proofs.put_mover_state.Reads as put-mover-state-reads
 use Rattle.wire_writing.proofs.put_read.Reads as put-read-reads
@@ -158,6 +159,14 @@ enum-known-reply-8 c = search needs
 put-data-state-requires : tie.Need-put-data-state-requires
 put-data-state-requires c κs = search needs
 
+enum-told-9 : tie.Need-enum-told-9
+enum-told-9 c = search needs
+
+put-environment-requires : tie.Need-put-environment-requires
+put-environment-requires c κs =
+    let h = store-within _ _ (c .before .before .before .before .before .pre .1) (c .before .enum-told9 .given .1) in
+    (omega arith, h .0, h .1)
+
 enum-known-reply-9 : tie.Need-enum-known-reply-9
 enum-known-reply-9 c = search needs
 
@@ -291,7 +300,14 @@ same-length-16 c = search needs
 
 returns-17 : tie.Need-returns-17
 unfolding shapeOf
-returns-17 c =
+returns-17 c = rw (c .before .before .before .before .enum-told9 .given .1) (c .before .before .put-environment .ensures)
+
+same-length-17 : tie.Need-same-length-17
+same-length-17 c = search needs
+
+returns-18 : tie.Need-returns-18
+unfolding shapeOf
+returns-18 c =
     rw (c .before .before .before .before .before .reply9 .given .1) (c .before .before .put-mover-state .ensures)
 
 pub write-body-spec : {M : Type 1} → statement M
@@ -342,6 +358,8 @@ write-body-spec =
     put-read-requires
     enum-known-reply-8
     put-data-state-requires
+    enum-told-9
+    put-environment-requires
     enum-known-reply-9
     put-mover-state-requires
     returns
@@ -376,4 +394,6 @@ write-body-spec =
     same-length-15
     returns-16
     same-length-16
-    returns-17)
+    returns-17
+    same-length-17
+    returns-18)
