@@ -5,7 +5,9 @@ use mathlib.Core.Bool.{Bool, true, false, not}
 use mathlib.Core.List.{List, [], _∷_}
 use mathlib.Core.Path.{_≡_, refl, sym}
 use native.Mathlib.Omega.{arith}
+use lib.ListN.{length}
 use lib.Dec.{eqb, ltb}
+use Rattle.codes.specs.Codes.{storeLength}
 use Rattle.xdr.specs.Choose.{choose}
 use Rattle.xdr.proofs.Tests.{by-test, by-both}
 use Rattle.tape_image.specs.Image.{count}
@@ -28,7 +30,7 @@ use Rattle.rules.specs.Judge.{test, Outcome, refuse, accept, judge, onto
 use Rattle.rules_parts.specs.Parts.{holdsTape}
 use Rattle.rules.specs.TapeService.{Loaded, loaded, movedTo, isRefusal, protects, tapeMtio, deviceStep, withLoaded, tapeStep}
 use Rattle.rules.specs.Relation.{keeps}
-use Rattle.rules.specs.Answer.{Lent, held, Answered, guarded, answered, requested, judged, isClose, settled, verdict, isLocked, outcome}
+use Rattle.rules.specs.Answer.{Lent, held, Answered, guarded, roomOf, answered, requested, judged, isClose, settled, verdict, isLocked, outcome}
 use Rattle.rules.specs.Answer.{noticed, silent, closing, tapePart, withTape, requestIn}
 use Rattle.rules.specs.Alike.{SameAnswer, SpacesAlike}
 use Rattle.rules.proofs.Numbers.{refusal-facts}
@@ -89,27 +91,27 @@ module _ (l m : List ℕ) (a : Sound l) (b : Sound m) (one : count l ≡ count m
       (λ _. by-both Alike (protects op (t .writable)) _ _ _ _ (λ _ _. refused _) (λ _. given-alike)))
 
 -- ---- the answer
-module _ (s : Session) (l m : List ℕ) (lent : Lent) (r : List ℕ) (q : Request) where
+module _ (s : Session) (l m v : List ℕ) (lent : Lent) (r : List ℕ) (q : Request) where
   -- what is made of the tape's outcome
   abbrev made : List ℕ → Outcome Loaded → Answered
-  made image o = settled (held s image) (lent .time) r q (onto (withTape (held s image)) (onto (withLoaded (tapePart (held s image))) o))
+  made image o = settled (held s image v) (lent .time) r q (onto (withTape (held s image v)) (onto (withLoaded (tapePart (held s image v))) o))
 
-  made-same : (o o′ : Outcome Loaded) → SameOutcome l m o o′ → SameAnswer l m (made l o) (made m o′)
+  made-same : (o o′ : Outcome Loaded) → SameOutcome l m o o′ → SameAnswer l m v (made l o) (made m o′)
   unfolding settled onto noticed choose replyBytes shapeOf
   made-same _ _ (refused e) =
-      record { code = refl; reply = refl; notices = refl; session = refl; first-image = refl; second-image = refl }
+      record { code = refl; reply = refl; notices = refl; session = refl; first-image = refl; second-image = refl; stores = (refl, refl) }
   made-same _ _ (accepted e n t) =
-      record { code = refl; reply = refl; notices = refl; session = refl; first-image = refl; second-image = refl }
+      record { code = refl; reply = refl; notices = refl; session = refl; first-image = refl; second-image = refl; stores = (refl, refl) }
 
   made-at : (o : Outcome Loaded) → made l o .next .session .tape .position ≡ leftAt (s .tape .position) o
   unfolding settled onto noticed choose
   made-at (refuse e) = refl
   made-at (accept reply n) = refl
 
-module _ (s : Session) (l m : List ℕ) (lent : Lent) (r : List ℕ) (op times : ℕ) (a : Sound l) (b : Sound m) (one : count l ≡ count m) (few : op < 5) where
+module _ (s : Session) (l m v : List ℕ) (lent : Lent) (r : List ℕ) (op times : ℕ) (a : Sound l) (b : Sound m) (one : count l ≡ count m) (few : op < 5) where
   -- what is shown of the two calls
   Answers : Answered → Answered → Type 0
-  Answers x y = AgreeInKind (goesForward op) (s .tape .position) (x .next .session .tape .position) l m → SameAnswer l m x y
+  Answers x y = AgreeInKind (goesForward op) (s .tape .position) (x .next .session .tape .position) l m → SameAnswer l m v x y
 
   abbrev q : Request
   q = Request.Tape (TapeRequest.Mtio op times)
@@ -118,36 +120,36 @@ module _ (s : Session) (l m : List ℕ) (lent : Lent) (r : List ℕ) (op times :
   ofTape image = tapeMtio (s .mover .state) (s .tape) image op times
 
   -- behind the login test
-  served : Answers (made s l m lent r q l (ofTape l)) (made s l m lent r q m (ofTape m))
+  served : Answers (made s l m v lent r q l (ofTape l)) (made s l m v lent r q m (ofTape m))
   unfolding Answers Alike
   served agree =
-      made-same s l m lent r q _ _ (mtio-alike l m a b one (s .tape) op times few (s .mover .state) (rw (made-at s l m lent r q (ofTape l)) at agree))
+      made-same s l m v lent r q _ _ (mtio-alike l m a b one (s .tape) op times few (s .mover .state) (rw (made-at s l m v lent r q (ofTape l)) at agree))
 
   -- nothing done, and closing
-  still : (code : ℕ) → Answers (silent code (held s l)) (silent code (held s m))
+  still : (code : ℕ) → Answers (silent code (held s l v)) (silent code (held s m v))
   unfolding Answers
-  still code _ = record { code = refl; reply = refl; notices = refl; session = refl; first-image = refl; second-image = refl }
+  still code _ = record { code = refl; reply = refl; notices = refl; session = refl; first-image = refl; second-image = refl; stores = (refl, refl) }
 
-  closes : Answers (closing (held s l)) (closing (held s m))
+  closes : Answers (closing (held s l v)) (closing (held s m v))
   unfolding Answers
-  closes _ = record { code = refl; reply = refl; notices = refl; session = refl; first-image = refl; second-image = refl }
+  closes _ = record { code = refl; reply = refl; notices = refl; session = refl; first-image = refl; second-image = refl; stores = (refl, refl) }
 
   -- the login test
   behind-login : (locked : Bool)
-      → Answers (settled (held s l) (lent .time) r q (judge (test locked 4 ∷ []) (outcome (held s l) lent r q)))
-      (settled (held s m) (lent .time) r q (judge (test locked 4 ∷ []) (outcome (held s m) lent r q)))
+      → Answers (settled (held s l v) (lent .time) r q (judge (test locked 4 ∷ []) (outcome (held s l v) lent r q)))
+      (settled (held s m v) (lent .time) r q (judge (test locked 4 ∷ []) (outcome (held s m v) lent r q)))
   unfolding Answers judge choose outcome onto tapeStep deviceStep
-  behind-login true = λ _. made-same s l m lent r q _ _ (refused 4)
+  behind-login true = λ _. made-same s l m v lent r q _ _ (refused 4)
   behind-login false = served
 
-  judges : Answers (judged (held s l) lent r q) (judged (held s m) lent r q)
+  judges : Answers (judged (held s l v) lent r q) (judged (held s m v) lent r q)
   unfolding judged isClose choose verdict
   judges = behind-login (isLocked (s .login) q)
 
-  calls : requestIn r ≡ q → Answers (answered (held s l) lent r) (answered (held s m) lent r)
-  unfolding answered guarded requested
+  calls : requestIn r ≡ q → Answers (answered (held s l v) lent r) (answered (held s m v) lent r)
+  unfolding answered guarded roomOf requested
   calls e =
-      by-both Answers (ltb (lent .room) leastRoom) _ _ _ _ (λ _. still _)
+      by-both Answers (ltb (choose (eqb (length v) storeLength) (lent .room) 0) leastRoom) _ _ _ _ (λ _. still _)
       (λ _. by-both Answers (not (keeps s)) _ _ _ _ (λ _. still _)
       (λ _. by-both Answers (s .closed) _ _ _ _ (λ _. still _)
       (λ _. by-both Answers (wellFramed r) _ _ _ _
@@ -156,4 +158,4 @@ module _ (s : Session) (l m : List ℕ) (lent : Lent) (r : List ℕ) (op times :
 
 pub spaces-alike : SpacesAlike
 unfolding Answers
-spaces-alike s l m lent r op times a b one e few = calls s l m lent r op times a b one few e
+spaces-alike s l m v lent r op times a b one e few = calls s l m v lent r op times a b one few e

@@ -7,20 +7,26 @@ use native.Mathlib.Omega.{arith}
 use lib.ListN.{length}
 use lib.Dec.{eqb, ltb}
 use borrow.Author.Tests.{ne-eqb, eq-eqb}
+use Rattle.codes.specs.Codes.{storeLength}
 use Rattle.xdr.specs.Choose.{choose}
-use Rattle.xdr.proofs.Tests.{by-test}
+use Rattle.xdr.proofs.Tests.{by-test, yes}
 use Rattle.tape_image.specs.Image.{isSound, faulty}
 use Rattle.tape_image.specs.Sound.{Sound, Placed}
 use Rattle.tape_image.proofs.Laws.{sound-holds, placed}
 use Rattle.tape_ops.specs.Step.{Step}
 use Rattle.tape_ops.specs.Operations.{writeStep, mtioStep}
 use Rattle.tape_ops.proofs.Promises as cartridge
+use Rattle.wire_pairs.specs.Store.{storing, emptied, isLaid}
+use Rattle.wire_pairs.proofs.Back.{storing-length, start-leaves}
+use Rattle.wire_pairs.proofs.Stopped.{stop-leaves}
 use Rattle.wire_frame.specs.Frame.{wellFramed, kindOf, bodyOf}
 use Rattle.wire_frame.specs.declared.Message.the-variants as Message
 use Rattle.wire_requests.specs.Bodies.{decoded}
 use Rattle.wire_requests.specs.Within.{bytesAt}
 use Rattle.wire_requests.specs.declared.ConnectRequest.the-variants as ConnectRequest
 use Rattle.wire_layouts.specs.declared.Text.{Text}
+use Rattle.wire_requests.specs.declared.DataRequest.{DataRequest}
+use Rattle.wire_requests.specs.declared.DataRequest.the-variants as DataRequest
 use Rattle.wire_requests.specs.declared.TapeRequest.{TapeRequest}
 use Rattle.wire_requests.specs.declared.TapeRequest.the-variants as TapeRequest
 use Rattle.wire_requests.specs.declared.Request.{Request}
@@ -28,36 +34,43 @@ use Rattle.wire_requests.specs.declared.Request.the-variants as Request
 use Rattle.wire_replies.specs.declared.Reply.{Reply}
 use Rattle.wire_replies.specs.declared.Reply.the-variants as Reply
 use Rattle.wire_replies.specs.declared.Notice.{Notice}
+use Rattle.rules_parts.specs.declared.types.Data.{Data}
 use Rattle.rules_parts.specs.declared.types.Tape.{Tape}
 use Rattle.rules_parts.specs.declared.types.Session.{Session}
 use Rattle.rules_parts.specs.Names.{leastRoom, firstSize}
 use Rattle.rules.specs.Judge.{Outcome, refuse, accept, judge, onto, Accepts}
 use Rattle.rules_parts.specs.Parts.{restMover, closedTape, dataPartnered, moverPartnered, addressWrong, dataJoined, moverJoined, afterMessage, shut}
+use Rattle.rules.specs.DataService.{pairsOf, dataState, dataListen, dataStart, dataEnvironment, dataStop, dataStep, variablesAfter}
 use Rattle.rules.specs.TapeService.{Loaded, tapeOpen, tapeClose, tapeState, tapeMtio, tapeWrite, tapeRead, deviceStep, withLoaded, withMover, tapeStep, moverPartStep}
 use Rattle.rules.specs.Connection.{matches, clientAuth, connectStep}
 use Rattle.rules.specs.Relation.{dataWrong, moverWrong, sameFlag, keeps}
 use Rattle.rules.specs.Promises.{Keeps, JointKeeps, dataSide, partWrong, partSide}
-use Rattle.rules.specs.Answer.{Kept, Lent, held, Answered, guarded, answered, requested, judged, isClose, settled, verdict, needsLogin, isLocked, outcome, refusing, isUnread}
+use Rattle.rules.specs.Answer.{Kept, Lent, held, Answered, guarded, roomOf, answered, requested, judged, isClose, settled, verdict, needsLogin, isLocked, outcome, refusing, isUnread}
 use Rattle.rules.specs.Answer.{refusedIn, noticed, silent, closing, replying, Done, tapePart, withData, withPart, withTape, withChanger, withLogin, withEnds, messageIn, requestIn}
 use Rattle.rules.specs.Order.{Call, run}
-use Rattle.rules.specs.Calls.{openedSession, Unmoved, Heard, CallsKeep}
+use Rattle.rules.specs.Calls.{openedSession, Unmoved, Heard, isMislent, CallsKeep}
 use Rattle.rules.proofs.JudgeLaws.{judged-by, accepts, accepts-any, accepts-map, refusal-says, carried}
 use Rattle.rules.proofs.Kept.{kept-mover}
 use Rattle.rules.proofs.Keeping.{clash, rest-kept, data-keeps, tape-keeps, mover-part-keeps, joint-keeps}
-use Rattle.rules.proofs.Guarding.{by-guard, goes-on}
+use Rattle.rules.proofs.Guarding.{by-guard, goes-on, stored, lent-well}
 use Rattle.rules.proofs.Numbers.{number-right, refusal-right}
 
 -- ---- a call comes to nothing, to closing, or to a request that is judged
 module _ (P : Answered → Type 0) (k : Kept) (l : Lent) (r : List ℕ) where
-  pub by-call : ((code : ℕ) → P (silent code k)) → P (closing k) → P (judged k l r (requestIn r)) → P (answered k l r)
+  pub by-stored-call : ((code : ℕ) → P (silent code k)) → P (closing k) → (length (k .variables) ≡ storeLength → P (judged k l r (requestIn r)))
+      → P (answered k l r)
   unfolding answered requested
-  by-call still close serve =
-      by-guard P (k .session) (l .room) _ _ still
-      (λ _. by-test P (wellFramed r) _ _ (λ _. by-test P (not (eqb (kindOf r) 0)) _ _ (λ _. still 0) (λ _. serve)) (λ _. close))
+  by-stored-call still close serve =
+      by-guard P (k .session) (roomOf k l) _ _ still
+      (λ g. by-test P (wellFramed r) _ _
+      (λ _. by-test P (not (eqb (kindOf r) 0)) _ _ (λ _. still 0) (λ _. serve (stored k l (g .roomy)))) (λ _. close))
+
+  pub by-call : ((code : ℕ) → P (silent code k)) → P (closing k) → P (judged k l r (requestIn r)) → P (answered k l r)
+  by-call still close serve = by-stored-call still close (λ _. serve)
 
 -- ---- what holds of what is passed on, and stays with a message sent and with closing, holds after a call if every accepted request keeps it
-module _ (Q : Kept → Type 0) (sends : (k : Kept) (first : Bool) → Q k → Q (held (afterMessage (k .session) first) (k .image)))
-    (shuts : (k : Kept) → Q k → Q (held (shut (k .session)) (k .image))) where
+module _ (Q : Kept → Type 0) (sends : (k : Kept) (first : Bool) → Q k → Q (held (afterMessage (k .session) first) (k .image) (k .variables)))
+    (shuts : (k : Kept) → Q k → Q (held (shut (k .session)) (k .image) (k .variables))) where
   abbrev Next : Answered → Type 0
   Next a = Q (a .next)
 
@@ -78,8 +91,11 @@ module _ (Q : Kept → Type 0) (sends : (k : Kept) (first : Bool) → Q k → Q 
     unfolding judged
     judged-holds q a = by-test Next (isClose q) _ _ (λ _. shuts k h) (λ _. settled-holds q _ a)
 
+    pub call-stored : (length (k .variables) ≡ storeLength → Accepts Accepted (verdict k l r (requestIn r))) → Next (answered k l r)
+    call-stored a = by-stored-call Next k l r (λ _. h) (shuts k h) (λ e. judged-holds (requestIn r) (a e))
+
     pub call-judged : Accepts Accepted (verdict k l r (requestIn r)) → Next (answered k l r)
-    call-judged a = by-call Next k l r (λ _. h) (shuts k h) (judged-holds (requestIn r) a)
+    call-judged a = call-stored (λ _. a)
 
     -- the login test aside
     pub call-holds : Accepts Accepted (outcome k l r (requestIn r)) → Next (answered k l r)
@@ -116,11 +132,11 @@ same-ends s n d m t h = rw (d, m, t) h
 Valid : Kept → Type 0
 Valid k = keeps (k .session) ≡ true
 
-valid-sends : (k : Kept) (first : Bool) → Valid k → Valid (held (afterMessage (k .session) first) (k .image))
+valid-sends : (k : Kept) (first : Bool) → Valid k → Valid (held (afterMessage (k .session) first) (k .image) (k .variables))
 unfolding Valid
 valid-sends k first h = same-ends (k .session) _ refl refl refl h
 
-valid-shuts : (k : Kept) → Valid k → Valid (held (shut (k .session)) (k .image))
+valid-shuts : (k : Kept) → Valid k → Valid (held (shut (k .session)) (k .image) (k .variables))
 unfolding Valid
 valid-shuts k h = same-ends (k .session) _ refl refl refl h
 
@@ -148,10 +164,10 @@ module _ (k : Kept) (l : Lent) (r : List ℕ) (h : Valid k) where
       (tape-keeps (tapePart k) q _))
   outcome-keeps (Request.Data q) =
       let f = kept-facts (k .session) h in
-      carried Stays (withData k (l .addresses)) _
-      (accepts-map (λ _ next. Keeps dataWrong dataSide (k .session .source) next) (λ reply p. Stays reply (withData k (l .addresses) p))
+      carried Stays (withData k q _ _) _
+      (accepts-map (λ _ next. Keeps dataWrong dataSide (k .session .source) next) (λ reply p. Stays reply (withData k q (bodyOf r) (l .addresses) p))
       (λ _ p n. facts-kept _ (record { source = n .good (f .source); mover = f .mover; joined = rw (n .sides) (f .joined) })) _
-      (data-keeps (k .session .source) q _ _))
+      (data-keeps (k .session .source) q _ _ _))
   outcome-keeps (Request.Mover q) =
       let f = kept-facts (k .session) h in
       carried Stays (withPart k (l .addresses)) _
@@ -229,7 +245,7 @@ module _ (k : Kept) (l : Lent) (r : List ℕ) (h : isSound (k .image) ≡ true) 
   outcome-sound (Request.Tape q) =
       carried Sounds (withTape k) _ (carried (λ reply p. Sounds reply (withTape k p)) (withLoaded (tapePart k)) _
       (device-sound (k .image) h (k .session .mover .state) (k .session .tape) q _))
-  outcome-sound (Request.Data q) = unread (withData k _) (λ _. h) _
+  outcome-sound (Request.Data q) = unread (withData k q _ _) (λ _. h) _
   outcome-sound (Request.Mover q) =
       carried Sounds (withPart k _) _ (carried (λ reply p. Sounds reply (withPart k (l .addresses) p)) (withMover (tapePart k)) _
       (accepts-any (λ reply p. Sounds reply (withPart k (l .addresses) (withMover (tapePart k) p))) (λ _ _. h) _))
@@ -239,7 +255,71 @@ sound : (k : Kept) (l : Lent) (r : List ℕ) → isSound (k .image) ≡ true →
 unfolding Sounds
 sound k l r h = call-holds (λ (x : Kept). isSound (x .image) ≡ true) (λ x _ e. e) (λ x e. e) k l r h (outcome-sound k l r h (requestIn r))
 
+-- ---- the store of the environment: an accepted start or stop keeps its length, and leaves it laid out so
+Follows : List ℕ → List ℕ → Type 0
+Follows v w = (length w ≡ length v) × (isLaid v ≡ true → isLaid w ≡ true)
+
+data-follows : (d : Data) (q : DataRequest) (body list v : List ℕ) → length v ≡ storeLength
+    → Accepts (λ _ _. Follows v (variablesAfter q body v)) (dataStep d q body list v)
+unfolding dataStep dataState dataStart dataEnvironment dataStop dataListen variablesAfter Follows
+data-follows d DataRequest.State body list v h = accepts (λ _ _. Follows v v) _ _ _ (λ _. (refl, λ e. e))
+data-follows d (DataRequest.Backup name ps) body list v h =
+    accepts (λ _ _. Follows v (storing (pairsOf body ps) v)) _ _ _
+    (λ g. (storing-length (pairsOf body ps) v (yes (g 2)) h, λ _. start-leaves (pairsOf body ps) v (yes (g 2)) .laid))
+data-follows d (DataRequest.Recover name ps) body list v h =
+    accepts (λ _ _. Follows v (storing (pairsOf body ps) v)) _ _ _
+    (λ g. (storing-length (pairsOf body ps) v (yes (g 2)) h, λ _. start-leaves (pairsOf body ps) v (yes (g 2)) .laid))
+data-follows d DataRequest.Environment body list v h = accepts (λ _ _. Follows v v) _ _ _ (λ _. (refl, λ e. e))
+data-follows d DataRequest.Stop body list v h =
+    let s = stop-leaves v (omega arith) in
+    accepts (λ _ _. Follows v (emptied v)) _ _ _ (λ _. (s .long, λ _. s .laid))
+data-follows d (DataRequest.Listen address) body list v h = accepts (λ _ _. Follows v v) _ _ _ (λ _. (refl, λ e. e))
+
+module _ (k : Kept) (l : Lent) (r : List ℕ) where
+  Followed : Reply → Done → Type 0
+  Followed _ d = Follows (k .variables) (d .kept .variables)
+
+  unstored : {A : Type 0} (put : A → Done) → ((p : A) → k .variables ≡ put p .kept .variables) → (o : Outcome A) → Accepts Followed (onto put o)
+  unfolding Followed Follows
+  unstored put f o = carried Followed put o (accepts-any (λ reply p. Followed reply (put p)) (λ _ p. rw (← f p) (refl, λ e. e)) o)
+
+  outcome-follows : length (k .variables) ≡ storeLength → (q : Request) → Accepts Followed (outcome k l r q)
+  unfolding outcome Followed tapeStep moverPartStep
+  outcome-follows h Request.Unknown = refusal-says Followed _
+  outcome-follows h Request.Bad = refusal-says Followed _
+  outcome-follows h (Request.Connect q) = unstored (withLogin k) (λ _. refl) _
+  outcome-follows h (Request.Config q) = unstored (withLogin k) (λ _. refl) _
+  outcome-follows h (Request.Scsi q) = unstored (withChanger k) (λ _. refl) _
+  outcome-follows h (Request.Tape q) = unstored (withTape k) (λ _. refl) _
+  outcome-follows h (Request.Data q) = carried Followed (withData k q _ _) _ (data-follows (k .session .source) q _ _ (k .variables) h)
+  outcome-follows h (Request.Mover q) = unstored (withPart k _) (λ _. refl) _
+  outcome-follows h (Request.Joint q) = unstored (withEnds k) (λ _. refl) _
+
+  follows : Follows (k .variables) (answered k l r .next .variables)
+  unfolding verdict Followed Follows
+  follows =
+      call-stored (λ (x : Kept). Follows (k .variables) (x .variables)) (λ x _ e. e) (λ x e. e) k l r (refl, λ e. e)
+      (λ h. judged-by Followed _ _ (λ _. outcome-follows h (requestIn r)))
+
+pub lengths : (k : Kept) (l : Lent) (r : List ℕ) → length (answered k l r .next .variables) ≡ length (k .variables)
+unfolding Follows
+lengths k l r = follows k l r .0
+
+laid : (k : Kept) (l : Lent) (r : List ℕ) → isLaid (k .variables) ≡ true → isLaid (answered k l r .next .variables) ≡ true
+unfolding Follows
+laid k l r = follows k l r .1
+
 -- ---- calls one after the other
+runs-lengths : (k : Kept) (cs : List Call) → length (run k cs .last .variables) ≡ length (k .variables)
+unfolding run
+runs-lengths k [] = refl
+runs-lengths k (c ∷ cs) = runs-lengths _ cs ∙ lengths k (c .lent) (c .ask .request)
+
+runs-laid : (k : Kept) (cs : List Call) → isLaid (k .variables) ≡ true → isLaid (run k cs .last .variables) ≡ true
+unfolding run
+runs-laid k [] h = h
+runs-laid k (c ∷ cs) h = runs-laid _ cs (laid k (c .lent) (c .ask .request) h)
+
 runs : (k : Kept) (cs : List Call) → keeps (k .session) ≡ true → keeps (run k cs .last .session) ≡ true
 unfolding run
 runs k [] h = h
@@ -267,11 +347,16 @@ judged-taken : (k : Kept) (l : Lent) (r : List ℕ) (q : Request) → Taken (jud
 unfolding judged Taken
 judged-taken k l r q = by-test Taken (isClose q) _ _ (λ _. refl) (λ _. settled-taken k (l .time) r q (verdict k l r q))
 
+mislent-by : (b : Bool) (room : ℕ) → ltb (choose b room 0) leastRoom ≡ choose (ltb room leastRoom) true (not b)
+unfolding choose
+mislent-by true room = by-test (λ (b : Bool). ltb room leastRoom ≡ b) (ltb room leastRoom) true false (λ e. e) (λ e. e)
+mislent-by false room = by-test (λ (b : Bool). true ≡ b) (ltb room leastRoom) true true (λ _. refl) (λ _. refl)
+
 module _ (k : Kept) (l : Lent) (r : List ℕ) where
   still : (code : ℕ) → Unmoved k (silent code k)
   still code = record { reply = refl; notices = refl; next = refl }
 
-  coded : (short good : Bool) → ltb (l .room) leastRoom ≡ short → keeps (k .session) ≡ good → answered k l r .code ≡ choose short 1001 (choose good 0 1002)
+  coded : (short good : Bool) → ltb (roomOf k l) leastRoom ≡ short → keeps (k .session) ≡ good → answered k l r .code ≡ choose short 1001 (choose good 0 1002)
   unfolding answered guarded requested Taken choose
   coded true good e g = rw (answered, guarded, e)
   coded false false e g = rw (answered, guarded, e, g)
@@ -281,11 +366,16 @@ module _ (k : Kept) (l : Lent) (r : List ℕ) where
       (λ _. by-test Taken (wellFramed r) _ _
       (λ _. by-test Taken (not (eqb (kindOf r) 0)) _ _ (λ _. refl) (λ _. judged-taken k l r (requestIn r))) (λ _. refl)))
 
+  -- a call that is lent what it should not be has no room
+  mislent : ltb (roomOf k l) leastRoom ≡ isMislent k l
+  unfolding roomOf isMislent
+  mislent = mislent-by (eqb (length (k .variables)) storeLength) (l .room)
+
   never : keeps (k .session) ≡ true → answered k l r .code ≡ 1002 → ⊥
   unfolding choose
   never g h =
-      let c = rw g at (coded (ltb (l .room) leastRoom) (keeps (k .session)) refl refl) in
-      by-test (λ (n : ℕ). answered k l r .code ≡ n → ⊥) (ltb (l .room) leastRoom) 1001 0 (λ _ e. omega arith) (λ _ e. omega arith) c
+      let c = rw g at (coded (ltb (roomOf k l) leastRoom) (keeps (k .session)) refl refl) in
+      by-test (λ (n : ℕ). answered k l r .code ≡ n → ⊥) (ltb (roomOf k l) leastRoom) 1001 0 (λ _ e. omega arith) (λ _ e. omega arith) c
 
   Refused : Answered → Type 0
   Refused x = (x .code ≡ 0 → ⊥) → Unmoved k x
@@ -296,15 +386,16 @@ module _ (k : Kept) (l : Lent) (r : List ℕ) where
 
   over : k .session .closed ≡ true → Unmoved k (answered k l r)
   unfolding answered
-  over o = by-guard (Unmoved k) (k .session) (l .room) _ _ still (λ g. absurd (let h = g .opened in let z : _≡_ {A = ℕ} 0 1 = cc in omega arith))
+  over o = by-guard (Unmoved k) (k .session) (roomOf k l) _ _ still (λ g. absurd (let h = g .opened in let z : _≡_ {A = ℕ} 0 1 = cc in omega arith))
 
-  broken : leastRoom ≤ l .room → keeps (k .session) ≡ true → k .session .closed ≡ false → wellFramed r ≡ false → answered k l r ≡ closing k
+  broken : leastRoom ≤ l .room → length (k .variables) ≡ storeLength → keeps (k .session) ≡ true → k .session .closed ≡ false → wellFramed r ≡ false
+      → answered k l r ≡ closing k
   unfolding answered choose
-  broken w g o f = goes-on (k .session) (l .room) _ _ (record { roomy = w; valid = g; opened = o }) ∙ rw f
+  broken w e g o f = goes-on (k .session) (roomOf k l) _ _ (record { roomy = lent-well k l w e; valid = g; opened = o }) ∙ rw f
 
   ignored : wellFramed r ≡ true → (kindOf r ≡ 0 → ⊥) → Unmoved k (answered k l r)
   unfolding answered requested choose
-  ignored f n = by-guard (Unmoved k) (k .session) (l .room) _ _ still (λ _. rw (f, ne-eqb (kindOf r) 0 n) (still 0))
+  ignored f n = by-guard (Unmoved k) (k .session) (roomOf k l) _ _ still (λ _. rw (f, ne-eqb (kindOf r) 0 n) (still 0))
 
 pub close-is : (q : Request) → isClose q ≡ true → q ≡ Request.Connect ConnectRequest.Close
 unfolding isClose
@@ -326,7 +417,7 @@ module _ (k : Kept) (l : Lent) (r : List ℕ) where
   pub heard : Heard k l r → answered k l r ≡ judged k l r (requestIn r)
   unfolding answered requested choose
   heard h =
-      goes-on (k .session) (l .room) _ _ (record { roomy = h .roomy; valid = h .valid; opened = h .opened }) ∙ rw (h .framed, eq-eqb (kindOf r) 0 (h .request))
+      goes-on (k .session) (roomOf k l) _ _ (record { roomy = lent-well k l (h .roomy) (h .stored); valid = h .valid; opened = h .opened }) ∙ rw (h .framed, eq-eqb (kindOf r) 0 (h .request))
 
   -- a close is accepted: it needs no login
   open-to-all : (b : Bool) → choose b false false ≡ false
@@ -415,10 +506,14 @@ calls-keep =
       kept = kept;
       never = never;
       sound = sound;
+      lengths = lengths;
+      laid = laid;
       runs = runs;
       runs-sound = runs-sound;
+      runs-lengths = runs-lengths;
+      runs-laid = runs-laid;
       refusals = record {
-        codes = λ k l r. coded k l r (ltb (l .room) leastRoom) (keeps (k .session)) refl refl;
+        codes = λ k l r. coded k l r (isMislent k l) (keeps (k .session)) (mislent k l r) refl;
         refused = refused;
         over = over;
         broken = broken;

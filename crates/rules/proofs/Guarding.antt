@@ -3,15 +3,17 @@ use Prim.Native.Nat.{ℕ, _≤_}
 use mathlib.Core.Bool.{Bool, true, false, not}
 use mathlib.Core.Path.{_≡_, refl, sym, ap}
 use native.Mathlib.Omega.{arith}
-use lib.Dec.{ltb}
-use borrow.Author.Tests.{ltb-false, le-ltb}
+use lib.Dec.{eqb, ltb}
+use lib.ListN.{length}
+use borrow.Author.Tests.{ltb-false, le-ltb, eq-eqb, eqb-true}
+use Rattle.codes.specs.Codes.{storeLength}
 use Rattle.xdr.specs.Choose.{choose}
 use Rattle.xdr.proofs.Tests.{by-test, yes}
 use Rattle.rules_parts.specs.declared.types.Session.{Session}
 use Rattle.rules.specs.declared.Guard.the-variants.{Stop, Go}
 use Rattle.rules_parts.specs.Names.{leastRoom}
 use Rattle.rules.specs.Relation.{keeps}
-use Rattle.rules.specs.Answer.{guarded}
+use Rattle.rules.specs.Answer.{Kept, Lent, guarded, roomOf}
 
 -- a call that is not stopped: there is room, the relation holds, and the session is open
 pub record Goes (s : Session) (room : ℕ) : Type 0 where
@@ -31,6 +33,28 @@ by-guard P s room idle x still go =
 pub goes-on : {A : Type 0} (s : Session) (room : ℕ) (idle : ℕ → A) (x : A) → Goes s room → guarded s room idle x ≡ x
 unfolding guarded choose
 goes-on s room idle x g = rw (guarded, le-ltb room leastRoom (g .roomy), g .valid, g .opened)
+
+-- ---- the room of a request call: it has the output's where the store is as long as it must be, and else none
+module _ (k : Kept) (l : Lent) where
+  pub room-stored : length (k .variables) ≡ storeLength → roomOf k l ≡ l .room
+  unfolding roomOf choose
+  room-stored h = rw (roomOf, eq-eqb (length (k .variables)) storeLength h)
+
+  pub room-unstored : eqb (length (k .variables)) storeLength ≡ false → roomOf k l ≡ 0
+  unfolding roomOf choose
+  room-unstored h = rw (roomOf, h)
+
+  pub stored : leastRoom ≤ roomOf k l → length (k .variables) ≡ storeLength
+  unfolding roomOf
+  stored =
+      by-test (λ (n : ℕ). leastRoom ≤ n → length (k .variables) ≡ storeLength) (eqb (length (k .variables)) storeLength) _ _
+      (λ e _. eqb-true (length (k .variables)) storeLength e) (λ _ h. absurd (omega arith))
+
+  pub roomy : leastRoom ≤ roomOf k l → leastRoom ≤ l .room
+  roomy h = rw (room-stored (stored h)) at h
+
+  pub lent-well : leastRoom ≤ l .room → length (k .variables) ≡ storeLength → leastRoom ≤ roomOf k l
+  lent-well h e = rw (room-stored e) h
 
 -- ---- from what the code of the guard found
 stopped : {A : Type 0} (a b c : Bool) (code : ℕ) (idle : ℕ → A) (x : A) → Stop code ≡ choose a (Stop 1001) (choose (not b) (Stop 1002) (choose c (Stop 0) Go))

@@ -24,7 +24,7 @@ use Rattle.rules_parts.specs.Names.{top}
 use Rattle.rules.specs.Judge.{Test, accept, judge, Accepts}
 use Rattle.rules_parts.specs.Parts.{restData, restMover, dataTo, dataStarts, dataHalts, moverListens, moverRuns, moverWindow, moverSize, moverSeeks, moverHalts, addressWrong, dataPartnered, moverPartnered, dataJoined, moverJoined}
 use Rattle.rules_parts.specs.Parts.{holdsTape, unwritable}
-use Rattle.rules.specs.DataService.{dataState, dataListen, dataStart, dataStop, dataStep}
+use Rattle.rules.specs.DataService.{dataState, dataListen, dataStart, dataEnvironment, dataStop, dataStep}
 use Rattle.rules.specs.MoverService.{moverState, offsetWrong, moverListen, moverContinue, moverStop, busy, elsewhere, setWindow, moverRead, setSize, moverStep}
 use Rattle.rules.specs.TapeService.{Loaded, tapeOpen, tapeClose, tapeState, tapeMtio, tapeWrite, tapeRead, deviceStep, TapePart, withLoaded, withMover, tapeStep, moverPartStep}
 use Rattle.rules.specs.declared.Ends.{Ends}
@@ -66,14 +66,15 @@ unfolding dataJoined choose
 started operation d e =
     data-moves d (dataStarts operation d) (λ h. (omega arith, data-type d h)) (source-same d (dataStarts operation d) refl (ap dataJoined (sym e)))
 
-pub data-keeps : (d : Data) (q : DataRequest) (body list : List ℕ) → Accepts (DataKeeps d) (dataStep d q body list)
-unfolding dataStep dataState dataListen dataStart dataStop dataJoined choose
-data-keeps d DataRequest.State body list = accepts (DataKeeps d) _ _ d (λ _. stays dataWrong dataSide d)
-data-keeps d (DataRequest.Backup name) body list = accepts (DataKeeps d) _ _ (dataStarts 1 d) (λ g. started 1 d (is (g 0)))
-data-keeps d (DataRequest.Recover name) body list = accepts (DataKeeps d) _ _ (dataStarts 2 d) (λ g. started 2 d (is (g 0)))
-data-keeps d DataRequest.Stop body list =
+pub data-keeps : (d : Data) (q : DataRequest) (body list variables : List ℕ) → Accepts (DataKeeps d) (dataStep d q body list variables)
+unfolding dataStep dataState dataListen dataStart dataEnvironment dataStop dataJoined choose
+data-keeps d DataRequest.State body list variables = accepts (DataKeeps d) _ _ d (λ _. stays dataWrong dataSide d)
+data-keeps d (DataRequest.Backup name ps) body list variables = accepts (DataKeeps d) _ _ (dataStarts 1 d) (λ g. started 1 d (is (g 0)))
+data-keeps d (DataRequest.Recover name ps) body list variables = accepts (DataKeeps d) _ _ (dataStarts 2 d) (λ g. started 2 d (is (g 0)))
+data-keeps d DataRequest.Environment body list variables = accepts (DataKeeps d) _ _ d (λ _. stays dataWrong dataSide d)
+data-keeps d DataRequest.Stop body list variables =
     accepts (DataKeeps d) _ _ restData (λ g. data-moves d restData (λ _. (omega arith, local-right true)) (unjoined d restData 2 (is (g 0)) refl refl))
-data-keeps d (DataRequest.Listen address) body list =
+data-keeps d (DataRequest.Listen address) body list variables =
     accepts (DataKeeps d) _ _ (dataTo 3 address d)
     (λ g. data-moves d (dataTo 3 address d) (λ _. (omega arith, right-busy address _ (g 1))) (unjoined d (dataTo 3 address d) 0 (is (g 0)) refl refl))
 

@@ -52,6 +52,7 @@ use Rattle.rules.specs.Calls.{Heard, isRun, isDone, isNumber}
 use Rattle.rules.specs.Leaving.{Leaving, AtMark, mark-read, mark-spaced, AtEnd, end-read, end-written, end-spaced, OtherFields}
 use Rattle.rules.specs.Leaving.{no-body, zero-words, residue-word, InHeader, unknown-message, bad-body, beforeLogin, Replied, Closes}
 use Rattle.rules.specs.Leaving.{LogsIn, Among, here, later, authorized, MayWrite, Touched, untouched, wrote, marked, CallsLeave}
+use Rattle.rules.proofs.Environment.{stored, stores, environment-asked, unseen}
 use Rattle.rules.proofs.JudgeLaws.{judged-by, accepts, accepts-any, accepts-map, refusal-says, carried}
 use Rattle.rules.proofs.Numbers.{number-right, refusal-right, refusal-facts}
 use Rattle.rules.proofs.Services.{one-of}
@@ -86,7 +87,7 @@ small-number e h =
                   omega arith,
                   (
                     omega arith,
-                    (omega arith, (omega arith, (omega arith, (omega arith, (omega arith, (omega arith, (omega arith, (omega arith, tt)))))))),
+                    (omega arith, (omega arith, (omega arith, (omega arith, (omega arith, (omega arith, (omega arith, (omega arith, (omega arith, tt))))))))),
                   ),
                 ),
               ),
@@ -126,6 +127,7 @@ unheaded (Reply.Mtio e residue) h = refl
 unheaded (Reply.Wrote e count) h = refl
 unheaded (Reply.Read e start len) h = refl
 unheaded (Reply.DataState v) h = refl
+unheaded Reply.Environment h = refl
 unheaded (Reply.MoverState v) h = refl
 
 -- ---- what the tape gives beside a number other than 0 is nothing
@@ -156,10 +158,10 @@ module _ (l : List ℕ) (p : ℕ) where
 -- ---- what is passed on with the tape at a position of which P holds, and nothing else changed
 pub record Moved (P : ℕ → Type 0) (k n : Kept) : Type 0 where
   pub position : ℕ
-  pub is : n ≡ (let s = k .session in held (withParts s (s .login) (s .source) (s .mover) (movedTo position (s .tape)) (s .changer)) (k .image))
+  pub is : n ≡ (let s = k .session in held (withParts s (s .login) (s .source) (s .mover) (movedTo position (s .tape)) (s .changer)) (k .image) (k .variables))
   pub holds : P position
 
-moved-leaves : (P : ℕ → Type 0) (k n : Kept) → Moved P k n → Leaving P k (held (afterMessage (n .session) false) (n .image))
+moved-leaves : (P : ℕ → Type 0) (k n : Kept) → Moved P k n → Leaving P k (held (afterMessage (n .session) false) (n .image) (n .variables))
 moved-leaves P k n m =
     rw (m .is)
     (record {
@@ -172,6 +174,7 @@ moved-leaves P k n m =
       writable = refl;
       position = m .holds;
       image = refl;
+      variables = refl;
       counter = refl;
       mark = refl;
     })
@@ -204,7 +207,7 @@ module _ (k : Kept) where
   -- MTIO, write and read
   tape-kept : (p : ℕ) (image : List ℕ) → image ≡ k .image
       → withTape k (withLoaded (tapePart k) (record { tape = movedTo p (k .session .tape); image = image })) .kept
-      ≡ (let s = k .session in held (withParts s (s .login) (s .source) (s .mover) (movedTo p (s .tape)) (s .changer)) (k .image))
+      ≡ (let s = k .session in held (withParts s (s .login) (s .source) (s .mover) (movedTo p (s .tape)) (s .changer)) (k .image) (k .variables))
   tape-kept p image e = ap (λ (x : List ℕ). withTape k (withLoaded (tapePart k) (record { tape = movedTo p (k .session .tape); image = x })) .kept) e
 
   abbrev from : ℕ
@@ -305,7 +308,7 @@ module _ (k : Kept) (l : Lent) (r : List ℕ) where
   outcome-counted (Request.Config q) = counted (withLogin k) (λ _. refl) _
   outcome-counted (Request.Scsi q) = counted (withChanger k) (λ _. refl) _
   outcome-counted (Request.Tape q) = counted (withTape k) (λ _. refl) _
-  outcome-counted (Request.Data q) = counted (withData k _) (λ _. refl) _
+  outcome-counted (Request.Data q) = counted (withData k q _ _) (λ _. refl) _
   outcome-counted (Request.Mover q) = counted (withPart k _) (λ _. refl) _
   outcome-counted (Request.Joint q) = counted (withEnds k) (λ _. refl) _
 
@@ -390,7 +393,7 @@ module _ (k : Kept) (l : Lent) (r : List ℕ) where
   abbrev Tells : Request → ℕ → Type 0
   Tells q e = k .session .login .authorized ≡ false → e ≡ beforeLogin k l r q
 
-  refusal-leaves : Leaving (λ p. p ≡ k .session .tape .position) k (held (afterMessage (k .session) false) (k .image))
+  refusal-leaves : Leaving (λ p. p ≡ k .session .tape .position) k (held (afterMessage (k .session) false) (k .image) (k .variables))
   refusal-leaves =
       record {
         closed = refl;
@@ -402,6 +405,7 @@ module _ (k : Kept) (l : Lent) (r : List ℕ) where
         writable = refl;
         position = refl;
         image = refl;
+        variables = refl;
         counter = refl;
         mark = refl;
       }
@@ -540,6 +544,7 @@ module _ (k : Kept) (l : Lent) (r : List ℕ) where
         tape = refl;
         changer = refl;
         image = refl;
+        variables = refl;
       }
 
   closes : Heard k l r → requestIn r ≡ Request.Connect ConnectRequest.Close → Closes k (answered k l r)
@@ -575,7 +580,7 @@ module _ (k : Kept) (l : Lent) (r : List ℕ) where
     outcome-stays (Request.Config q) h f = config-stays q h
     outcome-stays (Request.Scsi q) h f = aside (withChanger k) (λ _. h) _
     outcome-stays (Request.Tape q) h f = aside (withTape k) (λ _. h) _
-    outcome-stays (Request.Data q) h f = aside (withData k _) (λ _. h) _
+    outcome-stays (Request.Data q) h f = aside (withData k q _ _) (λ _. h) _
     outcome-stays (Request.Mover q) h f = aside (withPart k _) (λ _. h) _
     outcome-stays (Request.Joint q) h f = aside (withEnds k) (λ _. h) _
 
@@ -722,7 +727,7 @@ module _ (k : Kept) (l : Lent) (r : List ℕ) where
   outcome-touches (Request.Tape q) h =
       carried (TouchedBy (Request.Tape q)) (withTape k) _
       (carried (λ reply p. TouchedBy (Request.Tape q) reply (withTape k p)) (withLoaded (tapePart k)) _ (device-touches q (logged _ h)))
-  outcome-touches (Request.Data q) h = left (Request.Data q) (withData k _) (λ _. refl) _
+  outcome-touches (Request.Data q) h = left (Request.Data q) (withData k q _ _) (λ _. refl) _
   outcome-touches (Request.Mover q) h =
       carried (TouchedBy (Request.Mover q)) (withPart k _) _ (carried (λ reply p. TouchedBy (Request.Mover q) reply (withPart k (l .addresses) p)) (withMover (tapePart k)) _
       (accepts-any (λ reply p. TouchedBy (Request.Mover q) reply (withPart k (l .addresses) (withMover (tapePart k) p))) (λ _ _. mover-untouched (Request.Mover q)) _))
@@ -796,4 +801,8 @@ calls-leave =
       login = record { only = only; stays = stays; enters = enters };
       touched = touched;
       writes = record { write = λ k l r bytes h q m. writes k l r h m bytes q; marks = λ k l r times h q m. marks k l r h m times q };
+      stored = stored;
+      stores = stores;
+      environment = environment-asked;
+      unseen = λ k l r other. unseen k other l r;
     }

@@ -2,7 +2,7 @@
 -- with no end, `Kept` those of the relation, `Keeping` that every request
 -- keeps it, `Tcp` the rules of ends by TCP, `Windows` the rules of windows, `Sending` that an answer can be sent, `Numbers` the numbers of replies and refusals, `Guarding` what comes
 -- before any call, `Calls` what holds of every call, `Owning` that a record's request is its service's, `Order` that the services commute,
--- `Services` which numbers are whose, `Leaving` what each number leaves, who becomes authorized and what writes to the cartridge, `Alike` that spacing
+-- `Services` which numbers are whose, `Environment` the rules of the environment and what changes its store, `Leaving` what each number leaves, who becomes authorized and what writes to the cartridge, `Alike` that spacing
 -- hangs on the kinds of the entries passed.
 pub mod JudgeLaws
 pub mod Serving
@@ -18,5 +18,6 @@ pub mod Calls
 pub mod Owning
 pub mod Order
 pub mod Services
+pub mod Environment
 pub mod Leaving
 pub mod Alike

@@ -45,7 +45,7 @@ use Rattle.rules_parts.specs.declared.types.Changer.{Changer}
 use Rattle.rules_parts.specs.declared.types.Login.{Login}
 use Rattle.codes.specs.Codes.{longestRecord, deviceOpened, permissionDenied, notOpen, illegalArguments, badFile, noDevice, illegalState}
 use Rattle.rules.specs.Judge.{test, refuse, accept, judge, Accepts, Refuses}
-use Rattle.rules.specs.DataService.{dataState, dataListen, dataStart, dataStop, dataStep}
+use Rattle.rules.specs.DataService.{dataState, dataListen, dataStart, dataEnvironment, dataStop, dataStep}
 use Rattle.rules.specs.MoverService.{moverState, moverListen, moverContinue, moverStop, setWindow, moverRead, setSize, moverStep}
 use Rattle.rules.specs.TapeService.{Loaded, isRefusal, tapeOpen, tapeClose, tapeState, tapeMtio, tapeWrite, tapeRead, deviceStep, withLoaded, withMover, tapeStep, moverPartStep}
 use Rattle.rules.specs.ScsiService.{scsiOpen, scsiClear, scsiState, runCdb, scsiCdb, scsiStep}
@@ -64,13 +64,14 @@ listening-zero : (address : ℕ) → eqb (numberOf (listening address)) 0 ≡ tr
 unfolding listening numberOf
 listening-zero address = by-test (λ (r : Reply). eqb (numberOf r) 0 ≡ true) (eqb address 1) _ _ (λ _. refl) (λ _. refl)
 
-data-zero : (d : Data) (q : DataRequest) (body list : List ℕ) → Accepts Zero (dataStep d q body list)
-unfolding dataStep dataState dataListen dataStart dataStop numberOf
-data-zero d DataRequest.State body list = accepts Zero _ _ _ (λ _. refl)
-data-zero d (DataRequest.Backup name) body list = accepts Zero _ _ _ (λ _. refl)
-data-zero d (DataRequest.Recover name) body list = accepts Zero _ _ _ (λ _. refl)
-data-zero d DataRequest.Stop body list = accepts Zero _ _ _ (λ _. refl)
-data-zero d (DataRequest.Listen address) body list = accepts Zero _ _ _ (λ _. listening-zero address)
+data-zero : (d : Data) (q : DataRequest) (body list variables : List ℕ) → Accepts Zero (dataStep d q body list variables)
+unfolding dataStep dataState dataListen dataStart dataEnvironment dataStop numberOf
+data-zero d DataRequest.State body list variables = accepts Zero _ _ _ (λ _. refl)
+data-zero d (DataRequest.Backup name ps) body list variables = accepts Zero _ _ _ (λ _. refl)
+data-zero d (DataRequest.Recover name ps) body list variables = accepts Zero _ _ _ (λ _. refl)
+data-zero d DataRequest.Environment body list variables = accepts Zero _ _ _ (λ _. refl)
+data-zero d DataRequest.Stop body list variables = accepts Zero _ _ _ (λ _. refl)
+data-zero d (DataRequest.Listen address) body list variables = accepts Zero _ _ _ (λ _. listening-zero address)
 
 mover-zero : (m : Mover) (t : Tape) (q : MoverRequest) (list : List ℕ) → Accepts Zero (moverStep m t q list)
 unfolding moverStep moverState moverListen moverContinue moverStop setWindow moverRead setSize numberOf
@@ -140,7 +141,7 @@ module _ (k : Kept) (l : Lent) (r : List ℕ) where
   outcome-number (Request.Config q) = carried Zero (withLogin k) _ (config-zero _ q)
   outcome-number (Request.Scsi q) = carried Zero (withChanger k) _ (scsi-zero _ q _)
   outcome-number (Request.Tape q) = carried (Ran q) (withTape k) _ (carried (Ran q) (withLoaded (tapePart k)) _ (tape-ran _ _ _ q _))
-  outcome-number (Request.Data q) = carried Zero (withData k _) _ (data-zero _ q _ _)
+  outcome-number (Request.Data q) = carried Zero (withData k q _ _) _ (data-zero _ q _ _ _)
   outcome-number (Request.Mover q) = carried Zero (withPart k _) _ (carried Zero (withMover (tapePart k)) _ (mover-zero _ _ q _))
   outcome-number (Request.Joint q) = carried Zero (withEnds k) _ (joint-zero _ _ _ q _)
 
@@ -152,13 +153,14 @@ module _ (k : Kept) (l : Lent) (r : List ℕ) where
 abbrev Refusal : ℕ → Type 0
 Refusal e = isNumber e ≡ true
 
-data-refuses : (d : Data) (q : DataRequest) (body list : List ℕ) → Refuses Refusal (dataStep d q body list)
-unfolding dataStep dataState dataListen dataStart dataStop isNumber isOneOf isRefusal choose
-data-refuses d DataRequest.State body list = accepts-all isNumber _ _ _ refl
-data-refuses d (DataRequest.Backup name) body list = accepts-all isNumber _ _ _ refl
-data-refuses d (DataRequest.Recover name) body list = accepts-all isNumber _ _ _ refl
-data-refuses d DataRequest.Stop body list = accepts-all isNumber _ _ _ refl
-data-refuses d (DataRequest.Listen address) body list = accepts-all isNumber _ _ _ refl
+data-refuses : (d : Data) (q : DataRequest) (body list variables : List ℕ) → Refuses Refusal (dataStep d q body list variables)
+unfolding dataStep dataState dataListen dataStart dataEnvironment dataStop isNumber isOneOf isRefusal choose
+data-refuses d DataRequest.State body list variables = accepts-all isNumber _ _ _ refl
+data-refuses d (DataRequest.Backup name ps) body list variables = accepts-all isNumber _ _ _ refl
+data-refuses d (DataRequest.Recover name ps) body list variables = accepts-all isNumber _ _ _ refl
+data-refuses d DataRequest.Environment body list variables = accepts-all isNumber _ _ _ refl
+data-refuses d DataRequest.Stop body list variables = accepts-all isNumber _ _ _ refl
+data-refuses d (DataRequest.Listen address) body list variables = accepts-all isNumber _ _ _ refl
 
 mover-refuses : (m : Mover) (t : Tape) (q : MoverRequest) (list : List ℕ) → Refuses Refusal (moverStep m t q list)
 unfolding moverStep moverState moverListen moverContinue moverStop setWindow moverRead setSize isNumber isOneOf isRefusal choose
@@ -313,7 +315,7 @@ module _ (k : Kept) (l : Lent) (r : List ℕ) where
   outcome-refuses (Request.Config q) = refuses-onto Refusal (withLogin k) _ (config-refuses _ q)
   outcome-refuses (Request.Scsi q) = refuses-onto Refusal (withChanger k) _ (scsi-refuses _ q _)
   outcome-refuses (Request.Tape q) = refuses-onto Refusal (withTape k) _ (refuses-onto Refusal (withLoaded (tapePart k)) _ (tape-refuses _ _ _ q _))
-  outcome-refuses (Request.Data q) = refuses-onto Refusal (withData k _) _ (data-refuses _ q _ _)
+  outcome-refuses (Request.Data q) = refuses-onto Refusal (withData k q _ _) _ (data-refuses _ q _ _ _)
   outcome-refuses (Request.Mover q) = refuses-onto Refusal (withPart k _) _ (refuses-onto Refusal (withMover (tapePart k)) _ (mover-refuses _ _ q _))
   outcome-refuses (Request.Joint q) = refuses-onto Refusal (withEnds k) _ (joint-refuses _ _ _ q _)
 

@@ -54,6 +54,7 @@ data-rows : (k : DataKind) (s : Scan) → Owned DataService (requestOf (Message.
 data-rows DataKind.State s = of-data _
 data-rows DataKind.Backup s = of-data _
 data-rows DataKind.Recover s = of-data _
+data-rows DataKind.Environment s = of-data _
 data-rows DataKind.Stop s = of-data _
 data-rows DataKind.Listen s = of-data _
 

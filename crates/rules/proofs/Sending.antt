@@ -7,7 +7,7 @@ use mathlib.Core.List.{List, []}
 use lib.ListN.{length, getD}
 use lib.Dec.{eqb}
 use borrow.Author.Tests.{eqb-true, ltb-false}
-use Rattle.codes.specs.Codes.{senseBytes, tcpAddress, mostLent}
+use Rattle.codes.specs.Codes.{senseBytes, tcpAddress, mostLent, storeLength}
 use Rattle.xdr.specs.Choose.{choose, least}
 use Rattle.xdr.proofs.Tests.{by-test, least-right, yes}
 use Rattle.wire_layouts.specs.AddressLists.{lendable}
@@ -36,7 +36,7 @@ use Rattle.rules_parts.specs.declared.types.Tape.{Tape}
 use Rattle.rules_parts.specs.declared.types.Changer.{Changer}
 use Rattle.rules_parts.specs.declared.types.Login.{Login}
 use Rattle.rules.specs.Judge.{Accepts}
-use Rattle.rules.specs.DataService.{dataState, dataListen, dataStart, dataStop, dataStep}
+use Rattle.rules.specs.DataService.{hasRun, dataState, dataListen, dataStart, dataEnvironment, dataStop, dataStep, dataShown}
 use Rattle.rules.specs.MoverService.{moverState, moverListen, moverContinue, moverStop, setWindow, moverRead, setSize, moverStep}
 use Rattle.rules.specs.TapeService.{Loaded, tapeOpen, tapeClose, tapeState, tapeMtio, tapeWrite, tapeRead, deviceStep}
 use Rattle.rules.specs.ScsiService.{scsiOpen, scsiClear, scsiState, senseLength, runCdb, scsiCdb, scsiStep}
@@ -69,14 +69,16 @@ listening-sends address list h =
     by-test (λ (r : Reply). Sendable r list) (eqb address tcpAddress) _ _
     (λ e. short list (yes (sym (tcp-right (not (lendable list))) ∙ (rw (eqb-true address tcpAddress e) at h)))) (λ _. tt)
 
--- of the data end, with the list that it is lent
-pub data-sends : (d : Data) (q : DataRequest) (body list : List ℕ) → Accepts (λ r _. Sendable r list) (dataStep d q body list)
-unfolding dataStep dataState dataListen dataStart dataStop Sendable
-data-sends d DataRequest.State body list = accepts (λ r _. Sendable r list) _ _ _ (λ _. tt)
-data-sends d (DataRequest.Backup name) body list = accepts (λ r _. Sendable r list) _ _ _ (λ _. tt)
-data-sends d (DataRequest.Recover name) body list = accepts (λ r _. Sendable r list) _ _ _ (λ _. tt)
-data-sends d DataRequest.Stop body list = accepts (λ r _. Sendable r list) _ _ _ (λ _. tt)
-data-sends d (DataRequest.Listen address) body list = accepts (λ r _. Sendable r list) _ _ _ (λ g. listening-sends address list (g 1))
+-- of the data end, with the list and the store that it is lent
+pub data-sends : (d : Data) (q : DataRequest) (body list variables : List ℕ) → length variables ≤ storeLength
+    → Accepts (λ r _. Sendable r (dataShown q list variables)) (dataStep d q body list variables)
+unfolding dataStep dataState dataListen dataStart dataEnvironment dataStop dataShown Sendable
+data-sends d DataRequest.State body list variables h = accepts (λ r _. Sendable r list) _ _ _ (λ _. tt)
+data-sends d (DataRequest.Backup name ps) body list variables h = accepts (λ r _. Sendable r list) _ _ _ (λ _. tt)
+data-sends d (DataRequest.Recover name ps) body list variables h = accepts (λ r _. Sendable r list) _ _ _ (λ _. tt)
+data-sends d DataRequest.Environment body list variables h = accepts (λ r _. Sendable r variables) _ _ _ (λ g. (yes (g 1), h))
+data-sends d DataRequest.Stop body list variables h = accepts (λ r _. Sendable r list) _ _ _ (λ _. tt)
+data-sends d (DataRequest.Listen address) body list variables h = accepts (λ r _. Sendable r list) _ _ _ (λ g. listening-sends address list (g 1))
 
 pub joint-sends : (d : Data) (m : Mover) (t : Tape) (q : JointRequest) (made : Bool) → Accepts Sends (jointStep d m t q made)
 unfolding jointStep dataAbort dataConnect moverAbort moverClose moverConnect Sendable

@@ -248,14 +248,15 @@ unready : (m : Mover) (t : Tape) (mode : ℕ) (wrong : Bool) → (first (joinTes
     → (first (joinTests m t mode false) ≡ illegalArguments → ⊥) → first (joinTests m t mode wrong) ≡ first (joinTests m t mode false)
 unready m t mode wrong n k = first-skips illegalArguments wrong (ltb fromTapeMode mode) (askedBefore m t mode) n k
 
-source-others : (d : Data) (q : DataRequest) (body list other : List ℕ) → ((address : ℕ) → q ≡ DataRequest.Listen address → ⊥)
-    → dataStep d q body list ≡ dataStep d q body other
+source-others : (d : Data) (q : DataRequest) (body list other variables : List ℕ) → ((address : ℕ) → q ≡ DataRequest.Listen address → ⊥)
+    → dataStep d q body list variables ≡ dataStep d q body other variables
 unfolding dataStep
-source-others d DataRequest.State body list other n = refl
-source-others d (DataRequest.Backup name) body list other n = refl
-source-others d (DataRequest.Recover name) body list other n = refl
-source-others d DataRequest.Stop body list other n = refl
-source-others d (DataRequest.Listen address) body list other n = absurd (n address refl)
+source-others d DataRequest.State body list other variables n = refl
+source-others d (DataRequest.Backup name ps) body list other variables n = refl
+source-others d (DataRequest.Recover name ps) body list other variables n = refl
+source-others d DataRequest.Environment body list other variables n = refl
+source-others d DataRequest.Stop body list other variables n = refl
+source-others d (DataRequest.Listen address) body list other variables n = absurd (n address refl)
 
 mover-others : (m : Mover) (t : Tape) (q : MoverRequest) (list other : List ℕ) → ((mode address : ℕ) → q ≡ MoverRequest.Listen mode address → ⊥)
     → moverStep m t q list ≡ moverStep m t q other

@@ -17,6 +17,7 @@ use Rattle.rules.specs.Promises.{Stopped, Promises}
 use Rattle.rules.proofs.JudgeLaws.{accepts}
 use Rattle.rules.proofs.Endless.{endless-rules}
 use Rattle.rules.proofs.Tcp.{tcp-rules}
+use Rattle.rules.proofs.Environment.{environment-rules}
 use Rattle.rules.proofs.Kept.{mover-kept}
 use Rattle.rules.proofs.Keeping.{data-keeps, tape-keeps, mover-part-keeps, joint-keeps}
 
@@ -75,4 +76,5 @@ promises =
       };
       endless = endless-rules;
       tcp = tcp-rules;
+      environment = environment-rules;
     }

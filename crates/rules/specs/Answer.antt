@@ -2,8 +2,9 @@
 use Prim.Native.Nat.{ℕ}
 use mathlib.Core.Bool.{Bool, true, false, not}
 use mathlib.Core.List.{List, [], _∷_, _++_}
+use lib.ListN.{length}
 use lib.Dec.{ltb, eqb}
-use Rattle.codes.specs.Codes.{notSupported, notAuthorized, undecodable, shortOutput, brokenSession}
+use Rattle.codes.specs.Codes.{notSupported, notAuthorized, undecodable, shortOutput, brokenSession, storeLength}
 use Rattle.xdr.specs.Choose.{choose}
 use Rattle.wire_frame.specs.Frame.{wellFramed, sequenceOf, kindOf, messageWord, bodyOf}
 use Rattle.wire_frame.specs.Messages.{rowOf, messageOf}
@@ -13,6 +14,7 @@ use Rattle.wire_requests.specs.declared.ConnectRequest.{ConnectRequest}
 use Rattle.wire_requests.specs.declared.ConnectRequest.the-variants as ConnectRequest
 use Rattle.wire_requests.specs.declared.ConfigRequest.{ConfigRequest}
 use Rattle.wire_requests.specs.declared.ConfigRequest.the-variants as ConfigRequest
+use Rattle.wire_requests.specs.declared.DataRequest.{DataRequest}
 use Rattle.wire_requests.specs.declared.Request.{Request}
 use Rattle.wire_requests.specs.declared.Request.the-variants as Request
 use Rattle.wire_replies.specs.declared.Reply.{Reply}
@@ -27,7 +29,7 @@ use Rattle.rules_parts.specs.declared.types.Session.{Session}
 use Rattle.rules_parts.specs.Names.{leastRoom}
 use Rattle.rules.specs.Judge.{test, Outcome, refuse, accept, judge, onto}
 use Rattle.rules_parts.specs.Parts.{withParts, afterMessage, shut}
-use Rattle.rules.specs.DataService.{dataStep}
+use Rattle.rules.specs.DataService.{dataStep, variablesAfter, dataShown}
 use Rattle.rules.specs.TapeService.{TapePart, tapeStep, moverPartStep}
 use Rattle.rules.specs.ScsiService.{scsiStep}
 use Rattle.rules.specs.declared.Ends.{Ends}
@@ -35,10 +37,11 @@ use Rattle.rules.specs.Joint.{jointStep}
 use Rattle.rules.specs.Connection.{Account, connectStep, configStep}
 use Rattle.rules.specs.Relation.{keeps}
 
--- what calls pass on
+-- what calls pass on: the session, the cartridge, and the store of the data end's environment
 pub record Kept : Type 0 where
   pub session : Session
   pub image : List ℕ
+  pub variables : List ℕ
 
 -- what is lent with one call: the account, the time stamp, and the length of the output; the list that a listen by TCP answers; and whether the
 -- connection of a connect by TCP was made
@@ -49,8 +52,8 @@ pub record Lent : Type 0 where
   pub addresses : List ℕ
   pub made : Bool
 
-abbrev pub held : Session → List ℕ → Kept
-held s image = record { session = s; image = image }
+abbrev pub held : Session → List ℕ → List ℕ → Kept
+held s image variables = record { session = s; image = image; variables = variables }
 
 -- ---- what a call gives: 0, or 1001 or 1002 where it is refused; what is sent; what is passed on
 pub record Answered : Type 0 where
@@ -64,7 +67,7 @@ abbrev pub silent : ℕ → Kept → Answered
 silent code k = record { code = code; reply = []; notices = []; next = k }
 
 abbrev pub closing : Kept → Answered
-closing k = silent 0 (held (shut (k .session)) (k .image))
+closing k = silent 0 (held (shut (k .session)) (k .image) (k .variables))
 
 -- "Before all else the call is refused, and nothing written or changed: 1001 .. 1002"; "after it [closing] nothing is answered or changed".
 -- For every call: what it comes to with a code and nothing done, and what it comes to else
@@ -75,14 +78,18 @@ guarded s room idle x =
     (choose (s .closed) (idle 0)
     x))
 
--- a reply to the record r, whose lent bytes, those of a read or a list of addresses, lie in `shown`; k has the session with its next parts
+-- "1001 for one of another length": a request call that is lent such a store is refused as one whose output has no room
+unfoldable pub roomOf : Kept → Lent → ℕ
+roomOf k l = choose (eqb (length (k .variables)) storeLength) (l .room) 0
+
+-- a reply to the record r, whose lent bytes, those of a read, a list of addresses or a store, lie in `shown`; k has the session with its next parts
 abbrev pub replying : List ℕ → ℕ → Reply → List ℕ → Kept → Answered
 replying r time reply shown k =
     record {
       code = 0;
       reply = replyBytes (k .session .sequence) time (messageWord r) (sequenceOf r) reply shown;
       notices = [];
-      next = held (afterMessage (k .session) false) (k .image);
+      next = held (afterMessage (k .session) false) (k .image) (k .variables);
     }
 
 -- an answer, and behind it a notice, where there is a reason for one
@@ -93,7 +100,7 @@ noticed time why n a =
       code = a .code;
       reply = a .reply;
       notices = a .notices ++ noticeBytes (a .next .session .sequence) time n;
-      next = held (afterMessage (a .next .session) (a .next .session .first)) (a .next .image);
+      next = held (afterMessage (a .next .session) (a .next .session .first)) (a .next .image) (a .next .variables);
     })
 
 -- why each end halted, or 0: "its notices: data first, mover second"
@@ -114,25 +121,29 @@ quietly k shown = record { kept = k; shown = shown; dwhy = 0; mwhy = 0 }
 abbrev pub tapePart : Kept → TapePart
 tapePart k = record { mover = k .session .mover; tape = k .session .tape; image = k .image }
 
-abbrev pub withData : Kept → List ℕ → Data → Done
-withData k list d = let s = k .session in quietly (held (withParts s (s .login) d (s .mover) (s .tape) (s .changer)) (k .image)) list
+abbrev pub withData : Kept → DataRequest → List ℕ → List ℕ → Data → Done
+withData k q body list d =
+    let s = k .session in
+    quietly
+    (held (withParts s (s .login) d (s .mover) (s .tape) (s .changer)) (k .image) (variablesAfter q body (k .variables)))
+    (dataShown q list (k .variables))
 
 abbrev pub withPart : Kept → List ℕ → TapePart → Done
-withPart k shown p = let s = k .session in quietly (held (withParts s (s .login) (s .source) (p .mover) (p .tape) (s .changer)) (p .image)) shown
+withPart k shown p = let s = k .session in quietly (held (withParts s (s .login) (s .source) (p .mover) (p .tape) (s .changer)) (p .image) (k .variables)) shown
 
 abbrev pub withTape : Kept → TapePart → Done
 withTape k p = withPart k (p .image) p
 
 abbrev pub withChanger : Kept → Changer → Done
-withChanger k c = let s = k .session in quietly (held (withParts s (s .login) (s .source) (s .mover) (s .tape) c) (k .image)) []
+withChanger k c = let s = k .session in quietly (held (withParts s (s .login) (s .source) (s .mover) (s .tape) c) (k .image) (k .variables)) []
 
 abbrev pub withLogin : Kept → Login → Done
-withLogin k g = let s = k .session in quietly (held (withParts s g (s .source) (s .mover) (s .tape) (s .changer)) (k .image)) []
+withLogin k g = let s = k .session in quietly (held (withParts s g (s .source) (s .mover) (s .tape) (s .changer)) (k .image) (k .variables)) []
 
 abbrev pub withEnds : Kept → Ends → Done
 withEnds k e =
     let s = k .session in
-    record { kept = held (withParts s (s .login) (e .source) (e .mover) (s .tape) (s .changer)) (k .image); shown = []; dwhy = e .dwhy; mwhy = e .mwhy }
+    record { kept = held (withParts s (s .login) (e .source) (e .mover) (s .tape) (s .changer)) (k .image) (k .variables); shown = []; dwhy = e .dwhy; mwhy = e .mwhy }
 
 -- ---- a request
 abbrev pub messageIn : List ℕ → Message
@@ -150,7 +161,8 @@ outcome k l r (Request.Connect q) = onto (withLogin k) (connectStep (k .session 
 outcome k l r (Request.Config q) = onto (withLogin k) (configStep (k .session .login) q)
 outcome k l r (Request.Scsi q) = onto (withChanger k) (scsiStep (k .session .changer) q (bodyOf r))
 outcome k l r (Request.Tape q) = onto (withTape k) (tapeStep (tapePart k) q (bodyOf r))
-outcome k l r (Request.Data q) = onto (withData k (l .addresses)) (dataStep (k .session .source) q (bodyOf r) (l .addresses))
+outcome k l r (Request.Data q) =
+    onto (withData k q (bodyOf r) (l .addresses)) (dataStep (k .session .source) q (bodyOf r) (l .addresses) (k .variables))
 outcome k l r (Request.Mover q) = onto (withPart k (l .addresses)) (moverPartStep (tapePart k) q (l .addresses))
 outcome k l r (Request.Joint q) = onto (withEnds k) (jointStep (k .session .source) (k .session .mover) (k .session .tape) q (l .made))
 
@@ -221,4 +233,4 @@ requested k l r = choose (not (eqb (kindOf r) 0)) (silent 0 k) (judged k l r (re
 
 -- a request call: what is passed on, what is lent, and the record. A record that breaks the rules of framing "closes the session without a reply"
 unfoldable pub answered : Kept → Lent → List ℕ → Answered
-answered k l r = guarded (k .session) (l .room) (λ code. silent code k) (choose (wellFramed r) (requested k l r) (closing k))
+answered k l r = guarded (k .session) (roomOf k l) (λ code. silent code k) (choose (wellFramed r) (requested k l r) (closing k))

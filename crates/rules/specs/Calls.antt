@@ -1,12 +1,14 @@
--- What holds of every request call, and of every list of calls, for any session and image.
+-- What holds of every request call, and of every list of calls, for any session, image and store.
 use Prim.Native.Nat.{ℕ, _≤_}
 use mathlib.Core.Bool.{Bool, true, false, not}
 use mathlib.Core.List.{List, []}
 use mathlib.Core.Path.{_≡_}
+use lib.ListN.{length}
 use lib.Dec.{eqb, ltb}
-use Rattle.codes.specs.Codes.{errors, notSupported, notAuthorized, undecodable, shortOutput, brokenSession}
+use Rattle.codes.specs.Codes.{errors, notSupported, notAuthorized, undecodable, shortOutput, brokenSession, storeLength}
 use Rattle.xdr.specs.Choose.{choose}
 use Rattle.tape_image.specs.Image.{isSound}
+use Rattle.wire_pairs.specs.Store.{isLaid}
 use Rattle.wire_frame.specs.Frame.{wellFramed, kindOf, bodyOf}
 use Rattle.wire_frame.specs.declared.Message.the-variants as Message
 use Rattle.wire_requests.specs.Within.{bytesAt}
@@ -37,13 +39,13 @@ openedSession = newSession false 2
 abbrev pub unopenedSession : Session
 unopenedSession = newSession true 1
 
--- "Opening a session sends connection status (connected 0, version 4, empty text) as number 1." No image is handed to it.
+-- "Opening a session sends connection status (connected 0, version 4, empty text) as number 1." No image and no store is handed to it.
 unfoldable pub opening : ℕ → ℕ → Answered
 opening time room =
-    choose (ltb room leastRoom) (silent shortOutput (held unopenedSession []))
-    (record { code = 0; reply = []; notices = noticeBytes 1 time Notice.Connected; next = held openedSession [] })
+    choose (ltb room leastRoom) (silent shortOutput (held unopenedSession [] []))
+    (record { code = 0; reply = []; notices = noticeBytes 1 time Notice.Connected; next = held openedSession [] [] })
 
--- nothing is sent, and session and image are as they were
+-- nothing is sent, and session, image and store are as they were
 pub record Unmoved (k : Kept) (a : Answered) : Type 0 where
   pub reply : a .reply ≡ []
   pub notices : a .notices ≡ []
@@ -52,6 +54,7 @@ pub record Unmoved (k : Kept) (a : Answered) : Type 0 where
 -- a well-framed request on an open session, with room: it is judged
 pub record Heard (k : Kept) (l : Lent) (r : List ℕ) : Type 0 where
   pub roomy : leastRoom ≤ l .room
+  pub stored : length (k .variables) ≡ storeLength
   pub valid : keeps (k .session) ≡ true
   pub opened : k .session .closed ≡ false
   pub framed : wellFramed r ≡ true
@@ -81,15 +84,20 @@ isDone Request.Bad e = false
 unfoldable pub isNumber : ℕ → Bool
 isNumber e = choose (isOneOf errors e) (isRefusal e) false
 
+-- "1001 if the output is under 36,864 bytes"; 02 No. 3, of the store: "1001 for one of another length"
+unfoldable pub isMislent : Kept → Lent → Bool
+isMislent k l = choose (ltb (l .room) leastRoom) true (not (eqb (length (k .variables)) storeLength))
+
 pub record RefusalsOfCalls : Type 0 where
-  -- 1001 for an output that is too short, before 1002 for a broken session; no other code but 0
+  -- 1001 for an output that is too short and for a store of another length, before 1002 for a broken session; no other code but 0
   pub codes : (k : Kept) (l : Lent) (r : List ℕ)
-      → answered k l r .code ≡ choose (ltb (l .room) leastRoom) shortOutput (choose (keeps (k .session)) 0 brokenSession)
+      → answered k l r .code ≡ choose (isMislent k l) shortOutput (choose (keeps (k .session)) 0 brokenSession)
   pub refused : (k : Kept) (l : Lent) (r : List ℕ) → (answered k l r .code ≡ 0 → ⊥)
       → Unmoved k (answered k l r)
   pub over : (k : Kept) (l : Lent) (r : List ℕ) → k .session .closed ≡ true → Unmoved k (answered k l r)
   -- a badly framed record closes and changes nothing else
-  pub broken : (k : Kept) (l : Lent) (r : List ℕ) → leastRoom ≤ l .room → keeps (k .session) ≡ true → k .session .closed ≡ false → wellFramed r ≡ false
+  pub broken : (k : Kept) (l : Lent) (r : List ℕ) → leastRoom ≤ l .room → length (k .variables) ≡ storeLength → keeps (k .session) ≡ true → k .session .closed ≡ false
+      → wellFramed r ≡ false
       → answered k l r ≡ closing k
   -- a message that is no request is ignored
   pub ignored : (k : Kept) (l : Lent) (r : List ℕ) → wellFramed r ≡ true → (kindOf r ≡ 0 → ⊥)
@@ -118,7 +126,12 @@ pub record CallsKeep : Type 0 where
   pub never : (k : Kept) (l : Lent) (r : List ℕ) → keeps (k .session) ≡ true → answered k l r .code ≡ brokenSession → ⊥
   -- a sound image stays sound
   pub sound : (k : Kept) (l : Lent) (r : List ℕ) → isSound (k .image) ≡ true → isSound (answered k l r .next .image) ≡ true
+  -- a store keeps its length, and one that is laid out so stays laid out so
+  pub lengths : (k : Kept) (l : Lent) (r : List ℕ) → length (answered k l r .next .variables) ≡ length (k .variables)
+  pub laid : (k : Kept) (l : Lent) (r : List ℕ) → isLaid (k .variables) ≡ true → isLaid (answered k l r .next .variables) ≡ true
   -- the same of calls one after the other
   pub runs : (k : Kept) (cs : List Call) → keeps (k .session) ≡ true → keeps (run k cs .last .session) ≡ true
   pub runs-sound : (k : Kept) (cs : List Call) → isSound (k .image) ≡ true → isSound (run k cs .last .image) ≡ true
+  pub runs-lengths : (k : Kept) (cs : List Call) → length (run k cs .last .variables) ≡ length (k .variables)
+  pub runs-laid : (k : Kept) (cs : List Call) → isLaid (k .variables) ≡ true → isLaid (run k cs .last .variables) ≡ true
   pub refusals : RefusalsOfCalls

@@ -1,4 +1,4 @@
--- What each number of a reply leaves, what a client that is not logged in is told, who becomes authorized, and what writes to the cartridge. It is said by
+-- What each number of a reply leaves, what a client that is not logged in is told, who becomes authorized, and what writes to the cartridge and to the store. It is said by
 -- the fields of the session, by the image and by what is sent, and not by the definitions of a call, so that these are held against it.
 use Prim.Native.Nat.{ℕ, _+_, _%_, _^_, _≤_}
 use mathlib.Core.Bool.{Bool, true, false}
@@ -6,18 +6,23 @@ use mathlib.Core.List.{List, [], _∷_, _++_}
 use mathlib.Core.Path.{_≡_}
 use lib.ListN.{length}
 use lib.Dec.{eqb}
-use Rattle.codes.specs.Codes.{longestRecord, notSupported, notAuthorized, illegalArguments, illegalState, undecodable, versionFour, atMark, atEnd, writeMarks}
+use Rattle.codes.specs.Codes.{longestRecord, notSupported, notAuthorized, ioError, illegalArguments, illegalState, undecodable, versionFour, atMark, atEnd, writeMarks}
 use Rattle.xdr.specs.Choose.{choose}
 use Rattle.xdr.specs.Xdr.{be32}
 use Rattle.tape_image.specs.Image.{capacity, count, entryLen, faulty}
 use Rattle.tape_spacing.specs.Spacing.{goesForward, PassedMark, endOf}
 use Rattle.tape_writing.specs.Writing.{roomFor, written, withMarks}
 use Rattle.tape_ops.specs.Promises.{Refused}
+use Rattle.wire_pairs.specs.Pairs.{pairsFrom, pairBytes}
+use Rattle.wire_pairs.specs.Store.{fits, storing, emptied, isLaid, environmentOf}
 use Rattle.wire_frame.specs.Frame.{sequenceOf, messageWord, bodyOf}
 use Rattle.wire_requests.specs.Within.{bytesAt}
 use Rattle.wire_layouts.specs.declared.Text.{Text}
 use Rattle.wire_requests.specs.declared.ConnectRequest.the-variants as ConnectRequest
 use Rattle.wire_requests.specs.declared.ConfigRequest.the-variants as ConfigRequest
+use Rattle.wire_requests.specs.declared.Pairs.{Pairs}
+use Rattle.wire_requests.specs.declared.DataRequest.{DataRequest}
+use Rattle.wire_requests.specs.declared.DataRequest.the-variants as DataRequest
 use Rattle.wire_requests.specs.declared.TapeRequest.the-variants as TapeRequest
 use Rattle.wire_requests.specs.declared.Request.{Request}
 use Rattle.wire_requests.specs.declared.Request.the-variants as Request
@@ -25,9 +30,10 @@ use Rattle.wire_replies.specs.declared.Reply.{Reply}
 use Rattle.wire_replies.specs.Replies.{numberOf, headerError, replyBytes}
 use Rattle.wire_replies.specs.Numbers.{placeOf, numberIn, bodyIn, bare}
 use Rattle.rules_parts.specs.declared.types.Session.{Session}
-use Rattle.rules_parts.specs.Names.{moverListening, moverActive}
+use Rattle.rules_parts.specs.Names.{dataHalted, dataConnected, moverListening, moverActive}
 use Rattle.rules.specs.Connection.{matches}
-use Rattle.rules.specs.Answer.{Kept, Lent, Answered, answered, requestIn}
+use Rattle.rules.specs.Environment.{dumpBytes, Starts, Answering}
+use Rattle.rules.specs.Answer.{Kept, Lent, held, Answered, answered, requestIn}
 use Rattle.rules.specs.Order.{Call, run}
 use Rattle.rules.specs.Calls.{Heard}
 
@@ -43,6 +49,7 @@ pub record Leaving (P : ℕ → Type 0) (k n : Kept) : Type 0 where
   pub writable : n .session .tape .writable ≡ k .session .tape .writable
   pub position : P (n .session .tape .position)
   pub image : n .image ≡ k .image
+  pub variables : n .variables ≡ k .variables
   pub counter : n .session .sequence ≡ (k .session .sequence + 1) % 2 ^ 32
   pub mark : n .session .first ≡ false
 
@@ -115,6 +122,7 @@ pub record Closes (k : Kept) (a : Answered) : Type 0 where
   pub tape : a .next .session .tape ≡ k .session .tape
   pub changer : a .next .session .changer ≡ k .session .changer
   pub image : a .next .image ≡ k .image
+  pub variables : a .next .variables ≡ k .variables
 
 -- ---- who becomes authorized
 -- a CONNECT auth of type 1 with the id and the password of the account that is lent with it
@@ -165,6 +173,40 @@ pub record Writes : Type 0 where
       → faulty (k .image) (k .session .tape .position) ≡ false → k .session .tape .position + times ≤ capacity (k .image)
       → answered k l r .next .image ≡ withMarks (k .image) (k .session .tape .position) times
 
+-- ---- what writes to the store of the environment
+-- the store after a request: as it was; or with the pairs of a start, of a client that is logged in, on a data end in CONNECTED; or with the count 0
+pub data Stored (k : Kept) (q : Request) (body : List ℕ) (variables : List ℕ) : Type 0 where
+  unstored : variables ≡ k .variables → Stored k q body variables
+  started : (p : DataRequest) (method : Text) (place : Pairs) → Starts p method place → q ≡ Request.Data p → k .session .login .authorized ≡ true
+      → k .session .source .state ≡ dataConnected → bytesAt body method ≡ dumpBytes → fits (pairsFrom body (place .count) (place .start)) ≡ true
+      → variables ≡ storing (pairsFrom body (place .count) (place .start)) (k .variables) → Stored k q body variables
+  stopped : q ≡ Request.Data DataRequest.Stop → k .session .login .authorized ≡ true → k .session .source .state ≡ dataHalted
+      → variables ≡ emptied (k .variables) → Stored k q body variables
+
+-- and a start that is accepted does, and a stop
+pub record Stores : Type 0 where
+  pub start : (k : Kept) (l : Lent) (r : List ℕ) (p : DataRequest) (method : Text) (place : Pairs) → Starts p method place → Heard k l r
+      → requestIn r ≡ Request.Data p → k .session .login .authorized ≡ true → k .session .source .state ≡ dataConnected
+      → bytesAt (bodyOf r) method ≡ dumpBytes → fits (pairsFrom (bodyOf r) (place .count) (place .start)) ≡ true
+      → answered k l r .next .variables ≡ storing (pairsFrom (bodyOf r) (place .count) (place .start)) (k .variables)
+  pub stop : (k : Kept) (l : Lent) (r : List ℕ) → Heard k l r → requestIn r ≡ Request.Data DataRequest.Stop → k .session .login .authorized ≡ true
+      → k .session .source .state ≡ dataHalted → answered k l r .next .variables ≡ emptied (k .variables)
+
+-- 0x404 of a client that is logged in, by its bytes: from the store as it lies, whoever wrote it
+pub record EnvironmentAsked (k : Kept) (l : Lent) (r : List ℕ) : Type 0 where
+  pub early : (Answering (k .session .source) → ⊥) → bodyIn (answered k l r .reply) ≡ be32 illegalState ++ be32 0
+  pub unlaid : Answering (k .session .source) → isLaid (k .variables) ≡ false → bodyIn (answered k l r .reply) ≡ be32 ioError ++ be32 0
+  pub given : Answering (k .session .source) → isLaid (k .variables) ≡ true
+      → let ps = environmentOf (k .variables) in bodyIn (answered k l r .reply) ≡ be32 0 ++ (be32 (length ps) ++ pairBytes ps)
+
+-- the same is told, and the same session and image are passed on
+pub record SameTold (a b : Answered) : Type 0 where
+  pub code : a .code ≡ b .code
+  pub reply : a .reply ≡ b .reply
+  pub notices : a .notices ≡ b .notices
+  pub session : a .next .session ≡ b .next .session
+  pub image : a .next .image ≡ b .next .image
+
 pub record CallsLeave : Type 0 where
   -- every request that is heard, but a close, has one reply, and its number says what is left
   pub replied : (k : Kept) (l : Lent) (r : List ℕ) → Heard k l r → (requestIn r ≡ Request.Connect ConnectRequest.Close → ⊥)
@@ -174,3 +216,11 @@ pub record CallsLeave : Type 0 where
   -- no request but TAPE write and MTIO 5 changes the image
   pub touched : (k : Kept) (l : Lent) (r : List ℕ) → Touched k (requestIn r) (bodyOf r) (answered k l r .next .image)
   pub writes : Writes
+  -- no request but an accepted start or data stop changes the store
+  pub stored : (k : Kept) (l : Lent) (r : List ℕ) → Stored k (requestIn r) (bodyOf r) (answered k l r .next .variables)
+  pub stores : Stores
+  pub environment : (k : Kept) (l : Lent) (r : List ℕ) → Heard k l r → messageWord r ≡ 0x404 → length (bodyOf r) ≡ 0
+      → k .session .login .authorized ≡ true → EnvironmentAsked k l r
+  -- no other request looks at the store
+  pub unseen : (k : Kept) (l : Lent) (r other : List ℕ) → length other ≡ length (k .variables) → (requestIn r ≡ Request.Data DataRequest.Environment → ⊥)
+      → SameTold (answered k l r) (answered (held (k .session) (k .image) other) l r)

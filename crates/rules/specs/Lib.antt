@@ -9,6 +9,7 @@ pub mod Connection
 pub mod Relation
 pub mod Endless
 pub mod Tcp
+pub mod Environment
 pub mod Promises
 pub mod Answer
 pub mod Order

@@ -1,12 +1,12 @@
 -- The three services commute (demand 3): lists of data, tape-with-mover and SCSI requests, the joint ones set aside, give the same answers and the
--- same closing state in whatever order they are merged. One statement; its proof is proofs/Order.antt.
+-- same closing state, the store of the environment with it, in whatever order they are merged. One statement; its proof is proofs/Order.antt.
 use Prim.Native.Nat.{ℕ, _/_, _≤_}
 use mathlib.Core.Path.{_≡_}
 use mathlib.Core.Bool.{Bool, true, false}
 use mathlib.Core.List.{List, [], _∷_, _++_}
-use lib.ListN.{take, drop}
+use lib.ListN.{length, take, drop}
 use lib.Dec.{eqb, leb}
-use Rattle.codes.specs.Codes.{brokenSession}
+use Rattle.codes.specs.Codes.{shortOutput, brokenSession, storeLength}
 use Rattle.xdr.specs.Choose.{choose}
 use Rattle.xdr_opaque.specs.Put.{Each}
 use Rattle.wire_frame.specs.Frame.{wellFramed, kindOf, messageWord}
@@ -144,15 +144,15 @@ unfoldable pub repliesTo : Service → List Given → List Given
 repliesTo d [] = []
 repliesTo d (g ∷ gs) = choose (sameService d (routeOf (g .ask .request))) (g ∷ repliesTo d gs) (repliesTo d gs)
 
--- every call was refused with 1002, or every call was answered
-abbrev pub refusal : Bool → ℕ
-refusal valid = choose valid 0 brokenSession
+-- every call was refused with 1001, as the store is of another length, or with 1002, or every call was answered
+unfoldable pub refusal : Kept → ℕ
+refusal k = choose (eqb (length (k .variables)) storeLength) (choose (keeps (k .session)) 0 brokenSession) shortOutput
 
-pub record SameEnd (valid : Bool) (v w : Run) : Type 0 where
+pub record SameEnd (code : ℕ) (v w : Run) : Type 0 where
   pub data-replies : repliesTo DataService (v .replies) ≡ repliesTo DataService (w .replies)
   pub tape-replies : repliesTo TapeService (v .replies) ≡ repliesTo TapeService (w .replies)
   pub scsi-replies : repliesTo ScsiService (v .replies) ≡ repliesTo ScsiService (w .replies)
-  pub codes : Each (λ g. g .code ≡ refusal valid) (v .replies) × Each (λ g. g .code ≡ refusal valid) (w .replies)
+  pub codes : Each (λ g. g .code ≡ code) (v .replies) × Each (λ g. g .code ≡ code) (w .replies)
   pub quiet : (v .notices ≡ []) × (w .notices ≡ [])
   pub last : v .last ≡ w .last
 
@@ -161,4 +161,4 @@ AnyOrder =
     (k : Kept) → k .session .closed ≡ false
     → (xs ys zs : List Ask) → Each (Asks DataService) xs → Each (Asks TapeService) ys → Each (Asks ScsiService) zs
     → (v w : List Call) → Merge xs ys zs v → Merge xs ys zs w → Each Roomy v → Each Roomy w
-    → SameEnd (keeps (k .session)) (run k v) (run k w)
+    → SameEnd (refusal k) (run k v) (run k w)

@@ -22,6 +22,7 @@ use Rattle.rules.specs.Joint.{dataConnect, moverConnect, jointStep}
 use Rattle.rules.specs.Relation.{dataWrong, moverWrong, sameFlag, Legal}
 use Rattle.rules.specs.Endless.{EndlessRules}
 use Rattle.rules.specs.Tcp.{TcpRules}
+use Rattle.rules.specs.Environment.{EnvironmentRules}
 
 -- a step keeps what its part owes by itself, and what the other parts see of it
 pub record Keeps {A : Type 0} (wrong side : A → Bool) (p : A) (next : A) : Type 0 where
@@ -44,7 +45,8 @@ pub record JointKeeps (t : Tape) (next : Ends) : Type 0 where
 
 -- every accepted request keeps the relation; a refused one leaves its part, by type
 pub record RelationKept : Type 0 where
-  pub source : (d : Data) (q : DataRequest) (body list : List ℕ) → Accepts (λ _ next. Keeps dataWrong dataSide d next) (dataStep d q body list)
+  pub source : (d : Data) (q : DataRequest) (body list variables : List ℕ)
+      → Accepts (λ _ next. Keeps dataWrong dataSide d next) (dataStep d q body list variables)
   pub tape : (p : TapePart) (q : TapeRequest) (body : List ℕ) → Accepts (λ _ next. Keeps partWrong partSide p next) (tapeStep p q body)
   pub mover : (p : TapePart) (q : MoverRequest) (list : List ℕ) → Accepts (λ _ next. Keeps partWrong partSide p next) (moverPartStep p q list)
   pub joint : (d : Data) (m : Mover) (t : Tape) → dataWrong d ≡ false → moverWrong m t ≡ false
@@ -86,3 +88,4 @@ pub record Promises : Type 0 where
   pub reads : ReadRules
   pub endless : EndlessRules
   pub tcp : TcpRules
+  pub environment : EnvironmentRules

@@ -102,8 +102,8 @@ pub record TcpListens : Type 0 where
   pub unready : (m : Mover) (t : Tape) (mode : ℕ) (wrong : Bool) → (first (joinTests m t mode false) ≡ 0 → ⊥)
       → (first (joinTests m t mode false) ≡ illegalArguments → ⊥) → first (joinTests m t mode wrong) ≡ first (joinTests m t mode false)
   -- no other request looks at the list
-  pub source-others : (d : Data) (q : DataRequest) (body list other : List ℕ) → ((address : ℕ) → q ≡ DataRequest.Listen address → ⊥)
-      → dataStep d q body list ≡ dataStep d q body other
+  pub source-others : (d : Data) (q : DataRequest) (body list other variables : List ℕ) → ((address : ℕ) → q ≡ DataRequest.Listen address → ⊥)
+      → dataStep d q body list variables ≡ dataStep d q body other variables
   pub mover-others : (m : Mover) (t : Tape) (q : MoverRequest) (list other : List ℕ) → ((mode address : ℕ) → q ≡ MoverRequest.Listen mode address → ⊥)
       → moverStep m t q list ≡ moverStep m t q other
   -- by LOCAL it is not looked at, and LOCAL is answered
