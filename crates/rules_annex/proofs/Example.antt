@@ -9,6 +9,8 @@ use Rattle.xdr_opaque.specs.Put.{opaque}
 use Rattle.tape_image.specs.Image.{headerOk, tableOk, isSound, faulty, withEntry, entryBytes}
 use Rattle.tape_writing.specs.Writing.{kept, roomFor, written, fillTo}
 use Rattle.tape_ops.specs.Operations.{writeStep, mtioStep}
+use Rattle.wire_pairs.specs.Pairs.{textIn, behind, pairsFrom}
+use Rattle.wire_pairs.specs.Store.{pairWords, pairTexts, storeBytes, storing, textBytes, fits, emptied}
 use Rattle.wire_frame.specs.Frame.{wellFramed, recordBytes}
 use Rattle.wire_frame.specs.Messages.{look, rowOf}
 use Rattle.wire_layouts.specs.Layout as layout
@@ -16,9 +18,9 @@ use Rattle.wire_layouts.specs.Scans.{put, puts, summed, scanned}
 use Rattle.wire_layouts.specs.AddressLists.{isTcp}
 use Rattle.wire_requests.specs.Bodies.{decoded, connectBody, tapeBody, dataBody, moverBody, jointBody}
 use Rattle.wire_replies.specs.Replies.{opaques, bodyBytes, shapeOf, headerError, replyBytes}
-use Rattle.rules.specs.Answer.{guarded, noticed, outcome, needsLogin, isLocked, verdict, isUnread, refusing, settled, isClose, judged, requested, answered}
+use Rattle.rules.specs.Answer.{guarded, roomOf, noticed, outcome, needsLogin, isLocked, verdict, isUnread, refusing, settled, isClose, judged, requested, answered}
 use Rattle.rules.specs.Connection.{connectOpen, matches, clientAuth, connectStep}
-use Rattle.rules.specs.DataService.{dump, dataStart, dataStop, dataStep}
+use Rattle.rules.specs.DataService.{dump, dataStart, dataStop, dataStep, variablesAfter, dataShown}
 use Rattle.rules.specs.Addresses.{listening, unmet}
 use Rattle.rules.specs.Joint.{moverAwaits, dataConnect, jointStep}
 use Rattle.rules.specs.Judge.{judge, onto, isAccepted}
@@ -48,6 +50,7 @@ unfolding
     outside seekFrom amount reading onFound seeking fromTape step runs isHeard moverAsked dataAsked jointAsked asked moveShown seen trace recordsIn sum
     padding filledUp handedOver moverNote note noted askedAfter endAfter call blank
     dataPartnered moverPartnered addressWrong listening unmet moverAwaits isTcp fedBy haltsWith untouched asideRequest aside asides atSize lasts backs inTurn recovers
+    roomOf variablesAfter dataShown textIn behind pairsFrom pairWords pairTexts storeBytes storing textBytes fits emptied
 example-holds =
     record {
       trip = record {

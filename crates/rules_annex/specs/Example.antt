@@ -14,6 +14,7 @@ use Rattle.rules_parts.specs.Names.{toTapeMode, fromTapeMode, readWrite, endles
 use Rattle.rules.specs.Answer.{Kept, held}
 use Rattle.rules.specs.Order.{Call}
 use Rattle.rules.specs.Calls.{openedSession}
+use Rattle.rules_moves.specs.Cases.{noVariables}
 use Rattle.rules_moves.specs.Sequence.{Event, Asked, ToTape, FromTape, runs}
 use Rattle.rules_moves.specs.Cases.{lending}
 use Rattle.rules_moves.specs.Counts.{trace, recordsIn, sum}
@@ -48,7 +49,7 @@ unfoldable pub blank : List ℕ
 blank = be32s (1 ∷ 4 ∷ 0 ∷ 0 ∷ []) ++ replicate 48 0
 
 abbrev pub started : Kept
-started = held openedSession blank
+started = held openedSession blank noVariables
 
 -- ---- the backup: open, auth, tape open for writing, set record size 4; window (0, 8), listen, connect, start; two records, EOW; from 8 on
 -- a window with no end, continue; a tape write, which is refused; the last two bytes; the end

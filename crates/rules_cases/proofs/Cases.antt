@@ -9,6 +9,8 @@ use Rattle.tape_image.specs.Place.{marksBefore, recordsSince}
 use Rattle.tape_spacing.specs.Spacing.{aheadOf, passes, positionAfter, leftAfter, stops, walk, spacing}
 use Rattle.tape_writing.specs.Writing.{kept, roomFor, written, fillTo}
 use Rattle.tape_ops.specs.Operations.{mtioStep, standingAt}
+use Rattle.wire_pairs.specs.Pairs.{textIn, behind, pairsFrom, separatorName, separator, isNamed, withSeparator, textsOf}
+use Rattle.wire_pairs.specs.Store.{pairWords, pairTexts, storeBytes, storing, textBytes, fits, emptied, laidFrom, isLaid, keptFrom, keptPairs, environmentOf}
 use Rattle.wire_frame.specs.Frame.{wellFramed, recordBytes}
 use Rattle.wire_frame.specs.Messages.{look, rowOf}
 use Rattle.wire_layouts.specs.Layout as layout
@@ -16,12 +18,12 @@ use Rattle.wire_layouts.specs.Scans.{put, puts, summed, scanned}
 use Rattle.wire_layouts.specs.AddressLists.{isTcp, lendable}
 use Rattle.wire_requests.specs.Bodies.{decoded, connectBody, configBody, tapeBody, dataBody, moverBody, jointBody}
 use Rattle.wire_replies.specs.Replies.{opaques, bodyBytes, addressWords, shapeOf, headerError, replyBytes, noticeNumber, noticeWords, noticeBytes}
-use Rattle.rules.specs.Answer.{guarded, noticed, outcome, needsLogin, isLocked, verdict, isUnread, refusing, settled, isClose, judged, requested, answered}
+use Rattle.rules.specs.Answer.{guarded, roomOf, noticed, outcome, needsLogin, isLocked, verdict, isUnread, refusing, settled, isClose, judged, requested, answered}
 use Rattle.rules.specs.Calls.{opening}
 use Rattle.rules.specs.Connection.{connectOpen, matches, clientAuth, connectStep, configStep}
 use Rattle.rules.specs.Addresses.{listening, unmet}
-use Rattle.rules.specs.DataService.{dump, dataListen, dataStart, dataState, dataStop, dataStep}
-use Rattle.rules.specs.Joint.{dataAwaits, moverAwaits, dataConnect, moverConnect, atRest, moverAborted, moverAbort, moverClosed, moverClose, jointStep}
+use Rattle.rules.specs.DataService.{dump, dataListen, dataStart, dataState, hasRun, dataEnvironment, dataStop, dataStep, variablesAfter, dataShown}
+use Rattle.rules.specs.Joint.{dataAwaits, moverAwaits, dataConnect, moverConnect, atRest, dataAborted, dataAbort, moverAborted, moverAbort, moverClosed, moverClose, jointStep}
 use Rattle.rules.specs.Judge.{judge, onto}
 use Rattle.rules.specs.MoverService.{recordNumber, moverState, offsetWrong, moverListen, moverContinue, moverStop, busy, elsewhere}
 use Rattle.rules.specs.MoverService.{setWindow, moverRead, setSize, moverStep}
@@ -34,9 +36,10 @@ use Rattle.rules_moves.specs.Events.{movedToTape, movedFromTape, methodEnded, c
 use Rattle.rules_cases.specs.Examples.{ExamplesHold}
 use Rattle.rules_cases.specs.FirstSizeCases.{FirstSizeCasesHold}
 use Rattle.rules_cases.specs.EndlessCases.{EndlessCasesHold}
+use Rattle.rules_cases.specs.EnvironmentCases.{storeAfter, EnvironmentCasesHold}
 use Rattle.rules_moves.specs.Moves.{idle, streamEnds, scant, windowUsed, filling, toTape, outside, seekFrom, amount, reading, onFound, seeking, fromTape, methodEnd, fedBy, haltsWith, atTcp, madeAt, lostAt}
 
-pub cases-hold : ExamplesHold × FirstSizeCasesHold × EndlessCasesHold
+pub cases-hold : ExamplesHold × FirstSizeCasesHold × EndlessCasesHold × EnvironmentCasesHold
 unfolding
     choose allOf be32 be32s word be64 hyper overlay sameBytes allZero opaqueAt opaque
     entryBytes headerOk tableOk isSound faulty marksBefore recordsSince aheadOf passes positionAfter leftAfter stops walk spacing
@@ -50,11 +53,14 @@ unfolding
     numbersWrong windowWrong startWrong holdWrong strays resumeWrong placeWrong originWrong moverWrong sameFlag keeps tape0
     tapeOpen isRefusal protects tapeState tapeMtio deviceStep tapeStep moverPartStep movedToTape movedFromTape methodEnded wordsBytes
     wire wide runLine runCase notices expect streamed idle streamEnds scant windowUsed filling toTape outside seekFrom amount reading onFound
-    seeking fromTape methodEnd moverConnect atRest moverAborted moverAbort moverClosed dataAwaits moverAwaits dataListen
+    seeking fromTape methodEnd moverConnect atRest dataAborted dataAbort moverAborted moverAbort moverClosed dataAwaits moverAwaits dataListen
     addressWrong dataPartnered moverPartnered listening unmet isTcp lendable addressWords configBody configStep fedBy haltsWith atTcp madeAt lostAt
     connectionMade connectionLost
+    roomOf variablesAfter dataShown hasRun dataEnvironment textIn behind pairsFrom separatorName separator isNamed withSeparator textsOf
+    pairWords pairTexts storeBytes storing textBytes fits emptied laidFrom isLaid keptFrom keptPairs environmentOf storeAfter
 cases-hold = (
   refl,
   record { fresh = refl; handed-in = refl },
   record { cases = refl; legal = (refl, refl); record-more = refl; empty-part = refl; short-part = refl; stream-over = refl },
+  record { cases = refl; lent-rubbish = refl; lent-a-pair = refl; kept = refl; emptied = refl },
 )

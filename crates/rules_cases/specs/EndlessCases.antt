@@ -12,7 +12,7 @@ use Rattle.rules.specs.Answer.{held}
 use Rattle.rules_moves.specs.Cases.{CaseLine, Feed, Fetch, Case, Final, runCase, expect, allPlayed, allWanted, toTapeMode, fromTapeMode, noMode, eom, eof, seek, eow}
 use Rattle.rules_moves.specs.Cases.{connectClosed, successful, backupRuns, fsr, login, sizeLine, windowLine, openTape, listen, connectLine, startBackup, startRecover}
 use Rattle.rules_moves.specs.Cases.{read, continueLine, pauseNotices, haltNotices, moverIdleWords, active, pausedFor, haltedFor, counts, reads, windowWords, moverIs, dataActiveWords, dataHaltedFor, dataIs}
-use Rattle.rules_moves.specs.Cases.{streamed, cartridge}
+use Rattle.rules_moves.specs.Cases.{noVariables, streamed, cartridge}
 use Rattle.rules_cases.specs.Examples.{prepared, blank, asking, streaming, threeRecords}
 use Rattle.rules_moves.specs.RecoverCases.{full, recovering, recoverCase, small, twoRecords, backingUp, backupCase}
 
@@ -132,7 +132,7 @@ nearTop moved =
     }
 
 abbrev pub ranNear : ℕ → List CaseLine → Final
-ranNear moved lines = runCase (record { kept = held (nearTop moved) blank; stream = streamed 2048 0 }) lines
+ranNear moved lines = runCase (record { kept = held (nearTop moved) blank noVariables; stream = streamed 2048 0 }) lines
 
 abbrev pub wantedNear : List CaseLine → List ℕ → ℕ → Final
 wantedNear lines last position = record { shown = expect 9 lines; image = last; position = position }

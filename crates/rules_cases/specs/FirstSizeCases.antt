@@ -9,7 +9,7 @@ use Rattle.rules.specs.Answer.{held}
 use Rattle.rules.specs.Calls.{openedSession}
 use Rattle.rules_moves.specs.Cases.{CaseLine, Ask, Feed, Case, Final, tell, allPlayed, allWanted, runCase, expect, toTapeMode, fromTapeMode, noMode, connectClosed, successful}
 use Rattle.rules_moves.specs.Cases.{says, login, sizeLine, windowLine, openTape, listen, connectLine, startBackup, stopMover, stopData, haltNotices}
-use Rattle.rules_moves.specs.Cases.{moverIdleWords, active, counts, reads, windowWords, moverIs, streamed, cartridge}
+use Rattle.rules_moves.specs.Cases.{noVariables, moverIdleWords, active, counts, reads, windowWords, moverIs, streamed, cartridge}
 use Rattle.rules_cases.specs.Examples.{blank}
 use Rattle.rules_moves.specs.FirstSize.{unsized}
 
@@ -70,7 +70,7 @@ unsizedLines =
     ∷ sizeLine 1024 ∷ windowLine 0 1024 0 ∷ listen toTapeMode 0 ∷ [])
 
 abbrev pub unsizedPlayed : Final
-unsizedPlayed = runCase (record { kept = held (unsized openedSession) blank; stream = [] }) unsizedLines
+unsizedPlayed = runCase (record { kept = held (unsized openedSession) blank noVariables; stream = [] }) unsizedLines
 
 abbrev pub unsizedWanted : Final
 unsizedWanted = record { shown = expect 2 unsizedLines; image = blank; position = 0 }

@@ -1,3 +1,4 @@
 pub mod Examples
 pub mod EndlessCases
 pub mod FirstSizeCases
+pub mod EnvironmentCases

@@ -1,7 +1,8 @@
-// Cases of whole sessions, computed: the examples of paper 01 and two more lists. They keep the definitions of requests and moves to the papers; what holds of
+// Cases of whole sessions, computed: the examples of paper 01 and three more lists. They keep the definitions of requests and moves to the papers; what holds of
 // moves, and the cases that try each wrong definition of one, are in `rules_moves`.
 ghost use Rattle.rules_cases.specs.Examples.{ExamplesHold};
 ghost use Rattle.rules_cases.specs.EndlessCases.{EndlessCasesHold};
+ghost use Rattle.rules_cases.specs.EnvironmentCases.{EnvironmentCasesHold};
 ghost use Rattle.rules_cases.specs.FirstSizeCases.{FirstSizeCasesHold};
 
 // No work: its contract is the examples of paper 01, cases a to j in one statement.
@@ -17,4 +18,9 @@ pub fn endless_cases_hold()
 // No work: its contract is a list of cases of the first record size, and of one that is 0, in one statement.
 pub fn first_size_cases_hold()
     ensures { λ r. ⌜ FirstSizeCasesHold ⌝ }
+{}
+
+// No work: its contract is a list of cases of the environment, in one statement.
+pub fn environment_cases_hold()
+    ensures { λ r. ⌜ EnvironmentCasesHold ⌝ }
 {}

@@ -26,7 +26,7 @@ use Rattle.rules_parts.specs.Parts.{restData, dataJoined, moverJoined, dataPart
 use Rattle.rules_parts.proofs.Addressing.{tcp-right, source-alone, mover-alone, mover-joined}
 use Rattle.rules.specs.declared.Ends.{Ends}
 use Rattle.rules.specs.Judge.{Outcome, Accepts, onto}
-use Rattle.rules.specs.DataService.{dataState, dataListen, dataStart, dataStop, dataStep}
+use Rattle.rules.specs.DataService.{dataState, dataListen, dataStart, dataEnvironment, dataStop, dataStep}
 use Rattle.rules.specs.Joint.{dataConnect, moverConnect, dataAborted, dataAbort, moverAborted, moverAbort, moverClosed, moverClose, jointStep}
 use Rattle.rules.specs.TapeService.{withMover, moverPartStep}
 use Rattle.rules.specs.Relation.{dataWrong, keeps, MoverKept}
@@ -41,7 +41,7 @@ use Rattle.rules_moves.specs.declared.Move.{Move}
 use Rattle.rules_moves.specs.declared.Found.{Found}
 use Rattle.rules_moves.specs.Moves.{idle, haltsWith, fedBy, filling, toTape, Handing, untouched, reading, onFound, sought, seeking, fromTape, methodEnd, madeAt, lostAt}
 use Rattle.rules_moves.specs.Events.{Moving, announced, movedToTape, movedFromTape, methodEnded, connectionMade, connectionLost}
-use Rattle.rules_moves.specs.Sequence.{Event, Asked, ToTape, FromTape, Ended, Made, Lost, Inserted, Renumbered, step, runs}
+use Rattle.rules_moves.specs.Sequence.{Event, Asked, ToTape, FromTape, Ended, Made, Lost, Inserted, Renumbered, StoreLent, step, runs}
 use Rattle.rules_moves.specs.FirstSize.{afterOpen}
 use Rattle.rules_moves.specs.Apart.{jointOfMover, MoverAsks, SourceAsks, OfMover, OfSource, MoverAlong, SourceAlong, StaysTcp, MoverLeft, TcpApart}
 use Rattle.rules_moves.proofs.Sequence.{announced-carries, parts-kept, stepped}
@@ -192,8 +192,8 @@ module _ (w : Kept) (h : keeps (w .session) ≡ true) (l : Lent) (r : List ℕ) 
   asks-left : (q : Request) → SourceAsks q → w .session .source .address ≡ 1 → Accepts (λ _ (d : Done). LeftBy (d .kept)) (outcome w l r q)
   unfolding outcome LeftBy
   asks-left (Request.Data q) o a =
-      carried (λ _ (d : Done). LeftBy (d .kept)) (withData w (l .addresses)) _
-      (accepts-any (λ _ p. LeftBy (withData w (l .addresses) p .kept)) (λ _ _. record { mover = refl; tape = refl; image = refl }) _)
+      carried (λ _ (d : Done). LeftBy (d .kept)) (withData w q (bodyOf r) (l .addresses)) _
+      (accepts-any (λ _ p. LeftBy (withData w q (bodyOf r) (l .addresses) p .kept)) (λ _ _. record { mover = refl; tape = refl; image = refl }) _)
   asks-left (Request.Joint q) o a =
       carried (λ _ (d : Done). LeftBy (d .kept)) (withEnds w) _
       (accepts-map (λ _ (e : Ends). e .mover ≡ w .session .mover) (λ _ e. LeftBy (withEnds w e .kept)) (λ _ _ z. record { mover = z; tape = refl; image = refl }) _
@@ -239,6 +239,7 @@ step-source w h (Lost l false) o a = clash false refl o
 step-source w h (Ended l ok) o a = absurd o
 step-source w h (Inserted image) o a = absurd o
 step-source w h (Renumbered n) o a = absurd o
+step-source w h (StoreLent variables) o a = absurd o
 
 -- an announced move that leaves mover and tape
 announced-left : (w : Kept) (l : Lent) (mv : Move) → Left (w .session .source) (w .session .mover) (w .session .tape) mv
@@ -260,6 +261,7 @@ step-left w h (ToTape l stream last) o a = absurd o
 step-left w h (FromTape l dest) o a = absurd o
 step-left w h (Inserted image) o a = absurd o
 step-left w h (Renumbered n) o a = absurd o
+step-left w h (StoreLent variables) o a = absurd o
 
 -- ---- calls one after the other
 source-left : (w : Kept) → keeps (w .session) ≡ true → (es : List Event) → MoverAlong w es → runs w es .session .source ≡ w .session .source
@@ -333,13 +335,14 @@ module _ (w : Kept) (l : Lent) (r : List ℕ) where
   Count : Kept → Type 0
   Count v = Keeps (v .session .source)
 
-  data-counted : (q : DataRequest) (body list : List ℕ) → Accepts (λ _ d. Keeps d) (dataStep (w .session .source) q body list)
-  unfolding dataStep dataState dataListen dataStart dataStop
-  data-counted DataRequest.State body list = accepts (λ _ d. Keeps d) _ _ _ (λ _ _. refl)
-  data-counted (DataRequest.Backup name) body list = accepts (λ _ d. Keeps d) _ _ _ (λ _ _. refl)
-  data-counted (DataRequest.Recover name) body list = accepts (λ _ d. Keeps d) _ _ _ (λ _ _. refl)
-  data-counted DataRequest.Stop body list = accepts (λ _ d. Keeps d) _ _ _ (λ _ e. absurd (omega (arith, e)))
-  data-counted (DataRequest.Listen address) body list = accepts (λ _ d. Keeps d) _ _ _ (λ _ _. refl)
+  data-counted : (q : DataRequest) (body list variables : List ℕ) → Accepts (λ _ d. Keeps d) (dataStep (w .session .source) q body list variables)
+  unfolding dataStep dataState dataListen dataStart dataEnvironment dataStop
+  data-counted DataRequest.State body list variables = accepts (λ _ d. Keeps d) _ _ _ (λ _ _. refl)
+  data-counted (DataRequest.Backup name pairs) body list variables = accepts (λ _ d. Keeps d) _ _ _ (λ _ _. refl)
+  data-counted (DataRequest.Recover name pairs) body list variables = accepts (λ _ d. Keeps d) _ _ _ (λ _ _. refl)
+  data-counted DataRequest.Environment body list variables = accepts (λ _ d. Keeps d) _ _ _ (λ _ _. refl)
+  data-counted DataRequest.Stop body list variables = accepts (λ _ d. Keeps d) _ _ _ (λ _ e. absurd (omega (arith, e)))
+  data-counted (DataRequest.Listen address) body list variables = accepts (λ _ d. Keeps d) _ _ _ (λ _ _. refl)
 
   abbrev EndsKeep : Ends → Type 0
   EndsKeep e = Keeps (e .source)
@@ -365,7 +368,7 @@ module _ (w : Kept) (l : Lent) (r : List ℕ) where
   outcome-counted (Request.Scsi q) = off-source (withChanger w) (λ _ _. refl) _
   outcome-counted (Request.Tape q) = off-source (withTape w) (λ _ _. refl) _
   outcome-counted (Request.Mover q) = off-source (withPart w (l .addresses)) (λ _ _. refl) _
-  outcome-counted (Request.Data q) = carried (λ _ (d : Done). Count (d .kept)) (withData w (l .addresses)) _ (data-counted q (bodyOf r) (l .addresses))
+  outcome-counted (Request.Data q) = carried (λ _ (d : Done). Count (d .kept)) (withData w q (bodyOf r) (l .addresses)) _ (data-counted q (bodyOf r) (l .addresses) (w .variables))
   outcome-counted (Request.Joint q) = carried (λ _ (d : Done). Count (d .kept)) (withEnds w) _ (joint-counted q)
 
   asked-counted : Count (answered w l r .next)
@@ -400,6 +403,7 @@ step-counted w h (Made l mover) a b = announced-counted w l (madeAt mover (w .se
 step-counted w h (Lost l mover) a b = announced-counted w l (lostAt mover (w .session .source) (w .session .mover) (w .session .tape)) (lost-counted (w .session .source) (w .session .mover) (w .session .tape) mover)
 step-counted w h (Inserted image) a b = refl
 step-counted w h (Renumbered n) a b = refl
+step-counted w h (StoreLent variables) a b = refl
 
 still-tcp : (w : Kept) (es : List Event) → StaysTcp w es → w .session .source .address ≡ 1
 still-tcp w [] s = s
@@ -526,13 +530,14 @@ module _ (d : Data) (m : Mover) (t : Tape) (k : PartsKept d m t) (p : dataPartne
 
 -- requests
 module _ (w : Kept) (l : Lent) (r : List ℕ) (z : Zero (w .session .source)) where
-  data-zero : (q : DataRequest) (body list : List ℕ) → Accepts (λ _ d. Zero d) (dataStep (w .session .source) q body list)
-  unfolding dataStep dataState dataListen dataStart dataStop
-  data-zero DataRequest.State body list = accepts (λ _ d. Zero d) _ _ _ (λ _. z)
-  data-zero (DataRequest.Backup name) body list = accepts (λ _ d. Zero d) _ _ _ (λ _. record { rest = λ s. absurd (omega (arith, s)); tcp = z .tcp })
-  data-zero (DataRequest.Recover name) body list = accepts (λ _ d. Zero d) _ _ _ (λ _. record { rest = λ s. absurd (omega (arith, s)); tcp = z .tcp })
-  data-zero DataRequest.Stop body list = accepts (λ _ d. Zero d) _ _ _ (λ _. record { rest = λ _. refl; tcp = λ _. refl })
-  data-zero (DataRequest.Listen address) body list =
+  data-zero : (q : DataRequest) (body list variables : List ℕ) → Accepts (λ _ d. Zero d) (dataStep (w .session .source) q body list variables)
+  unfolding dataStep dataState dataListen dataStart dataEnvironment dataStop
+  data-zero DataRequest.State body list variables = accepts (λ _ d. Zero d) _ _ _ (λ _. z)
+  data-zero (DataRequest.Backup name pairs) body list variables = accepts (λ _ d. Zero d) _ _ _ (λ _. record { rest = λ s. absurd (omega (arith, s)); tcp = z .tcp })
+  data-zero (DataRequest.Recover name pairs) body list variables = accepts (λ _ d. Zero d) _ _ _ (λ _. record { rest = λ s. absurd (omega (arith, s)); tcp = z .tcp })
+  data-zero DataRequest.Environment body list variables = accepts (λ _ d. Zero d) _ _ _ (λ _. z)
+  data-zero DataRequest.Stop body list variables = accepts (λ _ d. Zero d) _ _ _ (λ _. record { rest = λ _. refl; tcp = λ _. refl })
+  data-zero (DataRequest.Listen address) body list variables =
       accepts (λ _ d. Zero d) _ _ _ (λ g. record { rest = λ s. absurd (omega (arith, s)); tcp = λ _. z .rest (is (g 0)) })
 
   ZeroEnds : Ends → Type 0
@@ -571,7 +576,7 @@ module _ (w : Kept) (l : Lent) (r : List ℕ) (z : Zero (w .session .source)) wh
   outcome-zero (Request.Scsi q) = off-zero (withChanger w) (λ _. z) _
   outcome-zero (Request.Tape q) = off-zero (withTape w) (λ _. z) _
   outcome-zero (Request.Mover q) = off-zero (withPart w (l .addresses)) (λ _. z) _
-  outcome-zero (Request.Data q) = carried (λ _ (d : Done). ZeroKept (d .kept)) (withData w (l .addresses)) _ (data-zero q (bodyOf r) (l .addresses))
+  outcome-zero (Request.Data q) = carried (λ _ (d : Done). ZeroKept (d .kept)) (withData w q (bodyOf r) (l .addresses)) _ (data-zero q (bodyOf r) (l .addresses) (w .variables))
   outcome-zero (Request.Joint q) = carried (λ _ (d : Done). ZeroKept (d .kept)) (withEnds w) _ (joint-zero q)
 
   asked-zero : Zero (answered w l r .next .session .source)
@@ -609,6 +614,7 @@ step-zero w h (Lost l mover) z =
     announced-zero w l (lostAt mover (w .session .source) (w .session .mover) (w .session .tape)) z (lost-zero (w .session .source) (w .session .mover) (w .session .tape) z mover)
 step-zero w h (Inserted image) z = z
 step-zero w h (Renumbered n) z = z
+step-zero w h (StoreLent variables) z = z
 
 runs-zero : (w : Kept) → keeps (w .session) ≡ true → (es : List Event) → Zero (w .session .source) → Zero (runs w es .session .source)
 unfolding runs
@@ -626,11 +632,11 @@ fresh time room =
     by-test (λ (a : Answered). Fresh (a .next .session)) (ltb room 36864) _ _ (λ _. record { kept = calls-keep .opened; zero = z })
     (λ _. record { kept = calls-keep .opened; zero = z })
 
-zero : (time room : ℕ) (image : List ℕ) (es : List Event) → afterOpen time room image es .session .source .address ≡ 1
-    → afterOpen time room image es .session .source .processed ≡ 0
-zero time room image es =
+zero : (time room : ℕ) (image variables : List ℕ) (es : List Event) → afterOpen time room image variables es .session .source .address ≡ 1
+    → afterOpen time room image variables es .session .source .processed ≡ 0
+zero time room image variables es =
     let f = fresh time room in
-    runs-zero (held (opening time room .next .session) image) (f .kept) es (f .zero) .tcp
+    runs-zero (held (opening time room .next .session) image variables) (f .kept) es (f .zero) .tcp
 
 pub tcp-apart : TcpApart
 tcp-apart = record { source-left = source-left; mover-left = mover-left; uncounted = uncounted; zero = zero }

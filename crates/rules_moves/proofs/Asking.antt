@@ -27,12 +27,12 @@ use Rattle.rules.specs.declared.Ends.{Ends}
 use Rattle.rules_parts.specs.Names.{leastRoom}
 use Rattle.rules.specs.Judge.{Outcome, refuse, accept, onto, isAccepted, Accepts}
 use Rattle.rules_parts.specs.Parts.{dataTo, moverRuns, addressWrong, afterMessage, shut}
-use Rattle.rules.specs.DataService.{dataState, dataListen, dataStart, dataStop, dataStep}
+use Rattle.rules.specs.DataService.{dataState, dataListen, dataStart, dataEnvironment, dataStop, dataStep}
 use Rattle.rules.specs.MoverService.{moverState, moverListen, moverContinue, moverStop, setWindow, moverRead, setSize, moverStep}
 use Rattle.rules.specs.TapeService.{withLoaded, withMover, moverPartStep, tapeStep}
 use Rattle.rules.specs.Joint.{moverAwaits, dataConnect, moverConnect, dataAborted, dataAbort, moverAborted, moverAbort, moverClosed, moverClose, jointStep}
 use Rattle.rules.specs.Relation.{keeps}
-use Rattle.rules.specs.Answer.{Kept, Lent, held, Answered, guarded, answered, requested, judged, isClose, settled, verdict, outcome, closing}
+use Rattle.rules.specs.Answer.{roomOf, Kept, Lent, held, Answered, guarded, answered, requested, judged, isClose, settled, verdict, outcome, closing}
 use Rattle.rules.specs.Answer.{Done, tapePart, withData, withPart, withTape, withChanger, withLogin, withEnds, requestIn}
 use Rattle.rules.proofs.Keeping.{clash, met}
 use Rattle.rules.proofs.JudgeLaws.{judged-by, accepts, accepts-any, refusal-says, carried}
@@ -76,13 +76,14 @@ module _ (d : Data) (m : Mover) where
   DataShown : Seen → Reply → Data → Type 0
   DataShown x _ e = Shown x e m
 
-  data-shown : (q : DataRequest) (body list : List ℕ) → Accepts (DataShown (dataAsked q)) (dataStep d q body list)
-  unfolding dataStep dataState dataListen dataStart dataStop dataAsked after DataShown Shown
-  data-shown DataRequest.State body list = accepts (DataShown Nothing) _ _ _ (λ _. (refl, tt))
-  data-shown (DataRequest.Backup name) body list = accepts (DataShown Nothing) _ _ _ (λ _. (refl, tt))
-  data-shown (DataRequest.Recover name) body list = accepts (DataShown Nothing) _ _ _ (λ _. (refl, tt))
-  data-shown DataRequest.Stop body list = accepts (DataShown DataStopped) _ _ _ (λ _. (refl, tt))
-  data-shown (DataRequest.Listen address) body list = accepts (DataShown Nothing) _ _ _ (λ _. (refl, tt))
+  data-shown : (q : DataRequest) (body list variables : List ℕ) → Accepts (DataShown (dataAsked q)) (dataStep d q body list variables)
+  unfolding dataStep dataState dataListen dataStart dataEnvironment dataStop dataAsked after DataShown Shown
+  data-shown DataRequest.State body list variables = accepts (DataShown Nothing) _ _ _ (λ _. (refl, tt))
+  data-shown (DataRequest.Backup name pairs) body list variables = accepts (DataShown Nothing) _ _ _ (λ _. (refl, tt))
+  data-shown (DataRequest.Recover name pairs) body list variables = accepts (DataShown Nothing) _ _ _ (λ _. (refl, tt))
+  data-shown DataRequest.Environment body list variables = accepts (DataShown Nothing) _ _ _ (λ _. (refl, tt))
+  data-shown DataRequest.Stop body list variables = accepts (DataShown DataStopped) _ _ _ (λ _. (refl, tt))
+  data-shown (DataRequest.Listen address) body list variables = accepts (DataShown Nothing) _ _ _ (λ _. (refl, tt))
 
   EndsShown : Seen → Reply → Ends → Type 0
   EndsShown x _ e = Shown x (e .source) (e .mover)
@@ -138,8 +139,8 @@ framed-two P false request skip close x a b c = b
 -- ---- what is noted of a call: of an accepted request what `note` says, of any other call nothing. What holds of the note and of what is
 -- passed on, where a request is accepted, holds of the call
 module _ {X : Type 0} (none : X) (note : Request → X) (k : Kept) (l : Lent) (r : List ℕ) (Left : X → Kept → Type 0)
-    (sends : (x : X) (n : Kept) (first : Bool) → Left x n → Left x (held (afterMessage (n .session) first) (n .image)))
-    (shuts : (x : X) (n : Kept) → Left x n → Left x (held (shut (n .session)) (n .image))) (still : Left none k) where
+    (sends : (x : X) (n : Kept) (first : Bool) → Left x n → Left x (held (afterMessage (n .session) first) (n .image) (n .variables)))
+    (shuts : (x : X) (n : Kept) → Left x n → Left x (held (shut (n .session)) (n .image) (n .variables))) (still : Left none k) where
   settled-noted : (x : X) (q : Request) (o : Outcome Done) → Accepts (λ _ d. Left x (d .kept)) o → Left (choose (isAccepted o) x none) (settled k (l .time) r q o .next)
   unfolding settled Accepts isAccepted choose
   settled-noted x q (refuse e) h = sends none k false still
@@ -173,7 +174,7 @@ module _ {X : Type 0} (none : X) (note : Request → X) (k : Kept) (l : Lent) (r
   unfolding answered requested isHeard HeardNoted choose
   call-noted close h =
       let P = HeardNoted (choose (isAccepted (verdict k l r (requestIn r))) (note (requestIn r)) none) in
-      by-two P (k .session) (l .room) _ _ _ _ (λ _. still)
+      by-two P (k .session) (roomOf k l) _ _ _ _ (λ _. still)
       (framed-two P (wellFramed r) (eqb (kindOf r) 0) _ _ _ still (shuts none k still) (judged-noted (requestIn r) close h))
 
 -- ---- a request call
@@ -200,7 +201,7 @@ module _ (k : Kept) (l : Lent) (r : List ℕ) where
       carried (DoneLeft Nothing) (withTape k) _ (carried (λ reply p. DoneLeft Nothing reply (withTape k p)) (withLoaded (tapePart k)) _
       (accepts-any (λ reply p. DoneLeft Nothing reply (withTape k (withLoaded (tapePart k) p))) (λ _ _. (refl, tt)) _))
   outcome-left (Request.Data q) =
-      carried (DoneLeft (dataAsked q)) (withData k (l .addresses)) _ (data-shown (k .session .source) (k .session .mover) q (bodyOf r) (l .addresses))
+      carried (DoneLeft (dataAsked q)) (withData k q (bodyOf r) (l .addresses)) _ (data-shown (k .session .source) (k .session .mover) q (bodyOf r) (l .addresses) (k .variables))
   outcome-left (Request.Mover q) =
       let x = moverAsked (k .session .tape .position) q in
       carried (DoneLeft x) (withPart k (l .addresses)) _ (carried (λ reply p. DoneLeft x reply (withPart k (l .addresses) p)) (withMover (tapePart k)) _

@@ -9,6 +9,8 @@ use Rattle.tape_image.specs.Place.{marksBefore, recordsSince}
 use Rattle.tape_spacing.specs.Spacing.{aheadOf, passes, positionAfter, leftAfter, stops, walk, spacing}
 use Rattle.tape_writing.specs.Writing.{kept, roomFor, written, fillTo}
 use Rattle.tape_ops.specs.Operations.{mtioStep, standingAt}
+use Rattle.wire_pairs.specs.Pairs.{textIn, behind, pairsFrom, separatorName, separator, isNamed, withSeparator, textsOf}
+use Rattle.wire_pairs.specs.Store.{pairWords, pairTexts, storeBytes, storing, textBytes, fits, emptied, laidFrom, isLaid, keptFrom, keptPairs, environmentOf}
 use Rattle.wire_frame.specs.Frame.{wellFramed, recordBytes}
 use Rattle.wire_frame.specs.Messages.{look, rowOf}
 use Rattle.wire_layouts.specs.Layout as layout
@@ -16,11 +18,11 @@ use Rattle.wire_layouts.specs.Scans.{put, puts, summed, scanned}
 use Rattle.wire_layouts.specs.AddressLists.{isTcp, lendable}
 use Rattle.wire_requests.specs.Bodies.{decoded, connectBody, configBody, tapeBody, dataBody, moverBody, jointBody}
 use Rattle.wire_replies.specs.Replies.{opaques, bodyBytes, addressWords, shapeOf, headerError, replyBytes, noticeNumber, noticeWords, noticeBytes}
-use Rattle.rules.specs.Answer.{guarded, noticed, outcome, needsLogin, isLocked, verdict, isUnread, refusing, settled, isClose, judged, requested, answered}
+use Rattle.rules.specs.Answer.{guarded, roomOf, noticed, outcome, needsLogin, isLocked, verdict, isUnread, refusing, settled, isClose, judged, requested, answered}
 use Rattle.rules.specs.Calls.{opening}
 use Rattle.rules.specs.Connection.{connectOpen, matches, clientAuth, connectStep, configStep}
 use Rattle.rules.specs.Addresses.{listening, unmet}
-use Rattle.rules.specs.DataService.{dump, dataListen, dataStart, dataState, dataStop, dataStep}
+use Rattle.rules.specs.DataService.{dump, dataListen, dataStart, dataState, hasRun, dataEnvironment, dataStop, dataStep, variablesAfter, dataShown}
 use Rattle.rules.specs.Joint.{dataAwaits, moverAwaits, dataConnect, moverConnect, atRest, moverAborted, moverAbort, moverClosed, moverClose, jointStep}
 use Rattle.rules.specs.Judge.{judge, onto}
 use Rattle.rules.specs.MoverService.{recordNumber, moverState, offsetWrong, moverListen, moverContinue, moverStop, busy, elsewhere}
@@ -52,4 +54,6 @@ unfolding
     seeking fromTape methodEnd moverConnect atRest moverAborted moverAbort moverClosed dataAwaits moverAwaits dataListen
     addressWrong dataPartnered moverPartnered listening unmet isTcp lendable addressWords configBody configStep fedBy haltsWith atTcp madeAt lostAt
     connectionMade connectionLost
+    roomOf variablesAfter dataShown hasRun dataEnvironment textIn behind pairsFrom separatorName separator isNamed withSeparator textsOf
+    pairWords pairTexts storeBytes storing textBytes fits emptied laidFrom isLaid keptFrom keptPairs environmentOf
 cases-hold = (refl, refl)

@@ -52,7 +52,7 @@ use Rattle.rules.proofs.Services.{one-of}
 use Rattle.rules.proofs.Calls.{by-call, kept-facts, facts-kept, calls-keep}
 use Rattle.rules.proofs.Leaving.{small-number, noticed-reply}
 use Rattle.rules.proofs.Numbers.{refusal-right}
-use Rattle.rules_moves.specs.Sequence.{Event, Asked, ToTape, FromTape, Ended, Made, Lost, Inserted, Renumbered, step, runs, isHeard, seen}
+use Rattle.rules_moves.specs.Sequence.{Event, Asked, ToTape, FromTape, Ended, Made, Lost, Inserted, Renumbered, StoreLent, step, runs, isHeard, seen}
 use Rattle.rules_moves.specs.Sequence.{Seen, Sized, Windowed, Sought, MoverStopped, DataStopped, Listened, Joined, Began, Paused, Wrote, Handed, Nothing}
 use Rattle.rules_moves.specs.Sequence.{Register, registerOf, after, moverAsked, dataAsked, jointAsked, asked}
 use Rattle.rules_moves.specs.FirstSize.{askingWindow, afterOpen, errorTold, Unready, no-window, inside, Cause, at-listen, at-connect, at-continue}
@@ -102,8 +102,9 @@ module _ (k : Kept) (l : Lent) (r : List ℕ) where
   unfolding dataAsked
   data-sizes DataRequest.Stop = tt
   data-sizes DataRequest.State = tt
-  data-sizes (DataRequest.Backup method) = tt
-  data-sizes (DataRequest.Recover method) = tt
+  data-sizes (DataRequest.Backup method pairs) = tt
+  data-sizes (DataRequest.Recover method pairs) = tt
+  data-sizes DataRequest.Environment = tt
   data-sizes (DataRequest.Listen address) = tt
 
   joint-sizes : (q : JointRequest) → Sizes (jointAsked (k .session .tape .position) q)
@@ -139,6 +140,7 @@ seen-sizes (Made l mover) w = by-made Sizes _ _ _ tt tt
 seen-sizes (Lost l mover) w = tt
 seen-sizes (Inserted image) w = tt
 seen-sizes (Renumbered n) w = tt
+seen-sizes (StoreLent variables) w = tt
 
 size-after : (r : Register) (x : Seen) → Sizes x → 1 ≤ r .size → 1 ≤ after r x .size
 unfolding after
@@ -175,15 +177,15 @@ fresh time room =
     by-test (λ (a : Answered). Fresh (a .next .session)) (ltb room 36864) _ _ (λ _. record { size = refl; kept = calls-keep .opened })
     (λ _. record { size = refl; kept = calls-keep .opened })
 
-some : (time room : ℕ) (image : List ℕ) (es : List Event) → 1 ≤ afterOpen time room image es .session .mover .size
-some time room image es =
+some : (time room : ℕ) (image variables : List ℕ) (es : List Event) → 1 ≤ afterOpen time room image variables es .session .mover .size
+some time room image variables es =
     let f = fresh time room in
     let n = f .size in
-    size-runs (held (opening time room .next .session) image) (f .kept) es (omega arith)
+    size-runs (held (opening time room .next .session) image variables) (f .kept) es (omega arith)
 
-most : (time room : ℕ) (image : List ℕ) (es : List Event) → afterOpen time room image es .session .mover .size ≤ 32768
-most time room image es =
-    let s = afterOpen time room image es .session in
+most : (time room : ℕ) (image variables : List ℕ) (es : List Event) → afterOpen time room image variables es .session .mover .size ≤ 32768
+most time room image variables es =
+    let s = afterOpen time room image variables es .session in
     mover-kept (s .mover) (s .tape) (kept-facts s (moves-keep .kept _ es (fresh time room .kept)) .mover) .sizes
 
 -- ---- what each test's number says, where it applies, a refusal says
@@ -481,7 +483,7 @@ handed-in : HandedIn
 handed-in =
     record {
       kept = unsized-kept;
-      never = λ s h i image l r z. calls-keep .never (held (unsized s) image) l r (unsized-kept s h i) z;
+      never = λ s h i image variables l r z. calls-keep .never (held (unsized s) image variables) l r (unsized-kept s h i) z;
       window = λ k l r offset length u e b. window-26 k l r u offset length e b;
       listen = λ k l r mode address u e j. listen-26 k l r u mode j address e;
       connect = λ k l r mode address count u e j. connect-26 k l r u mode j address count e;
@@ -493,7 +495,7 @@ first-size =
       first = λ time room. fresh time room .size;
       some = some;
       most = most;
-      causes = λ time room image es l r h z. explained (afterOpen time room image es) l r (some time room image es) h z;
-      windows = λ time room image es l r e z. never (afterOpen time room image es) l r (some time room image es) e z;
+      causes = λ time room image variables es l r h z. explained (afterOpen time room image variables es) l r (some time room image variables es) h z;
+      windows = λ time room image variables es l r e z. never (afterOpen time room image variables es) l r (some time room image variables es) e z;
       handed-in = handed-in;
     }

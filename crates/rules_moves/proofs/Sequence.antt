@@ -23,7 +23,7 @@ use Rattle.rules.proofs.Calls.{kept-facts, facts-kept, calls-keep}
 use Rattle.rules_moves.specs.declared.Move.{Move}
 use Rattle.rules_moves.specs.Moves.{Handing, toTape, fromTape, methodEnd, madeAt, lostAt}
 use Rattle.rules_moves.specs.Events.{Moving, idling, announced, moved, movedToTape, movedFromTape, methodEnded, connectionMade, connectionLost}
-use Rattle.rules_moves.specs.Sequence.{Event, Asked, ToTape, FromTape, Ended, Made, Lost, Inserted, Renumbered, renumbered, step, runs, Wrote, Handed, registerOf, after, FitsRegister, Legitimate}
+use Rattle.rules_moves.specs.Sequence.{Event, Asked, ToTape, FromTape, Ended, Made, Lost, Inserted, Renumbered, StoreLent, renumbered, step, runs, Wrote, Handed, registerOf, after, FitsRegister, Legitimate}
 use Rattle.rules_moves.specs.Sequence.{madeShown, toTapeShown, fromTapeShown, seen, imageAfter, destAfter, countOf, ToTapeLeaves, FromTapeLeaves, Leaves, Inside, finished, more, WindowHolds}
 use Rattle.rules_moves.specs.Keeping.{Idle, Guards, Sounds, MovesKeep}
 use Rattle.rules_moves.proofs.Asking.{asked-left}
@@ -254,11 +254,12 @@ stepped w h (Lost l mover) =
     let t = lost-call w h l mover in
     record { fits = tt; register = t .register; leaves = t .image-end; kept = t .kept; sound = λ k _. rw (t .image-end) k }
 stepped w h (Inserted image) = record { fits = tt; register = refl; leaves = tt; kept = h; sound = λ _ k. k }
+stepped w h (StoreLent variables) = record { fits = tt; register = refl; leaves = tt; kept = h; sound = λ k _. k }
 stepped w h (Renumbered n) =
     record {
       fits = tt;
       register = refl;
-      leaves = record { number = refl; closed = refl; first = refl; login = refl; source = refl; mover = refl; tape = refl; changer = refl; image = refl };
+      leaves = record { number = refl; closed = refl; first = refl; login = refl; source = refl; mover = refl; tape = refl; changer = refl; image = refl; variables = refl };
       kept = renumbered-kept n (w .session) h;
       sound = λ k _. k;
     }

@@ -5,6 +5,7 @@ use Prim.Native.Nat.{ℕ, zero, suc, _+_, _-_, _/_, _%_}
 use mathlib.Core.Bool.{Bool, false}
 use mathlib.Core.List.{List, [], _∷_, _++_}
 use lib.ListN.{length, take, drop, replicate}
+use Rattle.codes.specs.Codes.{storeLength}
 use Rattle.rules.specs.Answer.{Kept, Lent, held, Answered, answered}
 use Rattle.rules.specs.Calls.{opening}
 use Rattle.rules_moves.specs.Events.{Moving, movedToTape, movedFromTape, methodEnded, connectionMade, connectionLost}
@@ -102,6 +103,10 @@ moving e stream = record { shown = showing (e .answer) (e .count) (e .dest); wor
 abbrev pub echoed : ℕ
 echoed = 7
 
+-- the store that is lent: 16,384 zero bytes
+abbrev pub noVariables : List ℕ
+noVariables = replicate storeLength 0
+
 unfoldable pub runLine : World → CaseLine → Ran
 runLine w (Ask message body reply notices) = calling w (answered (w .kept) lending (wire echoed 5 0 message 0 body))
 runLine w (AskLent list made message body reply notices) =
@@ -115,7 +120,7 @@ runLine w (Fetch n handed notices) = moving (movedFromTape (w .kept) lending (un
 runLine w (End ok notices) = calling w (methodEnded (w .kept) lending ok)
 runLine w (Insert out image) =
     let k = w .kept in
-    record { shown = record { code = 0; sent = []; count = 0; dest = k .image }; world = record { kept = held (k .session) image; stream = w .stream } }
+    record { shown = record { code = 0; sent = []; count = 0; dest = k .image }; world = record { kept = held (k .session) image (k .variables); stream = w .stream } }
 
 unfoldable pub runCase : World → List CaseLine → Final
 runCase w [] = record { shown = []; image = w .kept .image; position = w .kept .session .tape .position }
@@ -127,7 +132,7 @@ runCase w (l ∷ ls) =
 abbrev pub played : Case → Final
 played c =
     let a = opening (lending .time) (lending .room) in
-    let r = runCase (record { kept = held (a .next .session) (c .image); stream = c .stream }) (c .lines) in
+    let r = runCase (record { kept = held (a .next .session) (c .image) noVariables; stream = c .stream }) (c .lines) in
     record { shown = showing a 0 [] ∷ r .shown; image = r .image; position = r .position }
 
 -- ---- what they should give. "The vault numbers what it sends from 1": n is the next number

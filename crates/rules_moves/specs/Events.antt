@@ -9,7 +9,8 @@ use Rattle.rules.specs.Answer.{Kept, Lent, held, Answered, silent, guarded, hal
 use Rattle.rules_moves.specs.declared.Move.{Move}
 use Rattle.rules_moves.specs.Moves.{toTape, fromTape, methodEnd, madeAt, lostAt}
 
--- what is lent with these calls: a time stamp and the length of the output. No account and no list is lent with a move, and none is looked at
+-- what is lent with these calls: a time stamp and the length of the output. No account, list or store is lent with a move, and none is looked at: the
+-- store stays
 abbrev pub stamped : ℕ → ℕ → Lent
 stamped time room = record { account = record { id = []; password = [] }; time = time; room = room; addresses = []; made = false }
 
@@ -29,7 +30,7 @@ abbrev pub announced : Kept → Lent → Move → List ℕ → Answered
 announced k l mv image =
     let s = k .session in
     noticed (l .time) (mv .pause) (Notice.MoverPaused (mv .pause) (mv .mover .seek))
-    (halting (l .time) (mv .dwhy) (mv .mwhy) (silent 0 (held (withParts s (s .login) (mv .source) (mv .mover) (mv .tape) (s .changer)) image)))
+    (halting (l .time) (mv .dwhy) (mv .mwhy) (silent 0 (held (withParts s (s .login) (mv .source) (mv .mover) (mv .tape) (s .changer)) image (k .variables))))
 
 abbrev pub moved : Kept → Lent → Move → List ℕ → List ℕ → Moving
 moved k l mv image dest = record { answer = announced k l mv image; count = mv .count; dest = dest }

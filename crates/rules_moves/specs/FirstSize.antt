@@ -25,9 +25,9 @@ use Rattle.rules.specs.Leaving.{authorized}
 use Rattle.rules_moves.specs.Sequence.{Event, runs}
 
 -- ---- from a fresh session
--- what is passed on after `open`, whatever it is lent, and any calls, with any image handed in first
-abbrev pub afterOpen : ℕ → ℕ → List ℕ → List Event → Kept
-afterOpen time room image es = runs (held (opening time room .next .session) image) es
+-- what is passed on after `open`, whatever it is lent, and any calls, with any image and store handed in first
+abbrev pub afterOpen : ℕ → ℕ → List ℕ → List ℕ → List Event → Kept
+afterOpen time room image variables es = runs (held (opening time room .next .session) image variables) es
 
 -- mover listen, continue, set window and mover connect: the requests of which a reply can have the number 26
 abbrev pub askingWindow : List ℕ
@@ -72,8 +72,8 @@ Gets26 k l r = answered k l r ≡ replying r (l .time) (refusedIn r precondition
 pub record HandedIn : Type 0 where
   -- it keeps the relation in IDLE, so that no call is refused with 1002
   pub kept : (s : Session) → keeps s ≡ true → s .mover .state ≡ moverIdle → keeps (unsized s) ≡ true
-  pub never : (s : Session) → keeps s ≡ true → s .mover .state ≡ moverIdle → (image : List ℕ) (l : Lent) (r : List ℕ)
-      → answered (held (unsized s) image) l r .code ≡ brokenSession → ⊥
+  pub never : (s : Session) → keeps s ≡ true → s .mover .state ≡ moverIdle → (image variables : List ℕ) (l : Lent) (r : List ℕ)
+      → answered (held (unsized s) image variables) l r .code ≡ brokenSession → ⊥
   pub window : (k : Kept) (l : Lent) (r : List ℕ) (offset length : ℕ) → Unsized k l r → requestIn r ≡ Request.Mover (MoverRequest.Window offset length)
       → busy (k .session .mover .state) ≡ false → Gets26 k l r
   pub listen : (k : Kept) (l : Lent) (r : List ℕ) (mode address : ℕ) → Unsized k l r → requestIn r ≡ Request.Mover (MoverRequest.Listen mode address)
@@ -84,12 +84,12 @@ pub record HandedIn : Type 0 where
 pub record FirstSize : Type 0 where
   pub first : (time room : ℕ) → opening time room .next .session .mover .size ≡ 10240
   -- after any calls the record size is one that set record size accepts
-  pub some : (time room : ℕ) (image : List ℕ) (es : List Event) → 1 ≤ afterOpen time room image es .session .mover .size
-  pub most : (time room : ℕ) (image : List ℕ) (es : List Event) → afterOpen time room image es .session .mover .size ≤ largestSize
+  pub some : (time room : ℕ) (image variables : List ℕ) (es : List Event) → 1 ≤ afterOpen time room image variables es .session .mover .size
+  pub most : (time room : ℕ) (image variables : List ℕ) (es : List Event) → afterOpen time room image variables es .session .mover .size ≤ largestSize
   -- and where a reply to one of those requests has the number 26, there is another cause
-  pub causes : (time room : ℕ) (image : List ℕ) (es : List Event) (l : Lent) (r : List ℕ) → isOneOf askingWindow (messageWord r) ≡ true
-      → let k = afterOpen time room image es in errorTold (answered k l r) ≡ precondition → Cause (k .session .mover) (requestIn r)
+  pub causes : (time room : ℕ) (image variables : List ℕ) (es : List Event) (l : Lent) (r : List ℕ) → isOneOf askingWindow (messageWord r) ≡ true
+      → let k = afterOpen time room image variables es in errorTold (answered k l r) ≡ precondition → Cause (k .session .mover) (requestIn r)
   -- so that no set window has it
-  pub windows : (time room : ℕ) (image : List ℕ) (es : List Event) (l : Lent) (r : List ℕ) → messageWord r ≡ 0xA05
-      → errorTold (answered (afterOpen time room image es) l r) ≡ precondition → ⊥
+  pub windows : (time room : ℕ) (image variables : List ℕ) (es : List Event) (l : Lent) (r : List ℕ) → messageWord r ≡ 0xA05
+      → errorTold (answered (afterOpen time room image variables es) l r) ≡ precondition → ⊥
   pub handed-in : HandedIn

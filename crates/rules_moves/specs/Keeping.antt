@@ -13,9 +13,9 @@ use Rattle.rules.specs.Relation.{keeps}
 use Rattle.rules.specs.Answer.{Kept, Lent}
 use Rattle.rules.specs.Calls.{Unmoved}
 use Rattle.rules_moves.specs.Events.{Moving, movedToTape, movedFromTape, methodEnded, connectionMade, connectionLost}
-use Rattle.rules_moves.specs.Sequence.{Event, Asked, ToTape, FromTape, Ended, Made, Lost, Inserted, Renumbered, runs}
+use Rattle.rules_moves.specs.Sequence.{Event, Asked, ToTape, FromTape, Ended, Made, Lost, Inserted, Renumbered, StoreLent, runs}
 
--- nothing is sent or moved, and session, image and destination are as they were
+-- nothing is sent or moved, and session, image, store and destination are as they were
 pub record Idle (k : Kept) (dest : List ℕ) (e : Moving) : Type 0 where
   pub answer : Unmoved k (e .answer)
   pub none : e .count ≡ 0
@@ -41,6 +41,7 @@ Sounds (Ended l ok) = Unit {0}
 Sounds (Made l mover) = Unit {0}
 Sounds (Lost l mover) = Unit {0}
 Sounds (Renumbered n) = Unit {0}
+Sounds (StoreLent variables) = Unit {0}
 
 pub record MovesKeep : Type 0 where
   pub to-tape : (k : Kept) (l : Lent) (stream : List ℕ) (last : Bool)

@@ -11,3 +11,4 @@ pub mod Apart
 pub mod TcpMoves
 pub mod FirstSize
 pub mod TcpCases
+pub mod StoreLeft

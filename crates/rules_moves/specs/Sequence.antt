@@ -1,4 +1,4 @@
--- What holds over any sequence of calls (demand 2): requests, moves, the method's end, connections made and lost, in any order, with any image handed to any of them,
+-- What holds over any sequence of calls (demand 2): requests, moves, the method's end, connections made and lost, in any order, with any image and any store handed to any of them,
 -- and the number of the next message set to any between them.
 -- What is seen of each call is a value; a register, which is replayed from what was seen and from nothing else, says which window is in
 -- force, what the counts are and what is read next from where; and each thing seen must fit the register.
@@ -29,7 +29,7 @@ use Rattle.rules_parts.specs.Names.{moverActive, moverPaused}
 use Rattle.rules.specs.Judge.{isAccepted}
 use Rattle.rules_parts.specs.Parts.{wrapped, windowEnd}
 use Rattle.rules.specs.Relation.{keeps, Legal}
-use Rattle.rules.specs.Answer.{Kept, Lent, held, guarded, verdict, answered, requestIn}
+use Rattle.rules.specs.Answer.{Kept, Lent, held, guarded, roomOf, verdict, answered, requestIn}
 use Rattle.rules.specs.Order.{Call}
 use Rattle.rules_moves.specs.Events.{Moving, movedToTape, movedFromTape, methodEnded, connectionMade, connectionLost}
 
@@ -47,6 +47,8 @@ pub data Event : Type 0 where
   Inserted : List ℕ → Event
   -- the host sets the number of the next message, the one thing of a session that is its own to set (include/mossgoblin.h)
   Renumbered : ℕ → Event
+  -- another store is lent to the requests that follow
+  StoreLent : List ℕ → Event
 
 abbrev pub renumbered : ℕ → Session → Session
 renumbered n s =
@@ -59,8 +61,9 @@ step (FromTape l dest) w = movedFromTape w l dest .answer .next
 step (Ended l ok) w = methodEnded w l ok .next
 step (Made l mover) w = connectionMade w l mover .next
 step (Lost l mover) w = connectionLost w l mover .next
-step (Inserted image) w = held (w .session) image
-step (Renumbered n) w = held (renumbered n (w .session)) (w .image)
+step (Inserted image) w = held (w .session) image (w .variables)
+step (Renumbered n) w = held (renumbered n (w .session)) (w .image) (w .variables)
+step (StoreLent variables) w = held (w .session) (w .image) variables
 
 unfoldable pub runs : Kept → List Event → Kept
 runs w [] = w
@@ -89,7 +92,7 @@ pub data Seen : Type 0 where
 
 -- a request that is judged
 unfoldable pub isHeard : Kept → Lent → List ℕ → Bool
-isHeard k l r = guarded (k .session) (l .room) (λ _. false) (choose (wellFramed r) (eqb (kindOf r) 0) false)
+isHeard k l r = guarded (k .session) (roomOf k l) (λ _. false) (choose (wellFramed r) (eqb (kindOf r) 0) false)
 
 -- what an accepted request shows, with the tape at a position
 unfoldable pub moverAsked : ℕ → MoverRequest → Seen
@@ -104,8 +107,9 @@ moverAsked position (MoverRequest.Listen mode address) = Listened address
 unfoldable pub dataAsked : DataRequest → Seen
 dataAsked DataRequest.Stop = DataStopped
 dataAsked DataRequest.State = Nothing
-dataAsked (DataRequest.Backup method) = Nothing
-dataAsked (DataRequest.Recover method) = Nothing
+dataAsked (DataRequest.Backup method pairs) = Nothing
+dataAsked (DataRequest.Recover method pairs) = Nothing
+dataAsked DataRequest.Environment = Nothing
 dataAsked (DataRequest.Listen address) = Nothing
 
 unfoldable pub jointAsked : ℕ → JointRequest → Seen
@@ -155,6 +159,7 @@ seen (Made l mover) w = madeShown (w .session .mover) (connectionMade w l mover 
 seen (Lost l mover) w = Nothing
 seen (Inserted image) w = Nothing
 seen (Renumbered n) w = Nothing
+seen (StoreLent variables) w = Nothing
 
 -- ---- the register: the record size, the window in force (of length 0 there is none), bytes moved and processed; the seek position and the
 -- bytes left to read; the origin, the tape position that stands for the window's offset; and the type of the mover's address
@@ -351,6 +356,7 @@ pub record RenumberedLeaves (n : ℕ) (w v : Kept) : Type 0 where
   pub tape : v .session .tape ≡ w .session .tape
   pub changer : v .session .changer ≡ w .session .changer
   pub image : v .image ≡ w .image
+  pub variables : v .variables ≡ w .variables
 
 abbrev pub Leaves : Register → Kept → Event → Type 0
 Leaves r w (ToTape l stream last) = ToTapeLeaves w stream (movedToTape w l stream last)
@@ -361,6 +367,7 @@ Leaves r w (Lost l mover) = connectionLost w l mover .next .image ≡ w .image
 Leaves r w (Asked c) = Unit {0}
 Leaves r w (Inserted image) = Unit {0}
 Leaves r w (Renumbered n) = RenumberedLeaves n w (step (Renumbered n) w)
+Leaves r w (StoreLent variables) = Unit {0}
 
 -- ---- the theorem: at every call of the list the register is the session's, its window is legitimate, and what is seen fits it and is all
 -- that the call did

@@ -9,6 +9,7 @@ ghost use Rattle.rules_moves.specs.FirstSize.{FirstSize};
 ghost use Rattle.rules_moves.specs.TcpCases.{TcpCasesHold};
 ghost use Rattle.rules_moves.specs.Apart.{TcpApart};
 ghost use Rattle.rules_moves.specs.TcpMoves.{TcpMoves};
+ghost use Rattle.rules_moves.specs.StoreLeft.{StoreLeft};
 use rules_parts::types::Data;
 use rules_parts::types::Mover;
 use rules_parts::types::Tape;
@@ -81,4 +82,9 @@ pub fn tcp_apart()
 // No work: its contract is what moves and events of an end by TCP come to.
 pub fn tcp_moves()
     ensures { λ r. ⌜ TcpMoves ⌝ }
+{}
+
+// No work: its contract is that calls that are not lent the store leave it.
+pub fn store_left()
+    ensures { λ r. ⌜ StoreLeft ⌝ }
 {}
