@@ -2,12 +2,12 @@
  * functions of the static library `capi` (`tools/library`).
  *
  * No call asks anything of its caller but that each pointer leads to as many bytes as the length beside it says (a length of 0 may have any
- * pointer), and that no two buffers of a call overlap where one of them is written: image, out and dest are written. Whatever the bytes are, there is
- * an answer. A call keeps nothing: the session goes in and comes back by value, and the buffers are the caller's again when it returns.
+ * pointer), and that no two buffers of a call overlap where one of them is written: image, variables, out and dest are written. Whatever the bytes
+ * are, there is an answer. A call keeps nothing: the session goes in and comes back by value, and the buffers are the caller's again when it returns.
  * It needs no heap, and less than 4,096 bytes of stack beside arguments and answer (measured: README.md, Sizes).
  *
  * The code of every call is 0, 1001 or 1002, and comes before all else:
- *   1001  the output is shorter than MOSSGOBLIN_OUTPUT bytes
+ *   1001  the output is shorter than MOSSGOBLIN_OUTPUT bytes; of mossgoblin_request also: the store has another length than MOSSGOBLIN_STORE_LENGTH
  *   1002  the session breaks the relation of docs/RELATION.md; no session that these calls give does
  * With 1001 and 1002 nothing is written and nothing changes: the session comes back as it went in (mossgoblin_open, which takes none and never gives 1002,
  * gives a closed one).
@@ -130,6 +130,29 @@ struct mossgoblin_addresses {
     uint32_t ports[MOSSGOBLIN_MOST_ADDRESSES];
 };
 
+/* The bytes of the store of a data end's variables, which mossgoblin_request is lent: the environment of NDMP, pairs of a name and a value. Its words are:
+ *
+ *   at 0           how many pairs there are, at most 64
+ *   at 4 + 16 i    of pair i, from 0: where its name starts, the name's length, where its value starts, the value's length
+ *
+ * The texts follow, from 4 + 16 x count on: without gaps, each name before its value, in the order of the pairs. A start counts from the first byte of the
+ * first text: so the first start is 0, and each is the sum of all lengths before it. What lies past the texts belongs to nobody, and stays.
+ *
+ * It is written by two kinds of requests. An accepted start, of a backup or a recover, puts the client's pairs there, in their order: count, words and texts,
+ * and no byte behind them. An accepted data stop makes the count 0, and changes no other byte. Refused requests and all others leave it, and so do a halt and
+ * the session's end. A store of zeros has no pairs.
+ *
+ * DATA get env (0x404) is answered from it while the data end is ACTIVE or HALTED: with its pairs, and with PATHNAME_SEPARATOR as `/` behind them where none of
+ * the names is exactly that. The store does not hold that one. Refusals that concern it:
+ *   22  start: the pairs do not fit, as 4 + 16 x count + all lengths is above MOSSGOBLIN_STORE_LENGTH; after 9. More than 64 pairs do not decode: 18
+ *   19  get env: the data end is neither ACTIVE nor HALTED
+ *   7   get env: the store is not laid out so, as its count is above 64, a start is another one, or a text passes the store's end; after 19. Of an image 7 is
+ *       told by the requests of the tape alone
+ *
+ * mossgoblin_open is not lent the store, and a new session does not clear it: a data end that halts before its first start answers get env from the store as
+ * it lies. So a host that lends one store to several sessions in turn fills it with zeros before each, or a client is given what another left. */
+#define MOSSGOBLIN_STORE_LENGTH 16384
+
 /* A new session. The notice of the connection status is written to the output, as message number 1. With 1001 the session that comes back is closed. */
 struct mossgoblin_answer mossgoblin_open(uint32_t time, uint8_t *out, size_t out_len);
 
@@ -140,7 +163,10 @@ struct mossgoblin_answer mossgoblin_open(uint32_t time, uint8_t *out, size_t out
  * or is above MOSSGOBLIN_MOST_LENT bytes is refused with 9. `made` is whether the connection of a connect by TCP was made, to one of the addresses that
  * mossgoblin_addresses gives: where it was not, the connect is refused with 23, after all else that it can be refused for. Listens and connects by LOCAL, and
  * all other requests, look at neither. Listens and connects leave the image, and a call keeps nothing: so a host may first ask as if all were well, pass over
- * that answer, and open no port and connect to nobody where it is a refusal.
+ * that answer, and open no port and connect to nobody where it is a refusal. They leave the store too.
+ *
+ * `variables` is the store above: the same one with each request of a session, as the last call left it. Of another length than MOSSGOBLIN_STORE_LENGTH it is
+ * refused with the code 1001, whatever the request is.
  *
  * The image changes only by TAPE write, which writes the record that the client sends, and by MTIO 5, which writes marks: both outside any window of the
  * mover, at the tape's position, and only after login, with the tape open for writing and the mover neither in LISTEN nor ACTIVE. A refused request leaves all
@@ -148,8 +174,8 @@ struct mossgoblin_answer mossgoblin_open(uint32_t time, uint8_t *out, size_t out
  * CONNECT close; a message that is no request is ignored. Everything else is answered: one reply, then its notices. */
 struct mossgoblin_answer mossgoblin_request(struct mossgoblin_session session, const uint8_t *id, size_t id_len, const uint8_t *password,
                                             size_t password_len, const uint8_t *addresses, size_t addresses_len, bool made,
-                                            uint8_t *image, size_t image_len, const uint8_t *input, size_t input_len,
-                                            uint32_t time, uint8_t *out, size_t out_len);
+                                            uint8_t *image, size_t image_len, uint8_t *variables, size_t variables_len,
+                                            const uint8_t *input, size_t input_len, uint32_t time, uint8_t *out, size_t out_len);
 
 /* One move to tape, in a backup: `stream` is what waits of the stream, `last` whether nothing will follow it. At most one record is written to the image, and
  * `count` bytes of the stream are taken from its front. At the window's end, where a whole record more would pass it, and where the tape is full the mover

@@ -1,5 +1,6 @@
-/* A backup of 3,000 bytes in records of 1,024, from C: the examples g, h and i of the rules. Then ends by TCP: a record that comes to the mover from a peer,
- * and a data end that connects to one. Each step is checked, and the first that is not as the rules say ends the program with 1. */
+/* A backup of 3,000 bytes in records of 1,024, from C: the examples g, h and i of the rules, with a variable that is given back. Then ends by TCP: a record
+ * that comes to the mover from a peer, and a data end that connects to one, with more variables than fit. Each step is checked, and the first that is not as
+ * the rules say ends the program with 1. */
 #include "../../include/mossgoblin.h"
 #include "wire.h"
 
@@ -8,12 +9,16 @@
 #include <string.h>
 
 static uint8_t image[16 + 4 * 8 + 4096];
+static uint8_t variables[MOSSGOBLIN_STORE_LENGTH];
 static uint8_t out[MOSSGOBLIN_OUTPUT];
 static struct mossgoblin_session session;
 static uint8_t stream[3000];
 
 /* What a host lends to a listen: one address, 10.0.0.1 and port 10,000, with no pairs. */
 static const uint8_t one_address[] = {0, 0, 0, 1, 10, 0, 0, 1, 0, 0, 39, 16, 0, 0, 0, 0};
+
+/* The most words of a body here: a start whose one pair is too long for the store. */
+#define LONG_BODY (6 + MOSSGOBLIN_STORE_LENGTH / 4)
 
 static void check(bool holds, const char *what)
 {
@@ -28,10 +33,10 @@ static void check(bool holds, const char *what)
 static size_t ask_lent(const char *what, uint32_t error, const uint8_t *list, size_t list_len, bool made, uint32_t message, const uint32_t *body,
                        size_t words)
 {
-    uint8_t record[RECORD];
+    static uint8_t record[28 + 4 * LONG_BODY];
     size_t n = put_request(record, message, body, words);
     struct mossgoblin_answer a = mossgoblin_request(session, (const uint8_t *)"v", 1, (const uint8_t *)"pw", 2, list, list_len, made, image,
-                                                    sizeof image, record, n, 0, out, sizeof out);
+                                                    sizeof image, variables, sizeof variables, record, n, 0, out, sizeof out);
     check(a.code == 0 && a.len >= 32 && word(out + 24) == 0 && word(out + 28) == error, what);
     session = a.session;
     return a.len;
@@ -61,6 +66,49 @@ static void told(const char *what, struct mossgoblin_answer a, size_t len)
 {
     check(a.code == 0 && a.len == len, what);
     session = a.session;
+}
+
+/* Get env gives the pair of FILESYSTEM and /vol, which the store holds, and PATHNAME_SEPARATOR behind it. */
+static void variable_comes_back(void)
+{
+    static const char stored[] = "\0\0\0\1\0\0\0\0\0\0\0\12\0\0\0\12\0\0\0\4FILESYSTEM/vol";
+    static const char given[] = "\0\0\0\0\0\0\0\2\0\0\0\12FILESYSTEM\0\0\0\0\0\4/vol\0\0\0\22PATHNAME_SEPARATOR\0\0\0\0\0\1/\0\0";
+    check(memcmp(variables, stored, sizeof stored - 1) == 0, "the store has a count, the pair's four words, and its texts");
+    size_t n = ask("data get env", 0x404, NULL, 0);
+    check(n == 28 + sizeof given && memcmp(out + 28, given, sizeof given) == 0, "it gives the pair, and PATHNAME_SEPARATOR as / behind it");
+}
+
+/* Start backup with the pair of A and so many bytes of x. */
+static void start_with(const char *what, uint32_t error, uint32_t length)
+{
+    static uint32_t body[LONG_BODY] = {4, 0x64756D70, 1, 1, 0x41000000};
+    const size_t words = 6 + (length + 3) / 4;
+    body[5] = length;
+    for (size_t i = 6; i < words; i++)
+        body[i] = 0x78787878;
+    if (length % 4)
+        body[words - 1] <<= 8 * (4 - length % 4);
+    ask_lent(what, error, NULL, 0, false, 0x401, body, words);
+}
+
+/* A data end that is CONNECTED is started with what just does not fit, and with what fits; then the store is damaged. */
+static void variables_that_fill(void)
+{
+    const uint32_t most = MOSSGOBLIN_STORE_LENGTH - 4 - 16 - 1;
+    static uint8_t before[sizeof variables];
+    ask_lent("data get env in CONNECTED is 19", 19, NULL, 0, false, 0x404, NULL, 0);
+    memcpy(before, variables, sizeof variables);
+    start_with("start backup with one byte too many is 22", 22, most + 1);
+    check(session.source.state == 4 && memcmp(before, variables, sizeof variables) == 0, "state and store stay");
+    start_with("start backup with a store that becomes full", 0, most);
+    check(session.source.state == 1 && word(variables) == 1 && word(variables + 16) == most && variables[20] == 'A' &&
+              variables[sizeof variables - 1] == 'x', "its last byte is the value's");
+    size_t n = ask("data get env in ACTIVE", 0x404, NULL, 0);
+    check(n == 36 + 8 + 4 + most + 1 + 24 + 8 && word(out + 32) == 2, "it gives all of that");
+    variables[3] = 65;
+    ask_lent("data get env of a store that is not laid out so is 7", 7, NULL, 0, false, 0x404, NULL, 0);
+    check(word(out + 32) == 0, "with no pairs");
+    variables[3] = 1;
 }
 
 /* The mover listens by TCP and is joined by a peer, whose one record goes to tape; then the peer is lost. The data end is at rest all the while. */
@@ -123,10 +171,14 @@ static void data_by_tcp(void)
     check(session.source.state == 0 && session.source.address == 0, "it stays IDLE");
     ask_lent("data connect by TCP that was made", 0, NULL, 0, true, 0x40A, body, words);
     check(session.source.state == 4 && session.source.address == 1 && session.mover.state == 0, "data is CONNECTED by TCP, and alone");
-    ASK("start backup", 0x401, 4, 0x64756D70, 0);
+    variables_that_fill();
     told("lost, of the data end", mossgoblin_lost(session, false, 0, out, sizeof out), 32);
     check(word(out + 16) == 0x501 && word(out + 28) == 4 && session.source.state == 2 && session.source.processed == 0,
           "data is halted, CONNECT_ERROR");
+    check(word(variables) == 1, "the store stays");
+    uint8_t last = variables[sizeof variables - 1];
+    ask("data stop", 0x407, NULL, 0);
+    check(word(variables) == 0 && word(variables + 16) != 0 && variables[sizeof variables - 1] == last, "its count is 0, and nothing else");
 }
 
 int main(void)
@@ -150,7 +202,7 @@ int main(void)
     ASK("set window", 0xA05, 0, 0, 0, 2048);
     ASK("mover listen", 0xA01, 0, 0);
     ASK("data connect", 0x40A, 0);
-    ASK("start backup", 0x401, 4, 0x64756D70, 0);
+    ASK("start backup, with FILESYSTEM as /vol", 0x401, 4, 0x64756D70, 1, 10, 0x46494C45, 0x53595354, 0x454D0000, 4, 0x2F766F6C);
 
     check(feed(stream, 3000, false).count == 1024, "first record");
     check(feed(stream + 1024, 1976, false).count == 1024, "second record");
@@ -178,12 +230,16 @@ int main(void)
 
     a = mossgoblin_end_method(session, true, 0, out, sizeof out);
     check(a.code == 0 && a.len == 0, "the method's end after it does nothing");
+    variable_comes_back();
     ask("data stop", 0x407, NULL, 0);
+    check(word(variables) == 0 && memcmp(variables + 20, "FILESYSTEM/vol", 14) == 0, "the store's count is 0, and nothing else");
     ask("mover stop", 0xA04, NULL, 0);
     mover_by_tcp();
     data_by_tcp();
     a = mossgoblin_made(session, true, 0, out, sizeof out - 1);
-    check(a.code == 1001 && a.len == 0 && a.session.source.state == 2, "made: a short output is refused");
+    check(a.code == 1001 && a.len == 0 && a.session.source.state == 0, "made: a short output is refused");
+    a = mossgoblin_request(session, NULL, 0, NULL, 0, NULL, 0, false, image, sizeof image, variables, sizeof variables - 1, NULL, 0, 0, out, sizeof out);
+    check(a.code == 1001 && a.len == 0 && !a.session.closed, "request: a store of another length is refused, before a record that would close the session");
     session.mover.address = 1;
     a = mossgoblin_lost(session, true, 0, out, sizeof out);
     check(a.code == 1002 && a.len == 0, "an end by TCP in IDLE is a session that no call gives");

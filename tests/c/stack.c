@@ -13,7 +13,7 @@
 #define ENTRIES 4096
 
 static uint8_t small[16 + 4 * 8 + 4096], large[16 + ENTRIES * 8 + ENTRIES];
-static uint8_t out[MOSSGOBLIN_OUTPUT], dest[1024], stream[1024];
+static uint8_t out[MOSSGOBLIN_OUTPUT], dest[1024], stream[1024], variables[MOSSGOBLIN_STORE_LENGTH];
 static uint8_t *image = small;
 static size_t image_len = sizeof small;
 static struct mossgoblin_session session;
@@ -22,8 +22,9 @@ static struct mossgoblin_session session;
 #pragma GCC diagnostic ignored "-Wunused-parameter"
 static struct mossgoblin_answer no_request(struct mossgoblin_session s, const uint8_t *id, size_t id_len,
                                            const uint8_t *password, size_t password_len, const uint8_t *list,
-                                           size_t list_len, bool made, uint8_t *i, size_t i_len, const uint8_t *input,
-                                           size_t input_len, uint32_t time, uint8_t *o, size_t o_len)
+                                           size_t list_len, bool made, uint8_t *i, size_t i_len, uint8_t *v, size_t v_len,
+                                           const uint8_t *input, size_t input_len, uint32_t time, uint8_t *o,
+                                           size_t o_len)
 {
     return (struct mossgoblin_answer){0};
 }
@@ -70,7 +71,7 @@ static struct mossgoblin_addresses given;
 static void do_request(void)
 {
     answer = request(session, (const uint8_t *)"v", 1, (const uint8_t *)"pw", 2, list, sizeof list, true, image,
-                     image_len, record, record_len, 0, out, sizeof out);
+                     image_len, variables, sizeof variables, record, record_len, 0, out, sizeof out);
 }
 
 static void do_event(void)
@@ -285,7 +286,8 @@ static void back_up(void)
     ASK(0xA05, 0, 0, 0, 2048);
     ASK(0xA01, 0, 0);
     ASK(0x40A, 0);
-    ASK(0x401, 4, 0x64756D70, 0);
+    ASK(0x401, 4, 0x64756D70, 2, 1, 0x41000000, 1, 0x31000000, 0, 0);
+    ASK(0x404);
     for (int i = 0; i < 3; i++)
         feed(sizeof stream, false);
     check(session.mover.state == 3, "the backup does not pause");
@@ -306,13 +308,14 @@ static void recover(void)
     ASK(0xA05, 0, 0, 0, 2048);
     ASK(0xA01, 1, 0);
     ASK(0x40A, 0);
-    ASK(0x402, 0, 0, 4, 0x64756D70);
+    ASK(0x402, 1, 1, 0x41000000, 1, 0x31000000, 0, 4, 0x64756D70);
     ASK(0xA06, 0, 0, 0, 2048);
     fetch();
     check(moved.count == 1024, "the recover hands nothing over");
     image[3] ^= 4;
     fetch();
     check(session.mover.state == 4 && session.source.state == 2, "the recover does not halt");
+    ASK(0x404);
 }
 
 /* A mover that listens and a data end that connects by TCP, each made and lost; and the other way round. */

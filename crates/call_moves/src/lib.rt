@@ -20,7 +20,7 @@ use wire_replies::Notice;
 // The session with a move's parts, and the notices of what it came to: data first, mover second.
 fn announce(s: Session, mv: Move, time: u32, out: &mut [u8]) -> Answer
     requires { ⌜ leastRoom ≤ length (now out) ⌝ }
-    ensures { λ r. ⌜ ((before image : List ℕ) → CallTold (announced (held s before) (stamped time (length (now (out .entry)))) mv image) r image (now (out .entry)) (now (out .exit))) ⌝ }
+    ensures { λ r. ⌜ ((before image variables : List ℕ) → CallTold (announced (held s before variables) (stamped time (length (now (out .entry)))) mv image) r image variables (now (out .entry)) (now (out .exit))) ⌝ }
 {
     let g = s.login;
     let d = mv.source;
@@ -39,9 +39,9 @@ fn announce(s: Session, mv: Move, time: u32, out: &mut [u8]) -> Answer
     )
 }
 
-// An event's move, announced where the session is in order. No image is handed to an event.
+// An event's move, announced where the session is in order. No image is handed to an event, and to no call here the store of the environment.
 fn tell(s: Session, mv: Move, time: u32, out: &mut [u8]) -> Answer
-    ensures { λ r. ⌜ ((image : List ℕ) → CallTold (event (held s image) (stamped time (length (now (out .entry)))) mv) r image (now (out .entry)) (now (out .exit))) ⌝ }
+    ensures { λ r. ⌜ ((image variables : List ℕ) → CallTold (event (held s image variables) (stamped time (length (now (out .entry)))) mv) r image variables (now (out .entry)) (now (out .exit))) ⌝ }
 {
     let guard = serve_relation::guard(s, out.len());
     if let Guard::Stop(code) = guard {
@@ -52,7 +52,7 @@ fn tell(s: Session, mv: Move, time: u32, out: &mut [u8]) -> Answer
 
 // The end of the method that reads or writes the stream, in success or not.
 pub fn end_method(s: Session, ok: bool, time: u32, out: &mut [u8]) -> Answer
-    ensures { λ r. ⌜ ((image : List ℕ) → CallTold (methodEnded (held s image) (stamped time (length (now (out .entry)))) ok) r image (now (out .entry)) (now (out .exit))) ⌝ }
+    ensures { λ r. ⌜ ((image variables : List ℕ) → CallTold (methodEnded (held s image variables) (stamped time (length (now (out .entry)))) ok) r image variables (now (out .entry)) (now (out .exit))) ⌝ }
 {
     let d = s.source;
     let m = s.mover;
@@ -63,7 +63,7 @@ pub fn end_method(s: Session, ok: bool, time: u32, out: &mut [u8]) -> Answer
 
 // A connection by TCP was made, with the mover or else with the data end.
 pub fn made(s: Session, mover: bool, time: u32, out: &mut [u8]) -> Answer
-    ensures { λ r. ⌜ ((image : List ℕ) → CallTold (connectionMade (held s image) (stamped time (length (now (out .entry)))) mover) r image (now (out .entry)) (now (out .exit))) ⌝ }
+    ensures { λ r. ⌜ ((image variables : List ℕ) → CallTold (connectionMade (held s image variables) (stamped time (length (now (out .entry)))) mover) r image variables (now (out .entry)) (now (out .exit))) ⌝ }
 {
     let d = s.source;
     let m = s.mover;
@@ -74,7 +74,7 @@ pub fn made(s: Session, mover: bool, time: u32, out: &mut [u8]) -> Answer
 
 // A connection by TCP was lost, of the mover or else of the data end.
 pub fn lost(s: Session, mover: bool, time: u32, out: &mut [u8]) -> Answer
-    ensures { λ r. ⌜ ((image : List ℕ) → CallTold (connectionLost (held s image) (stamped time (length (now (out .entry)))) mover) r image (now (out .entry)) (now (out .exit))) ⌝ }
+    ensures { λ r. ⌜ ((image variables : List ℕ) → CallTold (connectionLost (held s image variables) (stamped time (length (now (out .entry)))) mover) r image variables (now (out .entry)) (now (out .exit))) ⌝ }
 {
     let d = s.source;
     let m = s.mover;
@@ -85,7 +85,7 @@ pub fn lost(s: Session, mover: bool, time: u32, out: &mut [u8]) -> Answer
 
 // Nothing is moved or sent, and nothing changes.
 fn unmoved(code: u32, s: Session) -> Moved
-    ensures { λ r. ⌜ ((image dest l : List ℕ) → MoveTold (idling code (held s image) dest) r image dest l l) ⌝ }
+    ensures { λ r. ⌜ ((image variables dest l : List ℕ) → MoveTold (idling code (held s image variables) dest) r image variables dest l l) ⌝ }
 {
     Moved {
         code,
@@ -98,7 +98,7 @@ fn unmoved(code: u32, s: Session) -> Moved
 // What a move came to, with its notices.
 fn report(s: Session, mv: Move, time: u32, out: &mut [u8]) -> Moved
     requires { ⌜ leastRoom ≤ length (now out) ⌝ }
-    ensures { λ r. ⌜ ((before image dest : List ℕ) → MoveTold (moved (held s before) (stamped time (length (now (out .entry)))) mv image dest) r image dest (now (out .entry)) (now (out .exit))) ⌝ }
+    ensures { λ r. ⌜ ((before image variables dest : List ℕ) → MoveTold (moved (held s before variables) (stamped time (length (now (out .entry)))) mv image dest) r image variables dest (now (out .entry)) (now (out .exit))) ⌝ }
 {
     let count = mv.count;
     let sent = announce(s, mv, time, out);
@@ -114,7 +114,7 @@ fn report(s: Session, mv: Move, time: u32, out: &mut [u8]) -> Moved
 // A move to tape of a session that is in order.
 fn feed(s: Session, image: &mut [u8], stream: &[u8], last: bool, time: u32, out: &mut [u8]) -> Moved
     requires { ⌜ (keeps s ≡ true) × (leastRoom ≤ length (now out)) ⌝ }
-    ensures { λ r. ⌜ MoveTold (feeding (held s (now (image .entry))) (stamped time (length (now (out .entry)))) (now (stream .entry)) last) r (now (image .exit)) [] (now (out .entry)) (now (out .exit)) ⌝ }
+    ensures { λ r. ⌜ ((variables : List ℕ) → MoveTold (feeding (held s (now (image .entry)) variables) (stamped time (length (now (out .entry)))) (now (stream .entry)) last) r (now (image .exit)) variables [] (now (out .entry)) (now (out .exit))) ⌝ }
 {
     let d = s.source;
     let m = s.mover;
@@ -132,7 +132,7 @@ pub fn move_to_tape(
     time: u32,
     out: &mut [u8],
 ) -> Moved
-    ensures { λ r. ⌜ MoveTold (movedToTape (held s (now (image .entry))) (stamped time (length (now (out .entry)))) (now (stream .entry)) last) r (now (image .exit)) [] (now (out .entry)) (now (out .exit)) ⌝ }
+    ensures { λ r. ⌜ ((variables : List ℕ) → MoveTold (movedToTape (held s (now (image .entry)) variables) (stamped time (length (now (out .entry)))) (now (stream .entry)) last) r (now (image .exit)) variables [] (now (out .entry)) (now (out .exit))) ⌝ }
 {
     let guard = serve_relation::guard(s, out.len());
     if let Guard::Stop(code) = guard {
@@ -144,7 +144,7 @@ pub fn move_to_tape(
 // A move from tape of a session that is in order.
 fn hand(s: Session, image: &[u8], dest: &mut [u8], time: u32, out: &mut [u8]) -> Moved
     requires { ⌜ (keeps s ≡ true) × (leastRoom ≤ length (now out)) ⌝ }
-    ensures { λ r. ⌜ MoveTold (handing (held s (now (image .entry))) (stamped time (length (now (out .entry)))) (now (dest .entry))) r (now (image .entry)) (now (dest .exit)) (now (out .entry)) (now (out .exit)) ⌝ }
+    ensures { λ r. ⌜ ((variables : List ℕ) → MoveTold (handing (held s (now (image .entry)) variables) (stamped time (length (now (out .entry)))) (now (dest .entry))) r (now (image .entry)) variables (now (dest .exit)) (now (out .entry)) (now (out .exit))) ⌝ }
 {
     let d = s.source;
     let m = s.mover;
@@ -155,7 +155,7 @@ fn hand(s: Session, image: &[u8], dest: &mut [u8], time: u32, out: &mut [u8]) ->
 
 // One move from tape: the session, the cartridge, which is only read, the destination, the time stamp and the output.
 pub fn move_from_tape(s: Session, image: &[u8], dest: &mut [u8], time: u32, out: &mut [u8]) -> Moved
-    ensures { λ r. ⌜ MoveTold (movedFromTape (held s (now (image .entry))) (stamped time (length (now (out .entry)))) (now (dest .entry))) r (now (image .entry)) (now (dest .exit)) (now (out .entry)) (now (out .exit)) ⌝ }
+    ensures { λ r. ⌜ ((variables : List ℕ) → MoveTold (movedFromTape (held s (now (image .entry)) variables) (stamped time (length (now (out .entry)))) (now (dest .entry))) r (now (image .entry)) variables (now (dest .exit)) (now (out .entry)) (now (out .exit))) ⌝ }
 {
     let guard = serve_relation::guard(s, out.len());
     if let Guard::Stop(code) = guard {

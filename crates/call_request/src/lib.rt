@@ -4,6 +4,8 @@ ghost use mathlib.Core.Bool.{Bool, true, false};
 ghost use mathlib.Core.List.{List, []};
 ghost use Prim.Native.Nat.{ℕ, _+_, _≤_};
 ghost use lib.ListN.{length};
+ghost use lib.Dec.{eqb};
+ghost use Rattle.codes.specs.Codes.{storeLength};
 ghost use Rattle.xdr.specs.Choose.{choose};
 ghost use Rattle.xdr.specs.Xdr.{word};
 ghost use Rattle.wire_frame.specs.Frame.{bodyOf};
@@ -13,7 +15,7 @@ ghost use Rattle.wire_requests.specs.declared.Request.the-variants as Request;
 ghost use Rattle.wire_replies.specs.declared.Reply.the-variants as Reply;
 ghost use Rattle.wire_replies.specs.Fit.{Sendable};
 ghost use Rattle.rules.specs.Judge.{Accepts, onto};
-ghost use Rattle.rules.specs.DataService.{dataStep};
+ghost use Rattle.rules.specs.DataService.{dataStep, dataShown};
 ghost use Rattle.rules.specs.TapeService.{tapeStep, moverPartStep};
 ghost use Rattle.rules.specs.ScsiService.{scsiStep};
 ghost use Rattle.rules.specs.Joint.{jointStep};
@@ -42,19 +44,64 @@ use wire_requests::Request;
 use wire_requests::ScsiRequest;
 use wire_requests::TapeRequest;
 
+// The room of a request call: the output's where the store is as long as it must be, and else none.
+fn room_of(stored: usize, room: usize) -> usize
+    ensures { λ r. ⌜ r ≡ choose (eqb stored storeLength) room 0 ⌝ }
+{
+    if stored == codes::STORE_LENGTH {
+        return room;
+    }
+    0
+}
+
+// Whether the reply to a data request shows the store.
+fn shows_store(q: DataRequest) -> bool
+    ensures { λ r. ⌜ ((list variables : List ℕ) → choose r variables list ≡ dataShown q list variables) ⌝ }
+{
+    match q {
+        DataRequest::State => false,
+        DataRequest::Backup(_, _) => false,
+        DataRequest::Recover(_, _) => false,
+        DataRequest::Environment => true,
+        DataRequest::Stop => false,
+        DataRequest::Listen(_) => false,
+    }
+}
+
+// The reply to an accepted data request: that of an environment shows the store, others the list.
+fn data_reply(
+    next: Session,
+    q: DataRequest,
+    input: &[u8],
+    time: u32,
+    reply: Reply,
+    addresses: &[u8],
+    variables: &[u8],
+    out: &mut [u8],
+) -> Answer
+    requires { ⌜ Ready (now input) (now out) × Sendable reply (dataShown q (now addresses) (now variables)) ⌝ }
+    ensures { λ r. ⌜ ((image store : List ℕ) → CallTold (replying (now (input .entry)) time reply (dataShown q (now (addresses .entry)) (now (variables .entry))) (held next image store)) r image store (now (out .entry)) (now (out .exit))) ⌝ }
+{
+    if shows_store(q) {
+        return call_sending::finish(next, input, time, reply, variables, out);
+    }
+    call_sending::finish(next, input, time, reply, addresses, out)
+}
+
 fn data_call(
     s: Session,
     q: DataRequest,
     addresses: &[u8],
+    variables: &mut [u8],
     input: &[u8],
     time: u32,
     out: &mut [u8],
 ) -> Answer
-    requires { ⌜ Ready (now input) (now out) × textsWithin (bodyOf (now input)) (Request.Data q) ⌝ }
-    ensures { λ r. ⌜ ((image : List ℕ) → CallTold (settled (held s image) time (now (input .entry)) (Request.Data q) (onto (withData (held s image) (now (addresses .entry))) (dataStep (s .source) q (bodyOf (now (input .entry))) (now (addresses .entry))))) r image (now (out .entry)) (now (out .exit))) ⌝ }
+    requires { ⌜ Ready (now input) (now out) × textsWithin (bodyOf (now input)) (Request.Data q) × (length (now variables) ≡ storeLength) ⌝ }
+    ensures { λ r. ⌜ ((image : List ℕ) → CallTold (settled (held s image (now (variables .entry))) time (now (input .entry)) (Request.Data q) (onto (withData (held s image (now (variables .entry))) q (bodyOf (now (input .entry))) (now (addresses .entry))) (dataStep (s .source) q (bodyOf (now (input .entry))) (now (addresses .entry)) (now (variables .entry))))) r image (now (variables .exit)) (now (out .entry)) (now (out .exit))) ⌝ }
 {
     let d = s.source;
-    let done = serve_data::serve(d, q, &input[28..], addresses);
+    let done = serve_data::serve(d, q, &input[28..], addresses, variables);
     match done {
         DataDone::Refuse(e) => call_sending::refuse(s, e, input, time, out),
         DataDone::Accept(reply, next) => {
@@ -63,14 +110,14 @@ fn data_call(
             let t = s.tape;
             let c = s.changer;
             let session = s.with_parts(g, next, m, t, c);
-            call_sending::finish(session, input, time, reply, addresses, out)
+            data_reply(session, q, input, time, reply, addresses, variables, out)
         }
     }
 }
 
 fn scsi_call(s: Session, q: ScsiRequest, input: &[u8], time: u32, out: &mut [u8]) -> Answer
     requires { ⌜ Ready (now input) (now out) × textsWithin (bodyOf (now input)) (Request.Scsi q) ⌝ }
-    ensures { λ r. ⌜ ((image : List ℕ) → CallTold (settled (held s image) time (now (input .entry)) (Request.Scsi q) (onto (withChanger (held s image)) (scsiStep (s .changer) q (bodyOf (now (input .entry)))))) r image (now (out .entry)) (now (out .exit))) ⌝ }
+    ensures { λ r. ⌜ ((image variables : List ℕ) → CallTold (settled (held s image variables) time (now (input .entry)) (Request.Scsi q) (onto (withChanger (held s image variables)) (scsiStep (s .changer) q (bodyOf (now (input .entry)))))) r image variables (now (out .entry)) (now (out .exit))) ⌝ }
 {
     let c = s.changer;
     let done = serve_changer::serve(c, q, &input[28..]);
@@ -96,7 +143,7 @@ fn tape_call(
     out: &mut [u8],
 ) -> Answer
     requires { ⌜ Ready (now input) (now out) × textsWithin (bodyOf (now input)) (Request.Tape q) ⌝ }
-    ensures { λ r. ⌜ CallTold (settled (held s (now (image .entry))) time (now (input .entry)) (Request.Tape q) (onto (withTape (held s (now (image .entry)))) (tapeStep (tapePart (held s (now (image .entry)))) q (bodyOf (now (input .entry)))))) r (now (image .exit)) (now (out .entry)) (now (out .exit)) ⌝ }
+    ensures { λ r. ⌜ ((variables : List ℕ) → CallTold (settled (held s (now (image .entry)) variables) time (now (input .entry)) (Request.Tape q) (onto (withTape (held s (now (image .entry)) variables)) (tapeStep (tapePart (held s (now (image .entry)) variables)) q (bodyOf (now (input .entry)))))) r (now (image .exit)) variables (now (out .entry)) (now (out .exit))) ⌝ }
 {
     let m = s.mover;
     let t = s.tape;
@@ -122,7 +169,7 @@ fn mover_call(
     out: &mut [u8],
 ) -> Answer
     requires { ⌜ Ready (now input) (now out) ⌝ }
-    ensures { λ r. ⌜ ((image : List ℕ) → CallTold (settled (held s image) time (now (input .entry)) (Request.Mover q) (onto (withPart (held s image) (now (addresses .entry))) (moverPartStep (tapePart (held s image)) q (now (addresses .entry))))) r image (now (out .entry)) (now (out .exit))) ⌝ }
+    ensures { λ r. ⌜ ((image variables : List ℕ) → CallTold (settled (held s image variables) time (now (input .entry)) (Request.Mover q) (onto (withPart (held s image variables) (now (addresses .entry))) (moverPartStep (tapePart (held s image variables)) q (now (addresses .entry))))) r image variables (now (out .entry)) (now (out .exit))) ⌝ }
 {
     let m = s.mover;
     let t = s.tape;
@@ -149,7 +196,7 @@ fn joint_call(
     out: &mut [u8],
 ) -> Answer
     requires { ⌜ Ready (now input) (now out) ⌝ }
-    ensures { λ r. ⌜ ((image : List ℕ) → CallTold (settled (held s image) time (now (input .entry)) (Request.Joint q) (onto (withEnds (held s image)) (jointStep (s .source) (s .mover) (s .tape) q made))) r image (now (out .entry)) (now (out .exit))) ⌝ }
+    ensures { λ r. ⌜ ((image variables : List ℕ) → CallTold (settled (held s image variables) time (now (input .entry)) (Request.Joint q) (onto (withEnds (held s image variables)) (jointStep (s .source) (s .mover) (s .tape) q made))) r image variables (now (out .entry)) (now (out .exit))) ⌝ }
 {
     let d = s.source;
     let m = s.mover;
@@ -172,7 +219,7 @@ fn joint_call(
 // What CONNECT or CONFIG came to, answered.
 fn login_call(s: Session, done: LoginDone, input: &[u8], time: u32, out: &mut [u8]) -> Answer
     requires { ⌜ Ready (now input) (now out) × Accepts Sends (outcomeOf done) ⌝ }
-    ensures { λ r. ⌜ ((image : List ℕ) (q : Request) → isUnread q ≡ false → CallTold (settled (held s image) time (now (input .entry)) q (onto (withLogin (held s image)) (outcomeOf done))) r image (now (out .entry)) (now (out .exit))) ⌝ }
+    ensures { λ r. ⌜ ((image variables : List ℕ) (q : Request) → isUnread q ≡ false → CallTold (settled (held s image variables) time (now (input .entry)) q (onto (withLogin (held s image variables)) (outcomeOf done))) r image variables (now (out .entry)) (now (out .exit))) ⌝ }
 {
     match done {
         LoginDone::Refuse(e) => call_sending::refuse(s, e, input, time, out),
@@ -198,7 +245,7 @@ fn connect_call(
     out: &mut [u8],
 ) -> Answer
     requires { ⌜ Ready (now input) (now out) × textsWithin (bodyOf (now input)) (Request.Connect q) ⌝ }
-    ensures { λ r. ⌜ ((image : List ℕ) → CallTold (choose (isClose (Request.Connect q)) (closing (held s image)) (settled (held s image) time (now (input .entry)) (Request.Connect q) (onto (withLogin (held s image)) (connectStep (s .first) (s .login) (record { id = now (id .entry); password = now (password .entry) }) q (bodyOf (now (input .entry))))))) r image (now (out .entry)) (now (out .exit))) ⌝ }
+    ensures { λ r. ⌜ ((image variables : List ℕ) → CallTold (choose (isClose (Request.Connect q)) (closing (held s image variables)) (settled (held s image variables) time (now (input .entry)) (Request.Connect q) (onto (withLogin (held s image variables)) (connectStep (s .first) (s .login) (record { id = now (id .entry); password = now (password .entry) }) q (bodyOf (now (input .entry))))))) r image variables (now (out .entry)) (now (out .exit))) ⌝ }
 {
     if serve_connect::is_close(q) {
         return call_sending::shut(s);
@@ -211,7 +258,7 @@ fn connect_call(
 // A record that is no request of any service, refused in the header.
 fn header_call(s: Session, error: u32, input: &[u8], time: u32, out: &mut [u8]) -> Answer
     requires { ⌜ Ready (now input) (now out) ⌝ }
-    ensures { λ r. ⌜ ((image : List ℕ) → CallTold (replying (now (input .entry)) time (Reply.Header error) [] (held s image)) r image (now (out .entry)) (now (out .exit))) ⌝ }
+    ensures { λ r. ⌜ ((image variables : List ℕ) → CallTold (replying (now (input .entry)) time (Reply.Header error) [] (held s image variables)) r image variables (now (out .entry)) (now (out .exit))) ⌝ }
 {
     call_sending::finish(s, input, time, Reply::Header(error), b"", out)
 }
@@ -225,12 +272,13 @@ fn serve_call(
     addresses: &[u8],
     made: bool,
     image: &mut [u8],
+    variables: &mut [u8],
     input: &[u8],
     time: u32,
     out: &mut [u8],
 ) -> Answer
-    requires { ⌜ Ready (now input) (now out) × textsWithin (bodyOf (now input)) q ⌝ }
-    ensures { λ r. ⌜ CallTold (choose (isClose q) (closing (held s (now (image .entry)))) (settled (held s (now (image .entry))) time (now (input .entry)) q (outcome (held s (now (image .entry))) (lent (now (id .entry)) (now (password .entry)) (now (addresses .entry)) made time (now (out .entry))) (now (input .entry)) q))) r (now (image .exit)) (now (out .entry)) (now (out .exit)) ⌝ }
+    requires { ⌜ Ready (now input) (now out) × textsWithin (bodyOf (now input)) q × (length (now variables) ≡ storeLength) ⌝ }
+    ensures { λ r. ⌜ CallTold (choose (isClose q) (closing (held s (now (image .entry)) (now (variables .entry)))) (settled (held s (now (image .entry)) (now (variables .entry))) time (now (input .entry)) q (outcome (held s (now (image .entry)) (now (variables .entry))) (lent (now (id .entry)) (now (password .entry)) (now (addresses .entry)) made time (now (out .entry))) (now (input .entry)) q))) r (now (image .exit)) (now (variables .exit)) (now (out .entry)) (now (out .exit)) ⌝ }
 {
     match q {
         Request::Connect(x) => connect_call(s, x, id, password, input, time, out),
@@ -241,7 +289,7 @@ fn serve_call(
         }
         Request::Scsi(x) => scsi_call(s, x, input, time, out),
         Request::Tape(x) => tape_call(s, x, image, input, time, out),
-        Request::Data(x) => data_call(s, x, addresses, input, time, out),
+        Request::Data(x) => data_call(s, x, addresses, variables, input, time, out),
         Request::Mover(x) => mover_call(s, x, addresses, input, time, out),
         Request::Joint(x) => joint_call(s, x, made, input, time, out),
         Request::Unknown => header_call(s, codes::NOT_SUPPORTED, input, time, out),
@@ -258,12 +306,13 @@ fn framed_call(
     addresses: &[u8],
     made: bool,
     image: &mut [u8],
+    variables: &mut [u8],
     input: &[u8],
     time: u32,
     out: &mut [u8],
 ) -> Answer
-    requires { ⌜ Ready (now input) (now out) × (message ≡ word (now input) 16) ⌝ }
-    ensures { λ r. ⌜ CallTold (judged (held s (now (image .entry))) (lent (now (id .entry)) (now (password .entry)) (now (addresses .entry)) made time (now (out .entry))) (now (input .entry)) (requestIn (now (input .entry)))) r (now (image .exit)) (now (out .entry)) (now (out .exit)) ⌝ }
+    requires { ⌜ Ready (now input) (now out) × (message ≡ word (now input) 16) × (length (now variables) ≡ storeLength) ⌝ }
+    ensures { λ r. ⌜ CallTold (judged (held s (now (image .entry)) (now (variables .entry))) (lent (now (id .entry)) (now (password .entry)) (now (addresses .entry)) made time (now (out .entry))) (now (input .entry)) (requestIn (now (input .entry)))) r (now (image .exit)) (now (variables .exit)) (now (out .entry)) (now (out .exit)) ⌝ }
 {
     let row = wire_frame::row_of(message);
     let kind = row.kind;
@@ -272,18 +321,30 @@ fn framed_call(
     if serve_connect::is_locked(g, q) {
         return call_sending::refuse(s, codes::NOT_AUTHORIZED, input, time, out);
     }
-    serve_call(s, q, id, password, addresses, made, image, input, time, out)
+    serve_call(
+        s,
+        q,
+        id,
+        password,
+        addresses,
+        made,
+        image,
+        variables,
+        input,
+        time,
+        out,
+    )
 }
 
 // A new session: the notice of the connection status is its message 1.
 pub fn open(time: u32, out: &mut [u8]) -> Answer
-    ensures { λ r. ⌜ CallTold (opening time (length (now (out .entry)))) r [] (now (out .entry)) (now (out .exit)) ⌝ }
+    ensures { λ r. ⌜ CallTold (opening time (length (now (out .entry)))) r [] [] (now (out .entry)) (now (out .exit)) ⌝ }
 {
     call_sending::begin(time, out)
 }
 
 // One request: the session, the account's id and password, the list that a listen by TCP answers, whether the connection of a connect by TCP
-// was made, the cartridge, the record, the time stamp and the output.
+// was made, the cartridge, the store of the environment, the record, the time stamp and the output.
 pub fn request(
     s: Session,
     id: &[u8],
@@ -291,13 +352,15 @@ pub fn request(
     addresses: &[u8],
     made: bool,
     image: &mut [u8],
+    variables: &mut [u8],
     input: &[u8],
     time: u32,
     out: &mut [u8],
 ) -> Answer
-    ensures { λ r. ⌜ CallTold (answered (held s (now (image .entry))) (lent (now (id .entry)) (now (password .entry)) (now (addresses .entry)) made time (now (out .entry))) (now (input .entry))) r (now (image .exit)) (now (out .entry)) (now (out .exit)) ⌝ }
+    ensures { λ r. ⌜ CallTold (answered (held s (now (image .entry)) (now (variables .entry))) (lent (now (id .entry)) (now (password .entry)) (now (addresses .entry)) made time (now (out .entry))) (now (input .entry))) r (now (image .exit)) (now (variables .exit)) (now (out .entry)) (now (out .exit)) ⌝ }
 {
-    let guard = serve_relation::guard(s, out.len());
+    let room = room_of(variables.len(), out.len());
+    let guard = serve_relation::guard(s, room);
     if let Guard::Stop(code) = guard {
         return call_sending::quiet(code, s);
     }
@@ -316,6 +379,7 @@ pub fn request(
                 addresses,
                 made,
                 image,
+                variables,
                 input,
                 time,
                 out,

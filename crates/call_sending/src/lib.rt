@@ -23,7 +23,7 @@ pub fn finish(
     out: &mut [u8],
 ) -> Answer
     requires { ⌜ Ready (now input) (now out) × Sendable reply (now seen) ⌝ }
-    ensures { λ r. ⌜ (r .len ≤ 32804) × ((image : List ℕ) → CallTold (replying (now (input .entry)) time reply (now (seen .entry)) (held next image)) r image (now (out .entry)) (now (out .exit))) ⌝ }
+    ensures { λ r. ⌜ (r .len ≤ 32804) × ((image variables : List ℕ) → CallTold (replying (now (input .entry)) time reply (now (seen .entry)) (held next image variables)) r image variables (now (out .entry)) (now (out .exit))) ⌝ }
 {
     let message = xdr::read_word(input, 16);
     let echo = xdr::read_word(input, 4);
@@ -39,7 +39,7 @@ pub fn finish(
 // A refused request, of any message: its number among zero words, as the row of the message says, and the session as it was but counted.
 pub fn refuse(s: Session, error: u32, input: &[u8], time: u32, out: &mut [u8]) -> Answer
     requires { ⌜ Ready (now input) (now out) ⌝ }
-    ensures { λ r. ⌜ ((image : List ℕ) → CallTold (replying (now (input .entry)) time (refusedIn (now (input .entry)) error) [] (held s image)) r image (now (out .entry)) (now (out .exit))) ⌝ }
+    ensures { λ r. ⌜ ((image variables : List ℕ) → CallTold (replying (now (input .entry)) time (refusedIn (now (input .entry)) error) [] (held s image variables)) r image variables (now (out .entry)) (now (out .exit))) ⌝ }
 {
     let message = xdr::read_word(input, 16);
     let row = wire_frame::row_of(message);
@@ -56,7 +56,7 @@ pub fn refuse(s: Session, error: u32, input: &[u8], time: u32, out: &mut [u8]) -
 // A notice behind what was sent, where there is a reason for one.
 pub fn notify(sent: Answer, time: u32, why: u32, notice: Notice, out: &mut [u8]) -> Answer
     requires { ⌜ (sent .len ≤ 36000) × (leastRoom ≤ length (now out)) ⌝ }
-    ensures { λ r. ⌜ (r .len ≤ sent .len + 40) × ((a : Answered) (image l : List ℕ) → CallTold a sent image l (now (out .entry)) → CallTold (noticed time why notice a) r image l (now (out .exit))) ⌝ }
+    ensures { λ r. ⌜ (r .len ≤ sent .len + 40) × ((a : Answered) (image variables l : List ℕ) → CallTold a sent image variables l (now (out .entry)) → CallTold (noticed time why notice a) r image variables l (now (out .exit))) ⌝ }
 {
     if why == 0 {
         return sent;
@@ -74,7 +74,7 @@ pub fn notify(sent: Answer, time: u32, why: u32, notice: Notice, out: &mut [u8])
 // The notices of what halted behind what was sent: data first, mover second.
 pub fn halts(sent: Answer, time: u32, dwhy: u32, mwhy: u32, out: &mut [u8]) -> Answer
     requires { ⌜ (sent .len ≤ 35000) × (leastRoom ≤ length (now out)) ⌝ }
-    ensures { λ r. ⌜ (r .len ≤ sent .len + 80) × ((a : Answered) (image l : List ℕ) → CallTold a sent image l (now (out .entry)) → CallTold (halting time dwhy mwhy a) r image l (now (out .exit))) ⌝ }
+    ensures { λ r. ⌜ (r .len ≤ sent .len + 80) × ((a : Answered) (image variables l : List ℕ) → CallTold a sent image variables l (now (out .entry)) → CallTold (halting time dwhy mwhy a) r image variables l (now (out .exit))) ⌝ }
 {
     let told = notify(sent, time, dwhy, Notice::DataHalted(dwhy), out);
     notify(told, time, mwhy, Notice::MoverHalted(mwhy), out)
@@ -82,7 +82,7 @@ pub fn halts(sent: Answer, time: u32, dwhy: u32, mwhy: u32, out: &mut [u8]) -> A
 
 // Nothing is sent and nothing changes.
 pub fn quiet(code: u32, s: Session) -> Answer
-    ensures { λ r. ⌜ ((image l : List ℕ) → CallTold (silent code (held s image)) r image l l) ⌝ }
+    ensures { λ r. ⌜ ((image variables l : List ℕ) → CallTold (silent code (held s image variables)) r image variables l l) ⌝ }
 {
     Answer {
         code,
@@ -93,7 +93,7 @@ pub fn quiet(code: u32, s: Session) -> Answer
 
 // A new session: the notice of the connection status is its message 1.
 pub fn begin(time: u32, out: &mut [u8]) -> Answer
-    ensures { λ r. ⌜ CallTold (opening time (length (now (out .entry)))) r [] (now (out .entry)) (now (out .exit)) ⌝ }
+    ensures { λ r. ⌜ CallTold (opening time (length (now (out .entry)))) r [] [] (now (out .entry)) (now (out .exit)) ⌝ }
 {
     if out.len() < codes::LARGEST_MESSAGE {
         let unopened = Session::begins(true, 1);
@@ -110,7 +110,7 @@ pub fn begin(time: u32, out: &mut [u8]) -> Answer
 
 // The session is closed, with no reply.
 pub fn shut(s: Session) -> Answer
-    ensures { λ r. ⌜ ((image l : List ℕ) → CallTold (closing (held s image)) r image l l) ⌝ }
+    ensures { λ r. ⌜ ((image variables l : List ℕ) → CallTold (closing (held s image variables)) r image variables l l) ⌝ }
 {
     Answer {
         code: 0,

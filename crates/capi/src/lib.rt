@@ -21,13 +21,13 @@ use wire_layouts::Addresses;
 // A new session.
 #[no_mangle]
 pub extern "C" fn mossgoblin_open(time: u32, out: &mut [u8]) -> Answer
-    ensures { λ r. ⌜ CallTold (opening time (length (now (out .entry)))) r [] (now (out .entry)) (now (out .exit)) ⌝ }
+    ensures { λ r. ⌜ CallTold (opening time (length (now (out .entry)))) r [] [] (now (out .entry)) (now (out .exit)) ⌝ }
 {
     call_request::open(time, out)
 }
 
 // One request: the session, the account's id and password, the list of addresses for a listen by TCP, whether the connection of a connect by TCP was
-// made, the cartridge, the record, the time stamp and the output.
+// made, the cartridge, the store of the environment, the record, the time stamp and the output.
 #[no_mangle]
 pub extern "C" fn mossgoblin_request(
     s: Session,
@@ -36,13 +36,25 @@ pub extern "C" fn mossgoblin_request(
     addresses: &[u8],
     made: bool,
     image: &mut [u8],
+    variables: &mut [u8],
     input: &[u8],
     time: u32,
     out: &mut [u8],
 ) -> Answer
-    ensures { λ r. ⌜ CallTold (answered (held s (now (image .entry))) (lent (now (id .entry)) (now (password .entry)) (now (addresses .entry)) made time (now (out .entry))) (now (input .entry))) r (now (image .exit)) (now (out .entry)) (now (out .exit)) ⌝ }
+    ensures { λ r. ⌜ CallTold (answered (held s (now (image .entry)) (now (variables .entry))) (lent (now (id .entry)) (now (password .entry)) (now (addresses .entry)) made time (now (out .entry))) (now (input .entry))) r (now (image .exit)) (now (variables .exit)) (now (out .entry)) (now (out .exit)) ⌝ }
 {
-    call_request::request(s, id, password, addresses, made, image, input, time, out)
+    call_request::request(
+        s,
+        id,
+        password,
+        addresses,
+        made,
+        image,
+        variables,
+        input,
+        time,
+        out,
+    )
 }
 
 // The addresses of a record that is a connect by TCP, for the host to make its connection; none of any other bytes.
@@ -63,7 +75,7 @@ pub extern "C" fn mossgoblin_move_to_tape(
     time: u32,
     out: &mut [u8],
 ) -> Moved
-    ensures { λ r. ⌜ MoveTold (movedToTape (held s (now (image .entry))) (stamped time (length (now (out .entry)))) (now (stream .entry)) last) r (now (image .exit)) [] (now (out .entry)) (now (out .exit)) ⌝ }
+    ensures { λ r. ⌜ ((variables : List ℕ) → MoveTold (movedToTape (held s (now (image .entry)) variables) (stamped time (length (now (out .entry)))) (now (stream .entry)) last) r (now (image .exit)) variables [] (now (out .entry)) (now (out .exit))) ⌝ }
 {
     call_moves::move_to_tape(s, image, stream, last, time, out)
 }
@@ -77,31 +89,31 @@ pub extern "C" fn mossgoblin_move_from_tape(
     time: u32,
     out: &mut [u8],
 ) -> Moved
-    ensures { λ r. ⌜ MoveTold (movedFromTape (held s (now (image .entry))) (stamped time (length (now (out .entry)))) (now (dest .entry))) r (now (image .entry)) (now (dest .exit)) (now (out .entry)) (now (out .exit)) ⌝ }
+    ensures { λ r. ⌜ ((variables : List ℕ) → MoveTold (movedFromTape (held s (now (image .entry)) variables) (stamped time (length (now (out .entry)))) (now (dest .entry))) r (now (image .entry)) variables (now (dest .exit)) (now (out .entry)) (now (out .exit))) ⌝ }
 {
     call_moves::move_from_tape(s, image, dest, time, out)
 }
 
-// The end of the method that reads or writes the stream, in success or not. It is handed no cartridge, and leaves it.
+// The end of the method that reads or writes the stream, in success or not. It is handed no cartridge and no store, and leaves both.
 #[no_mangle]
 pub extern "C" fn mossgoblin_end_method(s: Session, ok: bool, time: u32, out: &mut [u8]) -> Answer
-    ensures { λ r. ⌜ ((image : List ℕ) → CallTold (methodEnded (held s image) (stamped time (length (now (out .entry)))) ok) r image (now (out .entry)) (now (out .exit))) ⌝ }
+    ensures { λ r. ⌜ ((image variables : List ℕ) → CallTold (methodEnded (held s image variables) (stamped time (length (now (out .entry)))) ok) r image variables (now (out .entry)) (now (out .exit))) ⌝ }
 {
     call_moves::end_method(s, ok, time, out)
 }
 
-// A connection by TCP was made, with the mover or else with the data end. It is handed no cartridge, and leaves it.
+// A connection by TCP was made, with the mover or else with the data end. It is handed no cartridge and no store, and leaves both.
 #[no_mangle]
 pub extern "C" fn mossgoblin_made(s: Session, mover: bool, time: u32, out: &mut [u8]) -> Answer
-    ensures { λ r. ⌜ ((image : List ℕ) → CallTold (connectionMade (held s image) (stamped time (length (now (out .entry)))) mover) r image (now (out .entry)) (now (out .exit))) ⌝ }
+    ensures { λ r. ⌜ ((image variables : List ℕ) → CallTold (connectionMade (held s image variables) (stamped time (length (now (out .entry)))) mover) r image variables (now (out .entry)) (now (out .exit))) ⌝ }
 {
     call_moves::made(s, mover, time, out)
 }
 
-// A connection by TCP was lost, of the mover or else of the data end. It is handed no cartridge, and leaves it.
+// A connection by TCP was lost, of the mover or else of the data end. It is handed no cartridge and no store, and leaves both.
 #[no_mangle]
 pub extern "C" fn mossgoblin_lost(s: Session, mover: bool, time: u32, out: &mut [u8]) -> Answer
-    ensures { λ r. ⌜ ((image : List ℕ) → CallTold (connectionLost (held s image) (stamped time (length (now (out .entry)))) mover) r image (now (out .entry)) (now (out .exit))) ⌝ }
+    ensures { λ r. ⌜ ((image variables : List ℕ) → CallTold (connectionLost (held s image variables) (stamped time (length (now (out .entry)))) mover) r image variables (now (out .entry)) (now (out .exit))) ⌝ }
 {
     call_moves::lost(s, mover, time, out)
 }

@@ -17,12 +17,12 @@ quiet-requires c κs = search needs
 halts-requires : tie.Need-halts-requires
 halts-requires c κs =
     let c8 = c .before .before .before .before .before .before .before .before in
-    (omega (arith, c .before .quiet .ensures [] [] .len), omega (arith, c8 .before .pre))
+    (omega (arith, c .before .quiet .ensures [] [] [] .len), omega (arith, c8 .before .pre))
 
 notify-requires : tie.Need-notify-requires
 notify-requires c κs =
     let c8 = c .before .before .before .before .before .before .before .before in (
-      omega (arith, c .before .before .before .halts .ensures .0, c .before .before .before .before .before .quiet .ensures [] [] .len),
+      omega (arith, c .before .before .before .halts .ensures .0, c .before .before .before .before .before .quiet .ensures [] [] [] .len),
       omega
           (arith, c8 .before .before .before .before .before .pre),
     )
@@ -33,9 +33,10 @@ same-length c = search needs
 returns : tie.Need-returns
 returns c =
     let c8 = c .before .before .before .before .before .before .before .before in
-    λ before image.
-    let sent = unsent-as _ _ _ _ image _ (c8 .before .with-parts .ensures) (c8 .quiet .ensures image _) in
-    c .before .before .notify .ensures .1 _ image _ (c .before .before .before .before .before .before .halts .ensures .1 _ image _ sent)
+    λ before image variables.
+    let sent = unsent-as _ _ _ _ image variables _ (c8 .before .with-parts .ensures) (c8 .quiet .ensures image variables _) in
+    c .before .before .notify .ensures .1 _ image variables _
+    (c .before .before .before .before .before .before .halts .ensures .1 _ image variables _ sent)
 
 pub announce-spec : {M : Type 1} → statement M
 announce-spec =

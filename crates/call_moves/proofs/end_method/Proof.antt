@@ -17,7 +17,9 @@ same-length c = search needs
 
 returns : tie.Need-returns
 unfolding methodEnded
-returns c = λ image. rw (c .before .before .before .before .method-end .ensures) at (c .before .before .tell .ensures image)
+returns c =
+    λ image variables. rw (c .before .before .before .before .method-end .ensures) at
+    (c .before .before .tell .ensures image variables)
 
 pub end-method-spec : {M : Type 1} → statement M
 end-method-spec = tie.close (tie.spec method-end-requires tell-requires same-length returns)

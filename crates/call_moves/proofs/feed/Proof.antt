@@ -29,11 +29,13 @@ same-length-2 c = search needs
 
 returns : tie.Need-returns
 returns c =
+    λ variables.
     let c8 = c .before .before .before .before .before .before .before .before in
     let a = c8 .before .before .before .before .before .before .args in
-    moved-as (held (a .s) (now (a .image))) (stamped (a .time) (length (now (a .out)))) (c .before .before .before .before .before .before .to-tape .result) _ _ _ [] [] _ _ _ _ _
+    moved-as (held (a .s) (now (a .image)) variables) (stamped (a .time) (length (now (a .out))))
+    (c .before .before .before .before .before .before .to-tape .result) _ _ _ [] [] _ _ _ _ _ _
     (c .before .before .before .before .before .before .to-tape .ensures .is) (c .before .before .before .before .before .before .to-tape .ensures .image) refl
-    (c .before .before .report .ensures (now (a .image)) _ [])
+    (c .before .before .report .ensures (now (a .image)) _ variables [])
 
 pub feed-spec : {M : Type 1} → statement M
 feed-spec =

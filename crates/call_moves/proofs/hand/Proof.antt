@@ -28,12 +28,14 @@ same-length-2 c = search needs
 
 returns : tie.Need-returns
 returns c =
+    λ variables.
     let c8 = c .before .before .before .before .before .before .before .before in
     let a = c8 .before .before .before .before .before .before .args in
-    moved-as (held (a .s) (now (a .image))) (stamped (a .time) (length (now (a .out)))) (c .before .before .before .before .before .before .from-tape .result) _ (now (a .image))
-    (now (a .image)) _ _ _ _ _ _ _
+    moved-as (held (a .s) (now (a .image)) variables) (stamped (a .time) (length (now (a .out))))
+    (c .before .before .before .before .before .before .from-tape .result) _ (now (a .image))
+    (now (a .image)) _ _ _ _ _ _ _ _
     (c .before .before .before .before .before .before .from-tape .ensures .is) refl (c .before .before .before .before .before .before .from-tape .ensures .dest)
-    (c .before .before .report .ensures (now (a .image)) _ _)
+    (c .before .before .report .ensures (now (a .image)) _ variables _)
 
 pub hand-spec : {M : Type 1} → statement M
 hand-spec =

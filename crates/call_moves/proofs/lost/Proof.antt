@@ -17,7 +17,9 @@ same-length c = search needs
 
 returns : tie.Need-returns
 unfolding connectionLost
-returns c = λ image. rw (c .before .before .before .before .lost-at .ensures) at (c .before .before .tell .ensures image)
+returns c =
+    λ image variables. rw (c .before .before .before .before .lost-at .ensures) at
+    (c .before .before .tell .ensures image variables)
 
 pub lost-spec : {M : Type 1} → statement M
 lost-spec = tie.close (tie.spec lost-at-requires tell-requires same-length returns)

@@ -17,7 +17,9 @@ same-length c = search needs
 
 returns : tie.Need-returns
 unfolding connectionMade
-returns c = λ image. rw (c .before .before .before .before .made-at .ensures) at (c .before .before .tell .ensures image)
+returns c =
+    λ image variables. rw (c .before .before .before .before .made-at .ensures) at
+    (c .before .before .tell .ensures image variables)
 
 pub made-spec : {M : Type 1} → statement M
 made-spec = tie.close (tie.spec made-at-requires tell-requires same-length returns)

@@ -24,10 +24,11 @@ unmoved-requires c κs = search needs
 
 returns : tie.Need-returns
 returns c =
+    λ variables.
     let c8 = c .before .before .before .before .before .before .before .before in
     let a = c8 .args in
-    to-stopped (held (a .s) (now (a .image))) (stamped (a .time) (length (now (a .out)))) (now (a .stream)) (a .last) _
-    (sym (c .before .before .guard2 .given .1) ∙ c .before .before .before .before .guard .ensures) (c .unmoved .ensures _ _ _)
+    to-stopped (held (a .s) (now (a .image)) variables) (stamped (a .time) (length (now (a .out)))) (now (a .stream)) (a .last) _
+    (sym (c .before .before .guard2 .given .1) ∙ c .before .before .before .before .guard .ensures) (c .unmoved .ensures _ _ _ _)
 
 enum-told : tie.Need-enum-told
 enum-told c = search needs
@@ -45,10 +46,12 @@ same-length-2 c = search needs
 
 returns-2 : tie.Need-returns-2
 returns-2 c =
+    λ variables.
     let c8 = c .before .before .before .before .before .before .before .before in
     let a = c8 .before .before .before .before .before .args in
-    to-goes (held (a .s) (now (a .image))) (stamped (a .time) (length (now (a .out)))) (now (a .stream)) (a .last)
-    (sym (c .before .before .before .before .before .before .before .enum-told .given .1) ∙ c8 .before .guard .ensures) (c .before .before .before .before .feed .ensures)
+    to-goes (held (a .s) (now (a .image)) variables) (stamped (a .time) (length (now (a .out)))) (now (a .stream)) (a .last)
+    (sym (c .before .before .before .before .before .before .before .enum-told .given .1) ∙ c8 .before .guard .ensures)
+    (c .before .before .before .before .feed .ensures variables)
 
 pub move-to-tape-spec : {M : Type 1} → statement M
 move-to-tape-spec =

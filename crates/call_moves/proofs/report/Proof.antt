@@ -14,7 +14,8 @@ same-length : tie.Need-same-length
 same-length c = search needs
 
 returns : tie.Need-returns
-returns c = λ before image dest. record { call = c .before .before .before .announce .ensures before image; count = refl; dest = refl }
+returns c =
+    λ before image variables dest. record { call = c .before .before .before .announce .ensures before image variables; count = refl; dest = refl }
 
 pub report-spec : {M : Type 1} → statement M
 report-spec =

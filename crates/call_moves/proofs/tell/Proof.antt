@@ -24,10 +24,10 @@ quiet-requires c κs = search needs
 
 returns : tie.Need-returns
 returns c =
-    λ image.
+    λ image variables.
     let a = c .before .before .before .before .before .before .args in
-    event-stopped (held (a .s) image) (stamped (a .time) (length (now (a .out)))) (a .mv) _
-    (sym (c .before .before .guard2 .given .1) ∙ c .before .before .before .before .guard .ensures) (c .quiet .ensures _ _)
+    event-stopped (held (a .s) image variables) (stamped (a .time) (length (now (a .out)))) (a .mv) _
+    (sym (c .before .before .guard2 .given .1) ∙ c .before .before .before .before .guard .ensures) (c .quiet .ensures _ _ _)
 
 enum-told : tie.Need-enum-told
 enum-told c = search needs
@@ -43,10 +43,11 @@ same-length c = search needs
 returns-2 : tie.Need-returns-2
 returns-2 c =
     let c4 = c .before .before .before .before in
-    λ image.
+    λ image variables.
     let a = c4 .before .before .before .before .args in
-    event-goes (held (a .s) image) (stamped (a .time) (length (now (a .out)))) (a .mv) (sym (c4 .enum-told .given .1) ∙ c4 .before .before .guard .ensures)
-    (c .before .before .announce .ensures image image)
+    event-goes (held (a .s) image variables) (stamped (a .time) (length (now (a .out)))) (a .mv)
+    (sym (c4 .enum-told .given .1) ∙ c4 .before .before .guard .ensures)
+    (c .before .before .announce .ensures image image variables)
 
 pub tell-spec : {M : Type 1} → statement M
 tell-spec =

@@ -8,7 +8,7 @@ use Rattle.call_moves.proofs.unmoved.Reads as reads
 use Rattle.call_moves.proofs.unmoved.Lts as lts
 
 returns : tie.Need-returns
-returns c = λ image dest l. record { call = unsent _ _ _ image l refl; count = refl; dest = refl }
+returns c = λ image variables dest l. record { call = unsent _ _ _ image variables l refl; count = refl; dest = refl }
 
 pub unmoved-spec : {M : Type 1} → statement M
 unmoved-spec =

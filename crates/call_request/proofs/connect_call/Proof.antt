@@ -20,7 +20,9 @@ shut-requires : tie.Need-shut-requires
 shut-requires c κs = search needs
 
 returns : tie.Need-returns
-returns c = λ image. call-if _ (sym (c .before .before .is-close .ensures) ∙ c .before .if1 .taken) (c .shut .ensures image _)
+returns c =
+    λ image variables. call-if _ (sym (c .before .before .is-close .ensures) ∙ c .before .if1 .taken)
+    (c .shut .ensures image variables _)
 
 sub-serve : tie.Need-sub-serve
 sub-serve c = search needs
@@ -48,10 +50,11 @@ returns-2 : tie.Need-returns-2
 unfolding isUnread
 returns-2 c =
     let c8 = c .before .before .before .before .before .before .before .before in
-    λ image.
+    λ image variables.
     let a = c8 .before .before .before .before .before .args in
     call-else _ (sym (c8 .is-close .ensures) ∙ c .before .before .before .before .before .before .before .if1 .left)
-    (rw (c .before .before .before .before .serve .ensures, body-is (now (a .input))) at (c .before .before .login-call .ensures image (Request.Connect (a .q)) refl))
+    (rw (c .before .before .before .before .serve .ensures, body-is (now (a .input))) at
+    (c .before .before .login-call .ensures image variables (Request.Connect (a .q)) refl))
 
 pub connect-call-spec : {M : Type 1} → statement M
 connect-call-spec =

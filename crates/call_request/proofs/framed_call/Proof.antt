@@ -31,7 +31,9 @@ is-locked-requires : tie.Need-is-locked-requires
 is-locked-requires c κs = search needs
 
 refuse-requires : tie.Need-refuse-requires
-refuse-requires c κs = c .before .before .before .before .before .before .before .before .before .before .before .before .before .pre .0
+refuse-requires c κs =
+    let c8 = c .before .before .before .before .before .before .before .before in
+    c8 .before .before .before .before .before .before .pre .0
 
 same-length : tie.Need-same-length
 same-length c = search needs
@@ -39,17 +41,27 @@ same-length c = search needs
 returns : tie.Need-returns
 returns c =
     let c8 = c .before .before .before .before .before .before .before .before in
-    let a = c8 .before .before .before .before .before .before .before .before .args in
-    call-locked (held (a .s) (now (a .image))) (lent (now (a .id)) (now (a .password)) (now (a .addresses)) (a .made) (a .time) (now (a .out))) (now (a .input)) _
-    (request-is (now (a .input)) (body-is (now (a .input))) (c8 .before .before .before .before .before .before .before .before .pre .1) (c8 .before .row-of .ensures) refl
+    let c16 = c8 .before .before .before .before .before .before .before .before in
+    let a = c16 .before .args in
+    let k = held (a .s) (now (a .image)) (now (a .variables)) in
+    let l = lent (now (a .id)) (now (a .password)) (now (a .addresses)) (a .made) (a .time) (now (a .out)) in
+    call-locked k l (now (a .input)) _
+    (request-is (now (a .input)) (body-is (now (a .input))) (c16 .before .pre .1) (c8 .before .row-of .ensures) refl
     (c .before .before .before .before .before .before .before .decode .ensures))
-    (sym (c .before .before .before .before .before .is-locked .ensures) ∙ c .before .before .before .before .if1 .taken) (c .before .before .refuse .ensures _)
+    (sym (c .before .before .before .before .before .is-locked .ensures) ∙
+    c .before .before .before .before .if1 .taken) (c .before .before .refuse .ensures _ _)
 
 serve-call-requires : tie.Need-serve-call-requires
 serve-call-requires c κs =
     let c8 = c .before .before .before .before .before .before .before .before in
-    let a = c8 .before .before .before .before .before .before .args in
-    (c8 .before .before .before .before .before .before .pre .0, texts-in (now (a .input)) (body-is (now (a .input))) (c .before .before .before .before .before .decode .ensures))
+    let c16 = c8 .before .before .before .before .before .before .before .before in
+    let a = c16 .args in
+    let pre = c16 .pre in (
+      pre .0,
+      texts-in (now (a .input)) (body-is (now (a .input)))
+          (c .before .before .before .before .before .before .decode .ensures),
+      pre .2,
+    )
 
 same-length-2 : tie.Need-same-length-2
 same-length-2 c = search needs
@@ -57,15 +69,23 @@ same-length-2 c = search needs
 same-length-3 : tie.Need-same-length-3
 same-length-3 c = search needs
 
+same-length-4 : tie.Need-same-length-4
+same-length-4 c = search needs
+
 returns-2 : tie.Need-returns-2
 returns-2 c =
     let c8 = c .before .before .before .before .before .before .before .before in
     let c16 = c8 .before .before .before .before .before .before .before .before in
-    let a = c16 .before .before .before .args in
-    call-free (held (a .s) (now (a .image))) (lent (now (a .id)) (now (a .password)) (now (a .addresses)) (a .made) (a .time) (now (a .out))) (now (a .input)) _
-    (request-is (now (a .input)) (body-is (now (a .input))) (c16 .before .before .before .pre .1) (c8 .before .before .before .before .row-of .ensures) refl
-    (c8 .before .before .decode .ensures)) (sym (c8 .is-locked .ensures) ∙ c .before .before .before .before .before .before .before .if1 .left)
-    (c .before .before .before .before .serve-call .ensures)
+    let a = c16 .before .before .before .before .before .before .before .args in
+    let k = held (a .s) (now (a .image)) (now (a .variables)) in
+    let l = lent (now (a .id)) (now (a .password)) (now (a .addresses)) (a .made) (a .time) (now (a .out)) in
+    call-free k l (now (a .input)) _
+    (request-is (now (a .input)) (body-is (now (a .input)))
+    (c16 .before .before .before .before .before .before .before .pre .1)
+    (c8 .before .before .before .before .before .before .before .row-of .ensures) refl
+    (c8 .before .before .before .before .before .decode .ensures))
+    (sym (c8 .before .before .before .is-locked .ensures) ∙ c8 .before .before .if1 .left)
+    (c .before .before .before .before .before .before .serve-call .ensures)
 
 pub framed-call-spec : {M : Type 1} → statement M
 framed-call-spec =
@@ -83,4 +103,5 @@ framed-call-spec =
     serve-call-requires
     same-length-2
     same-length-3
+    same-length-4
     returns-2)

@@ -57,12 +57,12 @@ returns : tie.Need-returns
 unfolding isUnread
 returns c =
     let c8 = c .before .before .before .before .before .before .before .before in
-    λ image.
+    λ image variables.
     let a = c8 .before .before .before .before .before .args in
-    let k = held (a .s) image in
+    let k = held (a .s) image variables in
     call-refused k (a .time) (now (a .input)) (Request.Joint (a .q)) (withEnds k) (jointStep (a .s .source) (a .s .mover) (a .s .tape) (a .q) (a .made)) _ refl
     (ap outcomeOf (sym (c .before .before .before .before .before .done .given .1)) ∙ c .before .before .before .before .before .before .before .serve .ensures)
-    (c .before .before .refuse .ensures image)
+    (c .before .before .refuse .ensures image variables)
 
 same-length-2 : tie.Need-same-length-2
 same-length-2 c = search needs
@@ -71,12 +71,14 @@ returns-2 : tie.Need-returns-2
 returns-2 c =
     let c8 = c .before .before .before .before .before .before .before .before in
     let c16 = c8 .before .before .before .before .before .before .before .before in
-    λ image.
+    λ image variables.
     let a = c16 .before .before .before .before .before .before .before .args in
-    let k = held (a .s) image in
-    let sent = rw (c8 .before .with-parts .ensures) at (c .before .before .before .before .before .before .finish .ensures .1 image) in
+    let k = held (a .s) image variables in
+    let sent = rw (c8 .before .with-parts .ensures) at
+    (c .before .before .before .before .before .before .finish .ensures .1 image variables) in
     call-ended k (a .time) (now (a .input)) (Request.Joint (a .q)) (withEnds k) (jointStep (a .s .source) (a .s .mover) (a .s .tape) (a .q) (a .made)) _ _
-    (ap outcomeOf (sym (c8 .before .before .before .before .before .before .before .done2 .given .1)) ∙ c16 .before .serve .ensures) (c .before .before .halts .ensures .1 _ image _ sent)
+    (ap outcomeOf (sym (c8 .before .before .before .before .before .before .before .done2 .given .1)) ∙
+    c16 .before .serve .ensures) (c .before .before .halts .ensures .1 _ image variables _ sent)
 
 pub joint-call-spec : {M : Type 1} → statement M
 joint-call-spec =

@@ -39,11 +39,11 @@ same-length c = search needs
 returns : tie.Need-returns
 returns c =
     let c8 = c .before .before .before .before .before .before .before .before in
-    λ image q u.
+    λ image variables q u.
     let a = c8 .before .args in
-    let k = held (a .s) image in
+    let k = held (a .s) image variables in
     call-refused k (a .time) (now (a .input)) q (withLogin k) (outcomeOf (a .done)) _ u (ap outcomeOf (sym (c .before .before .before .before .before .done .given .1)))
-    (c .before .before .refuse .ensures image)
+    (c .before .before .refuse .ensures image variables)
 
 same-length-2 : tie.Need-same-length-2
 same-length-2 c = search needs
@@ -51,11 +51,11 @@ same-length-2 c = search needs
 returns-2 : tie.Need-returns-2
 returns-2 c =
     let c8 = c .before .before .before .before .before .before .before .before in
-    λ image q u.
+    λ image variables q u.
     let a = c8 .before .before .before .before .before .before .before .args in
-    let k = held (a .s) image in
+    let k = held (a .s) image variables in
     call-accepted k (a .time) (now (a .input)) q (withLogin k) (outcomeOf (a .done)) _ _ refl refl (ap outcomeOf (sym (c8 .before .before .before .done2 .given .1)))
-    (rw (c .before .before .before .before .before .with-parts .ensures) at (c .before .before .finish .ensures .1 image))
+    (rw (c .before .before .before .before .before .with-parts .ensures) at (c .before .before .finish .ensures .1 image variables))
 
 pub login-call-spec : {M : Type 1} → statement M
 login-call-spec =

@@ -47,14 +47,14 @@ returns : tie.Need-returns
 unfolding isUnread
 returns c =
     let c8 = c .before .before .before .before .before .before .before .before in
-    λ image.
+    λ image variables.
     let a = c8 .before .before .before .before .before .args in
-    let k = held (a .s) image in
+    let k = held (a .s) image variables in
     let list = now (a .addresses) in
     call-refused k (a .time) (now (a .input)) (Request.Mover (a .q)) (withPart k list) (moverPartStep (tapePart k) (a .q) list) _ refl
     (mover-refuses (tapePart k) (a .q) list _
     (ap outcomeOf (sym (c .before .before .before .before .before .done .given .1)) ∙ c .before .before .before .before .before .before .before .serve .ensures))
-    (c .before .before .refuse .ensures image)
+    (c .before .before .refuse .ensures image variables)
 
 same-length-2 : tie.Need-same-length-2
 same-length-2 c = search needs
@@ -63,13 +63,13 @@ returns-2 : tie.Need-returns-2
 returns-2 c =
     let c8 = c .before .before .before .before .before .before .before .before in
     let c16 = c8 .before .before .before .before .before .before .before .before in
-    λ image.
+    λ image variables.
     let a = c16 .before .args in
-    let k = held (a .s) image in
+    let k = held (a .s) image variables in
     let list = now (a .addresses) in
     call-accepted k (a .time) (now (a .input)) (Request.Mover (a .q)) (withPart k list) (moverPartStep (tapePart k) (a .q) list) _ _ refl refl
     (mover-accepts (tapePart k) (a .q) list _ _ (ap outcomeOf (sym (c8 .before .done2 .given .1)) ∙ c8 .before .before .before .serve .ensures))
-    (rw (c .before .before .before .before .with-parts .ensures) at (c .before .before .finish .ensures .1 image))
+    (rw (c .before .before .before .before .with-parts .ensures) at (c .before .before .finish .ensures .1 image variables))
 
 pub mover-call-spec : {M : Type 1} → statement M
 mover-call-spec =

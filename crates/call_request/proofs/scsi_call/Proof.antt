@@ -61,13 +61,13 @@ returns : tie.Need-returns
 unfolding isUnread
 returns c =
     let c8 = c .before .before .before .before .before .before .before .before in
-    λ image.
+    λ image variables.
     let a = c8 .before .before .before .before .args in
-    let k = held (a .s) image in
+    let k = held (a .s) image variables in
     call-refused k (a .time) (now (a .input)) (Request.Scsi (a .q)) (withChanger k) (scsiStep (a .s .changer) (a .q) (drop 28 (now (a .input)))) _ refl
     (rw (body-is (now (a .input))) at
     (ap outcomeOf (sym (c .before .before .before .before .before .done .given .1)) ∙ c .before .before .before .before .before .before .before .serve .ensures))
-    (c .before .before .refuse .ensures image)
+    (c .before .before .refuse .ensures image variables)
 
 same-length-2 : tie.Need-same-length-2
 same-length-2 c = search needs
@@ -76,12 +76,12 @@ returns-2 : tie.Need-returns-2
 returns-2 c =
     let c8 = c .before .before .before .before .before .before .before .before in
     let c16 = c8 .before .before .before .before .before .before .before .before in
-    λ image.
+    λ image variables.
     let a = c16 .before .before .args in
-    let k = held (a .s) image in
+    let k = held (a .s) image variables in
     call-accepted k (a .time) (now (a .input)) (Request.Scsi (a .q)) (withChanger k) (scsiStep (a .s .changer) (a .q) (drop 28 (now (a .input)))) _ _ refl refl
     (rw (body-is (now (a .input))) at (ap outcomeOf (sym (c8 .before .before .before .done2 .given .1)) ∙ c8 .before .before .before .before .before .serve .ensures))
-    (rw (c .before .before .before .before .before .with-parts .ensures) at (c .before .before .finish .ensures .1 image))
+    (rw (c .before .before .before .before .before .with-parts .ensures) at (c .before .before .finish .ensures .1 image variables))
 
 pub scsi-call-spec : {M : Type 1} → statement M
 scsi-call-spec =

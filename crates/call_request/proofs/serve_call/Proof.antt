@@ -17,7 +17,7 @@ enum-known-q c = search needs
 connect-call-requires : tie.Need-connect-call-requires
 connect-call-requires c κs =
     let c8 = c .before .before .before .before .before .before .before .before in
-    (c8 .before .before .pre .0, rw (c .before .before .q .given .1) at (c8 .before .before .pre .1))
+    (c8 .before .before .before .pre .0, rw (c .before .before .q .given .1) at (c8 .before .before .before .pre .1))
 
 enum-known-q-2 : tie.Need-enum-known-q-2
 enum-known-q-2 c = search needs
@@ -28,7 +28,7 @@ config-requires c κs = search needs
 login-call-requires : tie.Need-login-call-requires
 login-call-requires c κs =
     let c8 = c .before .before .before .before .before .before .before .before in
-    (c8 .before .before .before .before .pre .0, rw (c .before .config .ensures) (config-sends _ _))
+    (c8 .before .before .before .before .before .pre .0, rw (c .before .config .ensures) (config-sends _ _))
 
 enum-known-q-3 : tie.Need-enum-known-q-3
 enum-known-q-3 c = search needs
@@ -36,54 +36,70 @@ enum-known-q-3 c = search needs
 scsi-call-requires : tie.Need-scsi-call-requires
 scsi-call-requires c κs =
     let c8 = c .before .before .before .before .before .before .before .before in
-    (c8 .before .before .pre .0, rw (c .before .before .q3 .given .1) at (c8 .before .before .pre .1))
+    (c8 .before .before .before .pre .0, rw (c .before .before .q3 .given .1) at (c8 .before .before .before .pre .1))
 
 enum-known-q-4 : tie.Need-enum-known-q-4
 enum-known-q-4 c = search needs
 
 tape-call-requires : tie.Need-tape-call-requires
 tape-call-requires c κs =
-    let c8 = c .before .before .before .before .before .before .before .before in
-    (c8 .before .before .before .pre .0, rw (c .before .before .before .q4 .given .1) at (c8 .before .before .before .pre .1))
+    let c8 = c .before .before .before .before .before .before .before .before in (
+      c8 .before .before .before .before .pre .0,
+      rw (c .before .before .before .q4 .given .1) at
+          (c8 .before .before .before .before .pre .1),
+    )
 
 enum-known-q-5 : tie.Need-enum-known-q-5
 enum-known-q-5 c = search needs
 
 data-call-requires : tie.Need-data-call-requires
 data-call-requires c κs =
-    let c8 = c .before .before .before .before .before .before .before .before in
-    (c8 .before .before .pre .0, rw (c .before .before .q5 .given .1) at (c8 .before .before .pre .1))
+    let c8 = c .before .before .before .before .before .before .before .before in (
+      c8 .before .before .before .before .pre .0,
+      rw (c .before .before .before .q5 .given .1) at
+          (c8 .before .before .before .before .pre .1),
+      c8 .before .before .before .before .pre .2,
+    )
 
 enum-known-q-6 : tie.Need-enum-known-q-6
 enum-known-q-6 c = search needs
 
 mover-call-requires : tie.Need-mover-call-requires
-mover-call-requires c κs = c .before .before .before .before .before .before .before .before .before .before .pre .0
+mover-call-requires c κs =
+    let c8 = c .before .before .before .before .before .before .before .before in
+    c8 .before .before .before .pre .0
 
 enum-known-q-7 : tie.Need-enum-known-q-7
 enum-known-q-7 c = search needs
 
 joint-call-requires : tie.Need-joint-call-requires
-joint-call-requires c κs = c .before .before .before .before .before .before .before .before .before .before .pre .0
+joint-call-requires c κs =
+    let c8 = c .before .before .before .before .before .before .before .before in
+    c8 .before .before .before .pre .0
 
 enum-told : tie.Need-enum-told
 enum-told c = search needs
 
 header-call-requires : tie.Need-header-call-requires
-header-call-requires c κs = c .before .before .before .before .before .before .before .before .before .pre .0
+header-call-requires c κs =
+    let c8 = c .before .before .before .before .before .before .before .before in
+    c8 .before .before .pre .0
 
 enum-told-2 : tie.Need-enum-told-2
 enum-told-2 c = search needs
 
 header-call-requires-2 : tie.Need-header-call-requires-2
-header-call-requires-2 c κs = c .before .before .before .before .before .before .before .before .before .pre .0
+header-call-requires-2 c κs =
+    let c8 = c .before .before .before .before .before .before .before .before in
+    c8 .before .before .pre .0
 
 same-length : tie.Need-same-length
 same-length c = search needs
 
 returns : tie.Need-returns
 unfolding outcome isClose choose
-returns c = rw (c .before .before .before .before .before .q .given .1) (c .before .before .connect-call .ensures _)
+returns c =
+    rw (c .before .before .before .before .before .q .given .1) (c .before .before .connect-call .ensures _ _)
 
 same-length-2 : tie.Need-same-length-2
 same-length-2 c = search needs
@@ -92,9 +108,11 @@ returns-2 : tie.Need-returns-2
 unfolding outcome isClose isUnread choose
 returns-2 c =
     let c8 = c .before .before .before .before .before .before .before .before in
+    let c16 = c8 .before .before .before .before .before .before .before .before in
+    let a = c16 .args in
     rw (c .before .before .before .before .before .before .before .q2 .given .1)
     (rw (c .before .before .before .before .config .ensures) at
-    (c .before .before .login-call .ensures (now (c8 .before .before .before .before .before .before .before .args .image))
+    (c .before .before .login-call .ensures (now (a .image)) (now (a .variables))
     (Request.Config (c .before .before .before .before .before .before .before .q2 .given .0 .0)) refl))
 
 same-length-3 : tie.Need-same-length-3
@@ -102,7 +120,8 @@ same-length-3 c = search needs
 
 returns-3 : tie.Need-returns-3
 unfolding outcome isClose choose
-returns-3 c = rw (c .before .before .before .before .before .q3 .given .1) (c .before .before .scsi-call .ensures _)
+returns-3 c =
+    rw (c .before .before .before .before .before .q3 .given .1) (c .before .before .scsi-call .ensures _ _)
 
 same-length-4 : tie.Need-same-length-4
 same-length-4 c = search needs
@@ -114,42 +133,51 @@ returns-4 : tie.Need-returns-4
 unfolding outcome isClose choose
 returns-4 c =
     let c8 = c .before .before .before .before .before .before .before .before in
-    rw (c8 .q4 .given .1) (c .before .before .before .before .tape-call .ensures)
+    rw (c8 .q4 .given .1) (c .before .before .before .before .tape-call .ensures _)
 
 same-length-6 : tie.Need-same-length-6
 same-length-6 c = search needs
 
-returns-5 : tie.Need-returns-5
-unfolding outcome isClose choose
-returns-5 c = rw (c .before .before .before .before .before .q5 .given .1) (c .before .before .data-call .ensures _)
-
 same-length-7 : tie.Need-same-length-7
 same-length-7 c = search needs
 
-returns-6 : tie.Need-returns-6
+returns-5 : tie.Need-returns-5
 unfolding outcome isClose choose
-returns-6 c = rw (c .before .before .before .before .before .q6 .given .1) (c .before .before .mover-call .ensures _)
+returns-5 c =
+    let c8 = c .before .before .before .before .before .before .before .before in
+    rw (c8 .q5 .given .1) (c .before .before .before .before .data-call .ensures _)
 
 same-length-8 : tie.Need-same-length-8
 same-length-8 c = search needs
 
-returns-7 : tie.Need-returns-7
+returns-6 : tie.Need-returns-6
 unfolding outcome isClose choose
-returns-7 c = rw (c .before .before .before .before .before .q7 .given .1) (c .before .before .joint-call .ensures _)
+returns-6 c =
+    rw (c .before .before .before .before .before .q6 .given .1) (c .before .before .mover-call .ensures _ _)
 
 same-length-9 : tie.Need-same-length-9
 same-length-9 c = search needs
 
-returns-8 : tie.Need-returns-8
-unfolding outcome isClose settled refusing isUnread choose
-returns-8 c = rw (c .before .before .before .before .enum-told .given .1) (c .before .before .header-call .ensures _)
+returns-7 : tie.Need-returns-7
+unfolding outcome isClose choose
+returns-7 c =
+    rw (c .before .before .before .before .before .q7 .given .1) (c .before .before .joint-call .ensures _ _)
 
 same-length-10 : tie.Need-same-length-10
 same-length-10 c = search needs
 
+returns-8 : tie.Need-returns-8
+unfolding outcome isClose settled refusing isUnread choose
+returns-8 c =
+    rw (c .before .before .before .before .enum-told .given .1) (c .before .before .header-call .ensures _ _)
+
+same-length-11 : tie.Need-same-length-11
+same-length-11 c = search needs
+
 returns-9 : tie.Need-returns-9
 unfolding outcome isClose settled refusing isUnread choose
-returns-9 c = rw (c .before .before .before .before .enum-told2 .given .1) (c .before .before .header-call2 .ensures _)
+returns-9 c =
+    rw (c .before .before .before .before .enum-told2 .given .1) (c .before .before .header-call2 .ensures _ _)
 
 pub serve-call-spec : {M : Type 1} → statement M
 serve-call-spec =
@@ -184,12 +212,13 @@ serve-call-spec =
     same-length-5
     returns-4
     same-length-6
-    returns-5
     same-length-7
-    returns-6
+    returns-5
     same-length-8
-    returns-7
+    returns-6
     same-length-9
-    returns-8
+    returns-7
     same-length-10
+    returns-8
+    same-length-11
     returns-9)

@@ -60,14 +60,16 @@ same-length-2 c = search needs
 returns : tie.Need-returns
 unfolding isUnread
 returns c =
+    λ variables.
     let c8 = c .before .before .before .before .before .before .before .before in
     let c16 = c8 .before .before .before .before .before .before .before .before in
     let a = c16 .before .args in
-    let k = held (a .s) (now (a .image)) in
+    let k = held (a .s) (now (a .image)) variables in
     let told = rw (c .before .before .before .before .before .done .given .1, body-is (now (a .input))) at (c8 .before .serve .ensures) in
     rw (told .1)
     (call-refused k (a .time) (now (a .input)) (Request.Tape (a .q)) (withTape k) (tapeStep (tapePart k) (a .q) (drop 28 (now (a .input)))) _ refl
-    (tape-refuses (tapePart k) (a .q) (drop 28 (now (a .input))) _ (told .0)) (c .before .before .refuse .ensures (now (a .image))))
+    (tape-refuses (tapePart k) (a .q) (drop 28 (now (a .input))) _ (told .0))
+    (c .before .before .refuse .ensures (now (a .image)) variables))
 
 same-length-3 : tie.Need-same-length-3
 same-length-3 c = search needs
@@ -77,14 +79,16 @@ same-length-4 c = search needs
 
 returns-2 : tie.Need-returns-2
 returns-2 c =
+    λ variables.
     let c8 = c .before .before .before .before .before .before .before .before in
     let c16 = c8 .before .before .before .before .before .before .before .before in
     let a = c16 .before .before .before .before .before .before .args in
-    let k = held (a .s) (now (a .image)) in
+    let k = held (a .s) (now (a .image)) variables in
     let told = rw (c8 .before .before .done2 .given .1, body-is (now (a .input))) at (c8 .before .before .before .before .before .before .serve .ensures) in
     call-accepted k (a .time) (now (a .input)) (Request.Tape (a .q)) (withTape k) (tapeStep (tapePart k) (a .q) (drop 28 (now (a .input)))) _ _ refl refl
     (tape-accepts (tapePart k) (a .q) (drop 28 (now (a .input))) _ _ told)
-    (same-reply _ _ _ _ _ _ _ _ _ _ _ refl (c .before .before .before .before .before .with-parts .ensures) (c .before .before .finish .ensures .1 _))
+    (same-reply _ _ _ _ _ _ _ _ _ _ _ _ refl (c .before .before .before .before .before .with-parts .ensures)
+    (c .before .before .finish .ensures .1 _ _))
 
 pub tape-call-spec : {M : Type 1} → statement M
 tape-call-spec =

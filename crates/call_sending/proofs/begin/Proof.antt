@@ -17,7 +17,9 @@ quiet-requires c κs = search needs
 
 returns : tie.Need-returns
 unfolding opening
-returns c = call-if _ (ltb-yes (c .before .before .if1 .taken)) (unsent-as _ _ 1001 _ [] _ (c .before .begins .ensures) (c .quiet .ensures [] _))
+returns c =
+    call-if _ (ltb-yes (c .before .before .if1 .taken))
+    (unsent-as _ _ 1001 _ [] [] _ (c .before .begins .ensures) (c .quiet .ensures [] [] _))
 
 write-notice-requires : tie.Need-write-notice-requires
 write-notice-requires c κs = search needs

@@ -20,7 +20,7 @@ returns : tie.Need-returns
 returns c =
     let first = c .before .before .before .before .before .before .notify .ensures in
     let second = c .before .before .notify2 .ensures in
-    (omega (arith, first .0, second .0), λ a image l t. second .1 _ image l (first .1 a image l t))
+    (omega (arith, first .0, second .0), λ a image variables l t. second .1 _ image variables l (first .1 a image variables l t))
 
 pub halts-spec : {M : Type 1} → statement M
 halts-spec = tie.close (tie.spec notify-requires notify-requires-2 same-length returns)

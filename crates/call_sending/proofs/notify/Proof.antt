@@ -10,7 +10,7 @@ use Rattle.wire_writing.proofs.write_notice.Reads as write-notice-reads
 use Rattle.rules_parts.proofs.types.Session.after_message.Reads as types-Session-after-message-reads
 
 returns : tie.Need-returns
-returns c = (omega arith, λ a image l t. not-noticed _ _ _ a _ image l _ (c .if1 .taken) t)
+returns c = (omega arith, λ a image variables l t. not-noticed _ _ _ a _ image variables l _ (c .if1 .taken) t)
 
 write-notice-requires : tie.Need-write-notice-requires
 write-notice-requires c κs = search needs
@@ -24,7 +24,7 @@ same-length c = search needs
 returns-2 : tie.Need-returns-2
 returns-2 c = (
   c .before .before .before .write-notice .ensures .small,
-  λ a image l t. also-noticed _ _ _ a _ image l _ _ _ _ (c .before .before .before .before .before .before .if1 .left)
+  λ a image variables l t. also-noticed _ _ _ a _ image variables l _ _ _ _ (c .before .before .before .before .before .before .if1 .left)
       t (c .before .before .before .write-notice .ensures .put) (c .after-message .ensures),
 )
 

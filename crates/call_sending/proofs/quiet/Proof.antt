@@ -8,7 +8,7 @@ use Rattle.call_sending.proofs.quiet.Reads as reads
 use Rattle.call_sending.proofs.quiet.Lts as lts
 
 returns : tie.Need-returns
-returns c = λ image l. unsent _ _ _ image l refl
+returns c = λ image variables l. unsent _ _ _ image variables l refl
 
 pub quiet-spec : {M : Type 1} → statement M
 quiet-spec = tie.close (tie.spec returns)

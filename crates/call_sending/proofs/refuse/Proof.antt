@@ -28,8 +28,11 @@ same-length : tie.Need-same-length
 same-length c = search needs
 
 returns : tie.Need-returns
-returns c = λ image. refused-as _ _ _ _ _ (c .before .before .before .before .before .before .before .before .before .args .s) image _ _ _
-    (c .before .before .before .before .before .before .read-word .ensures) (c .before .before .before .before .before .row-of .ensures) (c .before .before .finish .ensures .1 image)
+returns c =
+    λ image variables. refused-as _ _ _ _ _
+    (c .before .before .before .before .before .before .before .before .before .args .s) image variables _ _ _
+    (c .before .before .before .before .before .before .read-word .ensures)
+    (c .before .before .before .before .before .row-of .ensures) (c .before .before .finish .ensures .1 image variables)
 
 pub refuse-spec : {M : Type 1} → statement M
 refuse-spec =

@@ -11,7 +11,7 @@ shuts-requires : tie.Need-shuts-requires
 shuts-requires c κs = search needs
 
 returns : tie.Need-returns
-returns c = λ image l. unsent _ _ _ image l (c .shuts .ensures)
+returns c = λ image variables l. unsent _ _ _ image variables l (c .shuts .ensures)
 
 pub shut-spec : {M : Type 1} → statement M
 shut-spec = tie.close (tie.spec shuts-requires returns)

@@ -1,3 +1,4 @@
+use mathlib.Core.Path.{refl}
 use Rattle.rules.specs.Judge.{judge}
 use Rattle.rules.specs.DataService.{dataState}
 use borrow.Author.Needs.{needs}
@@ -11,7 +12,7 @@ told-in-requires c κs = search needs
 
 returns : tie.Need-returns
 unfolding dataState judge
-returns c = cc
+returns c = λ v. (cc, refl)
 
 pub get-state-spec : {M : Type 1} → statement M
 get-state-spec =
