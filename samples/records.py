@@ -4,7 +4,7 @@ run_requests passes over and is to print.
 
 The bodies are built from 004's layouts (Appendix C, by the lines named). Every expected line is written by hand beside its record, from
 004 and paper 01; none is taken from the program. A line has the sequence number and the request: numbers in decimal; a text as its
-place in the body + its length, and = its bytes where they are at most 32.
+place in the body + its length, and = its bytes where they are at most 32; the pairs of a start request as the place of the first + their number.
 """
 from wire import header, listed, marked, opaque, quad, text, word, write
 
@@ -142,10 +142,11 @@ HANDLED = [
     ('tape_read', request(16, 0x305, tape_read(1024)), '16 TAPE_READ count 1024'),
     ('data_get_state', request(17, 0x400), '17 DATA_GET_STATE'),
     ('data_start_backup', request(18, 0x401, start_backup(b'dump', [pair(b'FILESYSTEM', b'/vol'), pair(b'LEVEL', b'0')])),
-     '18 DATA_START_BACKUP method 4+4=64756d70'),
+     '18 DATA_START_BACKUP method 4+4=64756d70 pairs 12+2'),
     ('data_start_recover', request(19, 0x402, start_recover([pair(b'HIST', b'y')], [name(b'/a/b', b'/r', b'b', b'', 5, 6)], b'dump')),
-     '19 DATA_START_RECOVER method 72+4=64756d70'),
+     '19 DATA_START_RECOVER method 72+4=64756d70 pairs 4+1'),
     ('data_abort', request(20, 0x403), '20 DATA_ABORT'),
+    ('data_get_env', request(293, 0x404), '293 DATA_GET_ENV'),
     ('data_stop', request(21, 0x407), '21 DATA_STOP'),
     ('data_listen', request(22, 0x409, data_listen(0)), '22 DATA_LISTEN address 0'),
     ('data_connect', request(23, 0x40A, data_connect(local())), '23 DATA_CONNECT address 0 addresses 0'),
@@ -185,7 +186,7 @@ FRAMES = [
     ('type_7', marked(header(44, TIME, 7, 0x900, 0, 0) + connect_open(4)), 'not a request'),
     ('type_all_ones', marked(header(45, TIME, 0xFFFFFFFF, 0x900, 0, 0) + connect_open(4)), 'not a request'),
     ('type_256', marked(header(46, TIME, 256, 0x900, 0, 0) + connect_open(4)), 'not a request'),
-    ('type_1_unknown_odd', marked(header(47, TIME, 1, 0x404, 0, 0) + b'\x01'), 'not a request'),
+    ('type_1_unknown_odd', marked(header(47, TIME, 1, 0x405, 0, 0) + b'\x01'), 'not a request'),
     ('type_1_no_top_bit', marked(header(48, TIME, 1, 0x900, 1, 0), top=0), 'broken'),
     # "Request sequence numbers are echoed, not judged"; so are time stamp, reply sequence and error
     ('sequence_0', marked(header(0, 0, 0, 0x108, 0, 0)), '0 CONFIG_GET_SERVER_INFO'),
@@ -194,7 +195,7 @@ FRAMES = [
 
 # "message number not listed above as handled"
 UNKNOWN = [
-    ('unknown_data_get_env', request(50, 0x404), '50 unknown 0x404'),
+    ('unknown_data_405', request(50, 0x405), '50 unknown 0x405'),
     ('unknown_notify_data_halted', request(51, 0x501, word(1)), '51 unknown 0x501'),
     ('unknown_notify_connection_status', request(52, 0x502, word(0, 4, 0)), '52 unknown 0x502'),
     ('unknown_notify_mover_halted', request(53, 0x503, word(1)), '53 unknown 0x503'),
@@ -211,7 +212,7 @@ UNKNOWN = [
     ('unknown_0', request(64, 0), '64 unknown 0x000'),
     ('unknown_10900', request(65, 0x10900, connect_open(4)), '65 unknown 0x10900'),
     ('unknown_all_ones', request(66, 0xFFFFFFFF), '66 unknown 0xffffffff'),
-    ('unknown_odd', request(67, 0x404, b'\x01\x02\x03'), '67 unknown 0x404'),
+    ('unknown_odd', request(67, 0x406, b'\x01\x02\x03'), '67 unknown 0x406'),
 ]
 
 # "Bytes left over make error 18, except after an address type other than 0 or an auth type other than 1: there the rest is not read."
@@ -256,6 +257,8 @@ BARE = [
     ('body_on_tape_get_state', request(108, 0x302, b'\0'), '108 bad'),
     ('body_on_data_get_state', request(109, 0x400, b'\0'), '109 bad'),
     ('body_on_data_abort', request(110, 0x403, b'\0'), '110 bad'),
+    ('body_on_data_get_env', request(294, 0x404, b'\0'), '294 bad'),
+    ('word_on_data_get_env', request(295, 0x404, word(0)), '295 bad'),
     ('body_on_data_stop', request(111, 0x407, b'\0'), '111 bad'),
     ('body_on_mover_get_state', request(112, 0xA00, b'\0'), '112 bad'),
     ('body_on_mover_continue', request(113, 0xA02, b'\0'), '113 bad'),
@@ -314,8 +317,8 @@ TAPE = [
 
 # "At most 64 environment pairs and 64 names in a start request; more is error 18."
 DATA = [
-    ('backup_no_pairs', request(170, 0x401, start_backup(b'tar', [])), '170 DATA_START_BACKUP method 4+3=746172'),
-    ('backup_64_pairs', request(171, 0x401, start_backup(b'dump', [P] * 64)), '171 DATA_START_BACKUP method 4+4=64756d70'),
+    ('backup_no_pairs', request(170, 0x401, start_backup(b'tar', [])), '170 DATA_START_BACKUP method 4+3=746172 pairs 12+0'),
+    ('backup_64_pairs', request(171, 0x401, start_backup(b'dump', [P] * 64)), '171 DATA_START_BACKUP method 4+4=64756d70 pairs 12+64'),
     ('backup_65_pairs', request(172, 0x401, start_backup(b'dump', [P] * 65)), '172 bad'),
     ('backup_count_65_only', request(173, 0x401, opaque(b'dump') + word(65)), '173 bad'),
     ('backup_count_all_ones', request(174, 0x401, opaque(b'dump') + word(4294967295)), '174 bad'),
@@ -328,9 +331,10 @@ DATA = [
     ('backup_pair_no_fill', request(181, 0x401, opaque(b'dump') + word(1) + opaque(b'E') + word(1) + b'1'), '181 bad'),
     ('backup_pair_length_all_ones', request(182, 0x401, opaque(b'dump') + word(1) + opaque(b'E') + word(0xFFFFFFFF)), '182 bad'),
     ('backup_pair_length_less_4', request(183, 0x401, opaque(b'dump') + word(1) + word(0xFFFFFFFC) + word(0)), '183 bad'),
-    ('recover_no_names', request(184, 0x402, start_recover([], [], b'dump')), '184 DATA_START_RECOVER method 12+4=64756d70'),
+    ('recover_no_names', request(184, 0x402, start_recover([], [], b'dump')), '184 DATA_START_RECOVER method 12+4=64756d70 pairs 4+0'),
     # 4 + 64 * 16 and 4 + 64 * 40 stand before the method's length
-    ('recover_64_64', request(185, 0x402, start_recover([P] * 64, [N] * 64, b'dump')), '185 DATA_START_RECOVER method 3596+4=64756d70'),
+    ('recover_64_64', request(185, 0x402, start_recover([P] * 64, [N] * 64, b'dump')),
+     '185 DATA_START_RECOVER method 3596+4=64756d70 pairs 4+64'),
     ('recover_65_pairs', request(186, 0x402, start_recover([P] * 65, [N], b'dump')), '186 bad'),
     ('recover_65_names', request(187, 0x402, start_recover([P], [N] * 65, b'dump')), '187 bad'),
     ('recover_count_65_only', request(188, 0x402, word(0, 65)), '188 bad'),
@@ -470,7 +474,33 @@ TCP = [
     ('mover_connect_2_rubbish', request(292, 0xA09, mover_connect(1, word(2)) + b'\xff\xff'), '292 MOVER_CONNECT mode 1 address 2 addresses 0'),
 ]
 
-SAMPLES = HANDLED + FRAMES + UNKNOWN + CONNECT + BARE + SCSI + TAPE + DATA + MOVER + FILL + TCP
+EMPTY = pair(b'', b'')  # 8 bytes
+FULL = pair(b'A', W[:16363])  # a count, four words and these texts are 16,384 bytes
+OVER = pair(b'A', W[:16364])
+
+# paper 02, 3: the environment that a start request gives. Whether it fits the store is no question of what it is read as.
+ENVIRONMENT = [
+    ('backup_1_pair', request(296, 0x401, start_backup(b'dump', [P])), '296 DATA_START_BACKUP method 4+4=64756d70 pairs 12+1'),
+    ('backup_method_0_pair', request(297, 0x401, start_backup(b'', [P])), '297 DATA_START_BACKUP method 4+0= pairs 8+1'),
+    ('backup_method_5_pairs', request(298, 0x401, start_backup(b'dumps', [P, P])), '298 DATA_START_BACKUP method 4+5=64756d7073 pairs 16+2'),
+    ('backup_empty_texts', request(299, 0x401, start_backup(b'dump', [EMPTY] * 3)), '299 DATA_START_BACKUP method 4+4=64756d70 pairs 12+3'),
+    ('backup_separator', request(300, 0x401, start_backup(b'dump', [pair(b'PATHNAME_SEPARATOR', b'/')])),
+     '300 DATA_START_BACKUP method 4+4=64756d70 pairs 12+1'),
+    ('backup_full', request(301, 0x401, start_backup(b'dump', [FULL])), '301 DATA_START_BACKUP method 4+4=64756d70 pairs 12+1'),
+    ('backup_one_too_much', request(302, 0x401, start_backup(b'dump', [OVER])), '302 DATA_START_BACKUP method 4+4=64756d70 pairs 12+1'),
+    # 4 + 64 * 16 + 63 * 2 bytes stand before the last pair's texts
+    ('backup_64_full', request(303, 0x401, start_backup(b'dump', [P] * 63 + [pair(b'E', W[:15229])])),
+     '303 DATA_START_BACKUP method 4+4=64756d70 pairs 12+64'),
+    ('recover_1_pair', request(304, 0x402, start_recover([P], [], b'dump')), '304 DATA_START_RECOVER method 28+4=64756d70 pairs 4+1'),
+    ('recover_empty_texts', request(305, 0x402, start_recover([EMPTY] * 64, [], b'dump')),
+     '305 DATA_START_RECOVER method 524+4=64756d70 pairs 4+64'),
+    # 4 + 8 + 4 + 16,364 with the fill, and the names' count, stand before the method's length
+    ('recover_full', request(306, 0x402, start_recover([FULL], [], b'dump')), '306 DATA_START_RECOVER method 16388+4=64756d70 pairs 4+1'),
+    ('recover_no_pairs_64_names', request(307, 0x402, start_recover([], [N] * 64, b'dump')),
+     '307 DATA_START_RECOVER method 2572+4=64756d70 pairs 4+0'),
+]
+
+SAMPLES = HANDLED + FRAMES + UNKNOWN + CONNECT + BARE + SCSI + TAPE + DATA + MOVER + FILL + TCP + ENVIRONMENT
 
 
 def vector(own, data, expected):

@@ -73,6 +73,10 @@ def data_state(unsupported, error, operation, state, reason, processed, est_byte
     return word(unsupported, error, operation, state, reason) + quad(processed, est_bytes) + word(est_time) + address + quad(offset, length)
 
 
+def get_env(error, pairs):  # line 13702; a pair is ndmp_pval, line 12955: name and value
+    return word(error) + listed([opaque(name) + opaque(value) for name, value in pairs])
+
+
 def mover_state(error, mode, state, pause, halt, size, number, moved, seek, left, offset, length, address):  # line 13816
     return word(error, mode, state, pause, halt, size, number) + quad(moved, seek, left, offset, length) + address
 
@@ -95,7 +99,7 @@ NO_SENSE = bytes.fromhex('70 00 00 00 00 00 00 0A 00 00 00 00 00 00 00 00 00 00'
 
 SAMPLES = [
     # "An unknown message's 1, and 18, stand in the header with no body"
-    ('header_unknown', reply(1, 1001, 0x404, 501, b'', error=1)),
+    ('header_unknown', reply(1, 1001, 0x40B, 501, b'', error=1)),
     ('header_bad', reply(4294967295, 0, 0x300, 4294967294, b'', error=18)),
     ('plain', reply(3, 1003, 0x900, 503, error_only(0))),
     ('plain_refused', reply(4, 1004, 0xA05, 504, error_only(26))),
@@ -157,6 +161,12 @@ SAMPLES = [
     ('data_state_tcp', reply(49, 1049, 0x400, 549, data_state(1 + 2, 0, 1, 1, 0, 0, 0, 0, tcp([]), 0, 0))),
     ('mover_state_tcp', reply(50, 1050, 0xA00, 550, mover_state(
         0, 0, 2, 0, 0, 10240, 7, 71680, 0, 0, 0, 2**64 - 1, tcp([])))),
+    # paper 02: "Answer 0x404 from it .., with PATHNAME_SEPARATOR as `/` added, last, when the client gave none"
+    ('environment_none', reply(51, 1051, 0x404, 551, get_env(0, [(b'PATHNAME_SEPARATOR', b'/')]))),
+    ('environment', reply(52, 1052, 0x404, 552, get_env(
+        0, [(b'TYPE', b'tar'), (b'FILESYSTEM', b'/home'), (b'', b''), (b'PATHNAME_SEPARATOR', b'/')]))),
+    ('environment_named', reply(53, 1053, 0x404, 553, get_env(0, [(b'PATHNAME_SEPARATOR', b':'), (b'TYPE', b'tar')]))),
+    ('environment_refused', reply(54, 1054, 0x404, 554, get_env(19, []))),
 ]
 
 

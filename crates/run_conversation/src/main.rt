@@ -30,7 +30,7 @@ fn begin() -> Session {
 }
 
 // One record.
-fn ask(s: Session, image: &mut [u8], input: &[u8]) -> Session {
+fn ask(s: Session, image: &mut [u8], store: &mut [u8], input: &[u8]) -> Session {
     let mut out = [0u8; codes::LARGEST_MESSAGE];
     let a = call_request::request(
         s,
@@ -39,6 +39,7 @@ fn ask(s: Session, image: &mut [u8], input: &[u8]) -> Session {
         b"",
         false,
         image,
+        store,
         input,
         TIME,
         &mut out,
@@ -48,11 +49,11 @@ fn ask(s: Session, image: &mut [u8], input: &[u8]) -> Session {
 }
 
 // A record in hex. What is none is said, and not asked.
-fn ask_text(s: Session, image: &mut [u8], text: &[u8]) -> Session {
+fn ask_text(s: Session, image: &mut [u8], store: &mut [u8], text: &[u8]) -> Session {
     let mut record = [0u8; 2048];
     let d = hex::decode(text, &mut record);
     match d {
-        Decoded::Bytes(len) => ask(s, image, &record[..len]),
+        Decoded::Bytes(len) => ask(s, image, store, &record[..len]),
         Decoded::NotHex => {
             put(b": not hex\n");
             s
@@ -64,7 +65,7 @@ fn ask_text(s: Session, image: &mut [u8], text: &[u8]) -> Session {
     }
 }
 
-fn ask_file(i: usize, s: Session, image: &mut [u8]) -> Session {
+fn ask_file(i: usize, s: Session, image: &mut [u8], store: &mut [u8]) -> Session {
     let mut path = io::buffer();
     let n = os::arg(i, &mut path);
     put(&path[..n]);
@@ -80,19 +81,21 @@ fn ask_file(i: usize, s: Session, image: &mut [u8]) -> Session {
         put(b": above 4096 bytes\n");
         return s;
     }
-    ask_text(s, image, &text[..len])
+    ask_text(s, image, store, &text[..len])
 }
 
-// The cartridge is empty: 1, a capacity of 8, no entries, no bytes used; then room for 8 entries and 2,048 bytes.
+// The cartridge is empty: 1, a capacity of 8, no entries, no bytes used; then room for 8 entries and 2,048 bytes. The store is
+// all zeros: no pairs.
 fn main() {
     let mut image = [0u8; 2128];
     image[3] = 1;
     image[7] = 8;
+    let mut store = [0u8; codes::STORE_LENGTH];
     let count = os::arg_count();
     let mut s = begin();
     let mut i: usize = 1;
     while i < count {
-        s = ask_file(i, s, &mut image);
+        s = ask_file(i, s, &mut image, &mut store);
         i += 1;
     }
 }

@@ -1,4 +1,4 @@
-// The calls of a case, each printed with what it gave. The session and the cartridge are passed on.
+// The calls of a case, each printed with what it gave. The session, the cartridge and the store are passed on.
 ghost use mathlib.Core.Path.{_≡_};
 ghost use Prim.Native.Nat.{_≤_};
 ghost use lib.ListN.{length};
@@ -18,51 +18,76 @@ fn write_request(out: &mut [u8], message: u32, body: &[u32])
 }
 
 // A request: its message number and the words of its body.
-pub fn ask(label: &[u8], s: Session, image: &mut [u8], message: u32, body: &[u32]) -> Session
+pub fn ask(
+    label: &[u8],
+    s: Session,
+    image: &mut [u8],
+    store: &mut [u8],
+    message: u32,
+    body: &[u32],
+) -> Session
     requires { ⌜ length (now body) ≤ 8 ⌝ }
 {
     let mut record = [0u8; 60];
     write_request(&mut record, message, body);
     let end = 28 + body.len() * 4;
     put(label);
-    answer(s, image, &record[..end])
+    answer(s, image, store, &record[..end])
 }
 
 // A record, and the body of its reply. A list of one address is lent, 127.0.0.1 and port 10,000: only a listen by TCP looks at it.
-fn answer(s: Session, image: &mut [u8], record: &[u8]) -> Session {
+fn answer(s: Session, image: &mut [u8], store: &mut [u8], record: &[u8]) -> Session {
     let mut out = [0u8; codes::LARGEST_MESSAGE];
     let list = [0, 0, 0, 1, 127, 0, 0, 1, 0, 0, 39, 16, 0, 0, 0, 0];
-    let a = call_request::request(s, b"v", b"pw", &list, false, image, record, 0, &mut out);
+    let a = call_request::request(
+        s,
+        b"v",
+        b"pw",
+        &list,
+        false,
+        image,
+        store,
+        record,
+        0,
+        &mut out,
+    );
     put(b":");
     put_body(&out, a.len);
     a.session
 }
 
 // A new session that has logged in.
-pub fn login(image: &mut [u8]) -> Session {
+pub fn login(image: &mut [u8], store: &mut [u8]) -> Session {
     let mut out = [0u8; codes::LARGEST_MESSAGE];
     let a = call_request::open(0, &mut out);
-    let s = ask(b"  connect open", a.session, image, 2304, &[4]);
+    let s = ask(b"  connect open", a.session, image, store, 2304, &[4]);
     ask(
         b"  client auth",
         s,
         image,
+        store,
         2305,
         &[1, 1, 1979711488, 2, 1886846976],
     )
 }
 
 // A new session that has logged in and set a record size of 1,024.
-pub fn prepare(image: &mut [u8]) -> Session {
-    let s = login(image);
-    set_size(s, image)
+pub fn prepare(image: &mut [u8], store: &mut [u8]) -> Session {
+    let s = login(image, store);
+    set_size(s, image, store)
 }
 
-pub fn set_size(s: Session, image: &mut [u8]) -> Session {
-    ask(b"  set record size 1024", s, image, 2568, &[1024])
+pub fn set_size(s: Session, image: &mut [u8], store: &mut [u8]) -> Session {
+    ask(b"  set record size 1024", s, image, store, 2568, &[1024])
 }
 
-pub fn set_window(s: Session, image: &mut [u8], offset: u64, length: u64) -> Session {
+pub fn set_window(
+    s: Session,
+    image: &mut [u8],
+    store: &mut [u8],
+    offset: u64,
+    length: u64,
+) -> Session {
     put_number(b"  set window ", offset);
     put_number(b" ", length);
     let body = [
@@ -71,28 +96,29 @@ pub fn set_window(s: Session, image: &mut [u8], offset: u64, length: u64) -> Ses
         (length / 4294967296) as u32,
         (length % 4294967296) as u32,
     ];
-    ask(b"", s, image, 2565, &body)
+    ask(b"", s, image, store, 2565, &body)
 }
 
 // Tape open, of `tape0`, for writing.
-pub fn open_tape(s: Session, image: &mut [u8]) -> Session {
+pub fn open_tape(s: Session, image: &mut [u8], store: &mut [u8]) -> Session {
     ask(
         b"  tape open",
         s,
         image,
+        store,
         768,
         &[5, 1952542821, 805306368, 1],
     )
 }
 
 // Mover listen, in mode 0 at LOCAL.
-pub fn listen(s: Session, image: &mut [u8]) -> Session {
-    ask(b"  mover listen", s, image, 2561, &[0, 0])
+pub fn listen(s: Session, image: &mut [u8], store: &mut [u8]) -> Session {
+    ask(b"  mover listen", s, image, store, 2561, &[0, 0])
 }
 
 // Mover listen, in mode 0 by TCP.
-pub fn listen_tcp(s: Session, image: &mut [u8]) -> Session {
-    ask(b"  mover listen by TCP", s, image, 2561, &[0, 1])
+pub fn listen_tcp(s: Session, image: &mut [u8], store: &mut [u8]) -> Session {
+    ask(b"  mover listen by TCP", s, image, store, 2561, &[0, 1])
 }
 
 // What a move or an event came to.

@@ -21,50 +21,59 @@ fn blank() -> [u8; 4144] {
 fn window_case(label: &[u8], offset: u64, length: u64) {
     put(label);
     let mut image = blank();
-    let s = calls::prepare(&mut image);
-    calls::set_window(s, &mut image, offset, length);
+    let mut store = [0u8; codes::STORE_LENGTH];
+    let s = calls::prepare(&mut image, &mut store);
+    calls::set_window(s, &mut image, &mut store, offset, length);
 }
 
 // The tape open, and a window of so many bytes from the stream's start on.
-fn set_first(image: &mut [u8], length: u64) -> Session {
-    let s = calls::prepare(image);
-    let opened = calls::open_tape(s, image);
-    calls::set_window(opened, image, 0, length)
+fn set_first(image: &mut [u8], store: &mut [u8], length: u64) -> Session {
+    let s = calls::prepare(image, store);
+    let opened = calls::open_tape(s, image, store);
+    calls::set_window(opened, image, store, 0, length)
 }
 
 fn case_c() {
     put(b"c\n");
     let mut image = blank();
-    let windowed = set_first(&mut image, 4096);
-    let sized = calls::set_size(windowed, &mut image);
-    calls::listen(sized, &mut image);
+    let mut store = [0u8; codes::STORE_LENGTH];
+    let windowed = set_first(&mut image, &mut store, 4096);
+    let sized = calls::set_size(windowed, &mut image, &mut store);
+    calls::listen(sized, &mut image, &mut store);
 }
 
 // Data connect at LOCAL, and start backup by `dump` with no environment.
-fn start(s: Session, image: &mut [u8]) -> Session {
-    let joined = calls::ask(b"  data connect", s, image, 1034, &[0]);
-    calls::ask(b"  start backup", joined, image, 1025, &[4, 1685417328, 0])
+fn start(s: Session, image: &mut [u8], store: &mut [u8]) -> Session {
+    let joined = calls::ask(b"  data connect", s, image, store, 1034, &[0]);
+    calls::ask(
+        b"  start backup",
+        joined,
+        image,
+        store,
+        1025,
+        &[4, 1685417328, 0],
+    )
 }
 
 // A backup under way, with a window of 2,048 bytes.
-fn run(image: &mut [u8]) -> Session {
-    let windowed = set_first(image, 2048);
-    let listening = calls::listen(windowed, image);
-    start(listening, image)
+fn run(image: &mut [u8], store: &mut [u8]) -> Session {
+    let windowed = set_first(image, store, 2048);
+    let listening = calls::listen(windowed, image, store);
+    start(listening, image, store)
 }
 
-fn case_g(image: &mut [u8], stream: &[u8]) -> Session {
+fn case_g(image: &mut [u8], store: &mut [u8], stream: &[u8]) -> Session {
     put(b"g\n");
-    let s = run(image);
+    let s = run(image, store);
     let one = calls::feed_from(s, image, stream, 0, false);
     let two = calls::feed_from(one, image, stream, 1024, false);
     calls::feed_from(two, image, stream, 2048, false)
 }
 
-fn case_h(s: Session, image: &mut [u8], stream: &[u8]) -> Session {
+fn case_h(s: Session, image: &mut [u8], store: &mut [u8], stream: &[u8]) -> Session {
     put(b"h\n");
-    let windowed = calls::set_window(s, image, 2048, 1024);
-    let running = calls::ask(b"  mover continue", windowed, image, 2562, &[]);
+    let windowed = calls::set_window(s, image, store, 2048, 1024);
+    let running = calls::ask(b"  mover continue", windowed, image, store, 2562, &[]);
     let done = calls::feed_from(running, image, stream, 2048, true);
     show_body(image, stream);
     done
@@ -106,8 +115,9 @@ fn show_body(image: &[u8], stream: &[u8]) {
 // Cases g, h and i, one after the other.
 fn cases_g_to_i(stream: &[u8]) {
     let mut image = blank();
-    let s = case_g(&mut image, stream);
-    let done = case_h(s, &mut image, stream);
+    let mut store = [0u8; codes::STORE_LENGTH];
+    let s = case_g(&mut image, &mut store, stream);
+    let done = case_h(s, &mut image, &mut store, stream);
     put(b"i\n");
     calls::feed_from(done, &mut image, stream, 3000, true);
 }
@@ -118,9 +128,10 @@ fn case_j() {
     let mut image = [0u8; 112];
     let words = [1, 4, 3, 3, 2, 0, 0, 2, 1, 2, 0, 0];
     xdr::write_words(&mut image, 0, &words);
-    let s = calls::login(&mut image);
-    let opened = calls::open_tape(s, &mut image);
-    let spaced = calls::ask(b"  FSR 3", opened, &mut image, 771, &[2, 3]);
+    let mut store = [0u8; codes::STORE_LENGTH];
+    let s = calls::login(&mut image, &mut store);
+    let opened = calls::open_tape(s, &mut image, &mut store);
+    let spaced = calls::ask(b"  FSR 3", opened, &mut image, &mut store, 771, &[2, 3]);
     put_number(b"  position ", spaced.tape.position as u64);
     put(b"\n");
 }
@@ -129,8 +140,9 @@ fn case_j() {
 fn case_tcp(stream: &[u8]) {
     put(b"by TCP\n");
     let mut image = blank();
-    let s = set_first(&mut image, 2048);
-    let listening = calls::listen_tcp(s, &mut image);
+    let mut store = [0u8; codes::STORE_LENGTH];
+    let s = set_first(&mut image, &mut store, 2048);
+    let listening = calls::listen_tcp(s, &mut image, &mut store);
     let joined = calls::make(listening);
     let fed = calls::feed_from(joined, &mut image, stream, 0, false);
     calls::lose(fed);

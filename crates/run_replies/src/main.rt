@@ -16,7 +16,7 @@ fn plain() {
         b"header_unknown",
         1,
         1001,
-        0x404,
+        0x40B,
         501,
         Reply::Header(1),
         b"",
@@ -312,6 +312,44 @@ fn states_by_tcp() {
     );
 }
 
+// Stores: no pair; TYPE=tar, FILESYSTEM=/home and a pair of empty texts, with a byte past them; PATHNAME_SEPARATOR=: and
+// TYPE=tar.
+fn environments() {
+    let none = b"\x00\x00\x00\x00";
+    send(
+        b"environment_none",
+        51,
+        1051,
+        0x404,
+        551,
+        Reply::Environment,
+        none,
+    );
+    let kept =
+        b"\x00\x00\x00\x03\x00\x00\x00\x00\x00\x00\x00\x04\x00\x00\x00\x04\x00\x00\x00\x03\x00\x00\x00\x07\x00\x00\x00\x0A\x00\x00\x00\x11\x00\x00\x00\x05\x00\x00\x00\x16\x00\x00\x00\x00\x00\x00\x00\x16\x00\x00\x00\x00TYPEtarFILESYSTEM/home!";
+    send(
+        b"environment",
+        52,
+        1052,
+        0x404,
+        552,
+        Reply::Environment,
+        kept,
+    );
+    let named =
+        b"\x00\x00\x00\x02\x00\x00\x00\x00\x00\x00\x00\x12\x00\x00\x00\x12\x00\x00\x00\x01\x00\x00\x00\x13\x00\x00\x00\x04\x00\x00\x00\x17\x00\x00\x00\x03PATHNAME_SEPARATOR:TYPEtar";
+    send(
+        b"environment_named",
+        53,
+        1053,
+        0x404,
+        553,
+        Reply::Environment,
+        named,
+    );
+    refuse(b"environment_refused", 54, 1054, 0x404, 554, 0, 19, 1);
+}
+
 fn main() {
     plain();
     config();
@@ -326,4 +364,5 @@ fn main() {
     refusals();
     listens();
     states_by_tcp();
+    environments();
 }

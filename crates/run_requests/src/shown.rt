@@ -9,6 +9,7 @@ use wire_requests::ConnectRequest;
 use wire_requests::DataRequest;
 use wire_requests::JointRequest;
 use wire_requests::MoverRequest;
+use wire_requests::Pairs;
 use wire_requests::ScsiRequest;
 use wire_requests::TapeRequest;
 
@@ -66,11 +67,24 @@ pub fn tape(r: TapeRequest, body: &[u8]) {
     }
 }
 
+// The place of the first pair in the body, and how many they are.
+fn put_pairs(pairs: Pairs) {
+    put_number(b" pairs ", pairs.start as u64);
+    put_word(b"+", pairs.count);
+}
+
 pub fn data(r: DataRequest, body: &[u8]) {
     match r {
         DataRequest::State => put(b" DATA_GET_STATE"),
-        DataRequest::Backup(method) => put_text(b" DATA_START_BACKUP method ", body, method),
-        DataRequest::Recover(method) => put_text(b" DATA_START_RECOVER method ", body, method),
+        DataRequest::Backup(method, pairs) => {
+            put_text(b" DATA_START_BACKUP method ", body, method);
+            put_pairs(pairs);
+        }
+        DataRequest::Recover(method, pairs) => {
+            put_text(b" DATA_START_RECOVER method ", body, method);
+            put_pairs(pairs);
+        }
+        DataRequest::Environment => put(b" DATA_GET_ENV"),
         DataRequest::Stop => put(b" DATA_STOP"),
         DataRequest::Listen(kind) => put_word(b" DATA_LISTEN address ", kind),
     }

@@ -17,13 +17,22 @@ enum-known-d : tie.Need-enum-known-d
 enum-known-d c = search needs
 
 array-share-prefix-record : tie.Need-array-share-prefix-record
-array-share-prefix-record c = omega (arith, reads-within _ (c .before .before .before .before .before .decode .ensures) (c .before .before .d .given .1))
+array-share-prefix-record c =
+    omega (
+      arith,
+      reads-within _ (c .before .before .before .before .before .before .decode .ensures)
+          (c .before .before .before .d .given .1),
+    )
 
 slice-aggregate-ask : tie.Need-slice-aggregate-ask
 slice-aggregate-ask c =
     sym
     (length-take-le _ _
-    (omega (arith, reads-within _ (c .before .before .before .before .before .before .decode .ensures) (c .before .before .before .d .given .1))))
+    (omega (
+      arith,
+      reads-within _ (c .before .before .before .before .before .before .before .decode .ensures)
+          (c .before .before .before .before .d .given .1),
+    )))
 
 ask-requires : tie.Need-ask-requires
 ask-requires c κs = search needs
@@ -48,6 +57,9 @@ put-requires-2 c κs = search needs
 
 same-length : tie.Need-same-length
 same-length c = search needs
+
+same-length-2 : tie.Need-same-length-2
+same-length-2 c = search needs
 
 returns : tie.Need-returns
 returns c = search needs
@@ -75,6 +87,7 @@ ask-text-spec =
     slice-aggregate-put-2
     put-requires-2
     same-length
+    same-length-2
     returns
     returns-2
     returns-3)

@@ -6,10 +6,10 @@ use Rattle.run_conversation.proofs.main.Statement.{statement}
 use Rattle.run_conversation.proofs.main.Tie as tie
 
 abbrev Inv-loop : tie.InvT-loop
-Inv-loop image₀ count s₀ i₀ image s i = length image ≡ 2128
+Inv-loop image₀ store₀ count s₀ i₀ image store s i = (length image ≡ 2128) × (length store ≡ 16384)
 
 abbrev μ-loop : tie.MeasureT-loop
-μ-loop image₀ count s₀ i₀ image s i = count - i
+μ-loop image₀ store₀ count s₀ i₀ image store s i = count - i
 
 array-write-image : tie.Need-array-write-image Inv-loop μ-loop
 array-write-image c = search needs
@@ -28,6 +28,9 @@ loop-holds c = search needs
 
 slice-aggregate-ask-file : tie.Need-slice-aggregate-ask-file Inv-loop μ-loop
 slice-aggregate-ask-file c = search needs
+
+slice-aggregate-ask-file-2 : tie.Need-slice-aggregate-ask-file-2 Inv-loop μ-loop
+slice-aggregate-ask-file-2 c = search needs
 
 ask-file-requires : tie.Need-ask-file-requires Inv-loop μ-loop
 ask-file-requires c κs = search needs
@@ -56,6 +59,7 @@ main-spec =
     begin-requires
     loop-holds
     slice-aggregate-ask-file
+    slice-aggregate-ask-file-2
     ask-file-requires
     add-i
     loop-less

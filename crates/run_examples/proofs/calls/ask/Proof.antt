@@ -38,6 +38,9 @@ answer-requires c κs = search needs
 same-length : tie.Need-same-length
 same-length c = search needs
 
+same-length-2 : tie.Need-same-length-2
+same-length-2 c = search needs
+
 returns : tie.Need-returns
 returns c = search needs
 
@@ -54,4 +57,5 @@ ask-spec =
     slice-aggregate-answer
     answer-requires
     same-length
+    same-length-2
     returns)
