@@ -22,6 +22,7 @@ numbers! {
     NO_DEVICE: u32 = 16;
     UNDECODABLE: u32 = 18;
     ILLEGAL_STATE: u32 = 19;
+    NO_MEMORY: u32 = 22;
     OTHER_NOT_LISTENING: u32 = 23;
     READ_IN_PROGRESS: u32 = 25;
     PRECONDITION: u32 = 26;
@@ -41,6 +42,7 @@ numbers! {
     MOST_ADDRESSES: u32 = 16;
     MOST_PORT: u32 = 65535;
     MOST_LENT: usize = 16384;
+    STORE_LENGTH: usize = 16384;
     LOCAL_ADDRESS: u32 = 0;
     TCP_ADDRESS: u32 = 1;
     TEXT_AUTH: u32 = 1;

@@ -61,6 +61,8 @@ unsafe extern "C" {
         made: bool,
         image: *mut u8,
         n: usize,
+        variables: *mut u8,
+        variables_len: usize,
         input: *const u8,
         m: usize,
         time: u32,
@@ -122,7 +124,8 @@ pub fn open(time: u32, out: &mut [u8]) -> Answer {
 }
 
 /// The addresses are what a listen by TCP answers: an XDR list, without the type. Made is whether the connection of a connect by TCP was made. Other
-/// requests look at neither.
+/// requests look at neither. The variables are the store of the environment, `codes::STORE_LENGTH` bytes, which an accepted start and an accepted stop of
+/// the data end write: one of another length is refused with 1001.
 #[allow(clippy::too_many_arguments)]
 pub fn request(
     s: Session,
@@ -131,6 +134,7 @@ pub fn request(
     addresses: &[u8],
     made: bool,
     image: &mut [u8],
+    variables: &mut [u8],
     input: &[u8],
     time: u32,
     out: &mut [u8],
@@ -147,6 +151,8 @@ pub fn request(
             made,
             image.as_mut_ptr(),
             image.len(),
+            variables.as_mut_ptr(),
+            variables.len(),
             input.as_ptr(),
             input.len(),
             time,

@@ -2,9 +2,13 @@
 
 use std::collections::BTreeMap;
 
+use crate::convert::state;
 use crate::lists;
+use crate::model::record::framed;
+use crate::model::relation::broken;
 use crate::model::requests::HANDLED;
 use crate::script::Step;
+use crate::stores;
 use crate::world::{Seen, World};
 use proved::{Data, Mover, Session};
 use wire::{word, word_at};
@@ -31,7 +35,9 @@ fn numbers(message: u32) -> &'static [u32] {
         0x304 => &[0, 4, 5, 6, 7, 9, 13, 19],
         0x305 => &[0, 4, 6, 7, 9, 12, 13, 19],
         0x400 | 0xa00 => &[0, 4],
-        0x401 | 0x402 | 0x409 => &[0, 4, 9, 19],
+        0x401 | 0x402 => &[0, 4, 9, 19, 22],
+        0x404 => &[0, 4, 7, 19],
+        0x409 => &[0, 4, 9, 19],
         0x403 | 0x407 | 0xa03 | 0xa04 | 0xa07 => &[0, 4, 19],
         0x40a => &[0, 4, 9, 19, 23],
         0xa01 => &[0, 4, 5, 6, 9, 19, 26],
@@ -69,11 +75,12 @@ const DATA_JOINED: [&str; 2] = ["CONNECTED LOCAL", "ACTIVE LOCAL"];
 const MOVER_JOINED: [&str; 2] = ["ACTIVE LOCAL", "PAUSED LOCAL"];
 
 /// The requests that an end by TCP accepts, each with the states that it does so in.
-const ACCEPTED: [(u32, &[&str]); 13] = [
+const ACCEPTED: [(u32, &[&str]); 14] = [
     (0x400, &["LISTEN", "CONNECTED", "ACTIVE", "HALTED"]),
     (0x401, &["CONNECTED"]),
     (0x402, &["CONNECTED"]),
     (0x403, &["LISTEN", "CONNECTED", "ACTIVE"]),
+    (0x404, &["ACTIVE", "HALTED"]),
     (0x407, &["HALTED"]),
     (0xa00, &["LISTEN", "ACTIVE", "PAUSED", "HALTED"]),
     (0xa02, &["PAUSED"]),
@@ -181,6 +188,35 @@ fn wanted_lists() -> Vec<String> {
     all
 }
 
+/// What 02 No. 3 adds but for numbers by message: 0x404 by state, kind of store and names; starts by kind of environment,
+/// and stores that they and stops write over; stores of another length.
+fn wanted_stores() -> Vec<String> {
+    let mut all = vec![];
+    for (state, number) in [("ACTIVE", 0), ("HALTED", 0), ("LISTEN", 19), ("CONNECTED", 19)] {
+        all.extend(["LOCAL", "TCP"].map(|kind| format!("environment 404 in {state} {kind}: {number}")));
+    }
+    all.push("environment 404 in IDLE: 19".into());
+    all.push("environment 404 in HALTED, no start before: 0".into());
+    all.push("environment 404 other state, store not laid out so: 19".into());
+    all.push("environment 404 gives 65 pairs".into());
+    for (kind, _, laid) in stores::kinds() {
+        all.push(format!("environment 404 of {kind}: {}", if laid { 0 } else { 7 }));
+    }
+    all.extend(stores::named_kinds().into_iter().map(|(kind, _)| format!("environment 404 names, {kind}")));
+    for message in ["401", "402"] {
+        for (kind, number) in stores::SENT {
+            all.push(format!("environment {message} {kind}: {number}"));
+        }
+        all.extend([9, 19].map(|n| format!("environment {message} does not fit: {n}")));
+    }
+    for message in ["401", "402", "407"] {
+        all.extend(["", "not "].map(|not| format!("environment {message} over a store {not}laid out so")));
+    }
+    all.extend(stores::OTHERS.map(|n| format!("store of {n} bytes: 1001")));
+    all.extend(["closed", "1002", "badly framed"].map(|also| format!("store of another length and {also}: 1001")));
+    all
+}
+
 /// An end by its state and address type; IDLE has one type only.
 fn data_end(end: &Data) -> String {
     by_type(end.state_name(), end.address)
@@ -211,7 +247,7 @@ fn call_name(step: &Step, before: &Session) -> Option<(&'static str, bool)> {
         Step::Made { mover: true, .. } => ("made of mover", false),
         Step::Lost { mover: false, .. } => ("lost of data", false),
         Step::Lost { mover: true, .. } => ("lost of mover", false),
-        Step::Account(..) | Step::Image(_) | Step::Session(_) => return None,
+        Step::Account(..) | Step::Image(_) | Step::Store(_) | Step::Session(_) => return None,
     })
 }
 
@@ -259,6 +295,7 @@ pub fn wanted() -> Vec<String> {
         all.extend(["not active", "successful", "internal error"].map(|r| format!("{by}method's end {r}")));
     }
     all.extend(wanted_by_tcp());
+    all.extend(wanted_stores());
     all.extend(["badly framed", "ignored", "closing"].map(|r| format!("request {r}")));
     all.push("notice 502 0".into());
     all.extend([1, 2, 3, 4].map(|r| format!("notice 501 {r}")));
@@ -289,6 +326,9 @@ impl Counts {
         let Some((call, tcp)) = call_name(step, before) else { return };
         if given.code != 0 {
             self.add(format!("{call} {}", given.code));
+            if given.rule == "store of another length" {
+                self.other_length(step, before, world);
+            }
             if given.code == 1002 {
                 self.add(format!("1002 {}", given.rule));
             }
@@ -301,6 +341,7 @@ impl Counts {
         if !seen.closed_before {
             self.ends(step, call, given.count, before);
             self.addresses(step, &given.sent, before);
+            self.environment(step, seen, before, world);
         }
         self.messages(step, &given.sent);
         self.sizes(&given.sent, before, world.natural);
@@ -359,6 +400,67 @@ impl Counts {
             0x409 | 0xa01 => self.listens(message, kind, rest, list, number),
             0x40a | 0xa09 => self.connects(message, kind, rest, *made, number, before),
             _ => {}
+        }
+    }
+
+    /// 1001 for a store, which comes before all else.
+    fn other_length(&mut self, step: &Step, before: &Session, world: &World) {
+        self.add(format!("store of {} bytes: 1001", world.store.len()));
+        if before.closed {
+            self.add("store of another length and closed: 1001".into());
+        }
+        if broken(&state(before)).is_some() {
+            self.add("store of another length and 1002: 1001".into());
+        }
+        if matches!(step, Step::Request { input, .. } if framed(input).is_none()) {
+            self.add("store of another length and badly framed: 1001".into());
+        }
+    }
+
+    /// 0x404, and the starts and stops that write the store.
+    fn environment(&mut self, step: &Step, seen: &Seen, before: &Session, world: &World) {
+        let (Step::Request { input, .. }, Some(number)) = (step, number(&seen.given.sent)) else { return };
+        let message = word(input, 16);
+        let laid = stores::is_laid(seen.store);
+        match message {
+            0x404 if matches!(number, 0 | 7 | 19) => self.asked(seen, number, laid, before, world),
+            0x401 | 0x402 => {
+                // A backup's list stands behind its method.
+                let method = word_at(input, 28).map_or(0, |n| n as usize).saturating_add(3) / 4 * 4;
+                let place = if message == 0x401 { method.saturating_add(32) } else { 28 };
+                if let Some(kind) = input.get(place..).and_then(stores::sent) {
+                    self.add(format!("environment {message:03x} {kind}: {number}"));
+                    if matches!(kind, "one byte too much" | "64 pairs, one byte too much" | "far too much") {
+                        self.add(format!("environment {message:03x} does not fit: {number}"));
+                    }
+                }
+            }
+            _ => {}
+        }
+        if matches!(message, 0x401 | 0x402 | 0x407) && number == 0 {
+            let not = if laid { "" } else { "not " };
+            self.add(format!("environment {message:03x} over a store {not}laid out so"));
+        }
+    }
+
+    /// 0x404, answered with this number.
+    fn asked(&mut self, seen: &Seen, number: u32, laid: bool, before: &Session, world: &World) {
+        self.add(format!("environment 404 in {}: {number}", data_end(&before.source)));
+        if number == 19 {
+            if !laid {
+                self.add("environment 404 other state, store not laid out so: 19".into());
+            }
+            return;
+        }
+        self.add(format!("environment 404 of {}: {number}", seen.store));
+        if number == 0 {
+            self.add(format!("environment 404 names, {}", stores::named(&world.store)));
+            if before.source.operation == Data::NO_OPERATION {
+                self.add("environment 404 in HALTED, no start before: 0".into());
+            }
+            if word(&seen.given.sent, 32) == 65 {
+                self.add("environment 404 gives 65 pairs".into());
+            }
         }
     }
 
@@ -498,7 +600,7 @@ impl Counts {
     pub fn print(&self) {
         println!("replies, number: how often");
         for message in HANDLED {
-            let row: Vec<String> = [0, 1, 3, 4, 5, 6, 7, 9, 12, 13, 15, 16, 18, 19, 23, 25, 26]
+            let row: Vec<String> = [0, 1, 3, 4, 5, 6, 7, 9, 12, 13, 15, 16, 18, 19, 22, 23, 25, 26]
                 .iter()
                 .map(|n| (n, self.get(&format!("reply {message:03x} {n}"))))
                 .filter(|(_, count)| *count > 0)
@@ -518,6 +620,8 @@ impl Counts {
             ("by TCP", "by TCP, "),
             ("lists of addresses, message kind: number", "list "),
             ("address types, message: number", "address "),
+            ("environment, message case: number", "environment "),
+            ("store of another length", "store of "),
             ("request", "request "),
             ("open", "open "),
             ("notices, number reason", "notice "),

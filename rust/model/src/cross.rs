@@ -7,6 +7,7 @@ use crate::lists;
 use crate::model::State;
 use crate::model::requests::{HANDLED, address_list, decode};
 use crate::script::Step;
+use crate::stores;
 use proved::Session;
 use wire::{Header, quads, text, words};
 
@@ -78,8 +79,7 @@ fn bodies(message: u32) -> Vec<Vec<u8>> {
         0x303 => (0..8).flat_map(|op| [0, 1, 3, u32::MAX].map(|count| words(&[op, count]))).collect(),
         0x304 => [0, 4, 32_769].map(|n| text(vec![0x5a; n])).to_vec(),
         0x305 => [0, 3, 4, 32_769].map(|n| words(&[n])).to_vec(),
-        0x401 => vec![[text(b"dump"), words(&[0])].concat(), [text(b"tar"), words(&[0])].concat()],
-        0x402 => vec![[words(&[0, 0]), text(b"dump")].concat(), [words(&[0, 0]), text(b"tar")].concat()],
+        0x401 | 0x402 => ["dump", "tar"].map(|method| start(message, method, &stores::listed(&vec![]))).to_vec(),
         0x409 | 0x40a => addresses(message),
         0xa01 | 0xa09 => [0, 1, 2]
             .into_iter()
@@ -247,11 +247,81 @@ fn with_ends(s: &mut Session, (data, mover): (End, End)) {
 /// What makes a call of a step, on an image and a session. False ends it all.
 type Each<'a> = &'a mut dyn FnMut(&[u8], &Session, &Step) -> bool;
 
-/// Hands each script's steps over until it answers false: an image and a session, then calls that are each made on that
-/// image and session.
-pub fn all(each: Each) -> bool {
+/// The same, on an image and a store.
+type EachOf<'a> = &'a mut dyn FnMut((&[u8], &[u8]), &Session, &Step) -> bool;
+
+/// Hands each script's steps over until it answers false: an image, a store and a session, then calls that are each made
+/// on them.
+pub fn all(each: EachOf) -> bool {
     let images = images();
-    devices(each, &images) && requests_by_pair(each, &images) && types(each, &images) && moves_by_pair(each, &images)
+    let store = stores::of(&stores::of_kind("2 to 63 pairs"));
+    let plain: Each = &mut |image, session, step| each((image, &store), session, step);
+    devices(plain, &images)
+        && requests_by_pair(plain, &images)
+        && types(plain, &images)
+        && moves_by_pair(plain, &images)
+        && environments(each, &images)
+}
+
+/// A start's body, its environment as it is given; a recover's with no names.
+fn start(message: u32, method: &str, environment: &[u8]) -> Vec<u8> {
+    match message {
+        0x401 => [text(method), environment.to_vec()].concat(),
+        _ => [environment.to_vec(), words(&[0]), text(method)].concat(),
+    }
+}
+
+/// 02 No. 3: the requests that look at the store or leave it, and starts with environments of every kind.
+fn environment_steps() -> Vec<Step> {
+    let mut all: Vec<Step> = [0x404, 0x407].into_iter().flat_map(requests).collect();
+    all.extend([0x400, 0x403, 0x108, 0x501].map(|message| request(message, &[])));
+    for message in [0x401, 0x402] {
+        for (name, _) in stores::SENT {
+            let mut list = stores::listed(&stores::of_kind(name));
+            if name == "a count of all ones" {
+                list = words(&[u32::MAX]);
+            }
+            all.extend(["dump", "tar"].map(|method| request(message, &start(message, method, &list))));
+        }
+        let left_over = [start(message, "dump", &stores::listed(&stores::of_kind("1 pair"))), vec![0]].concat();
+        all.push(request(message, &left_over));
+    }
+    let mut short = request(0x404, &[]);
+    short.set_room(ROOM - 1);
+    all.push(short);
+    // No request, and badly framed.
+    let reply = Header { sequence: 77, kind: 1, message: 0x404, ..Header::default() }.record(&[]);
+    for input in [reply, vec![]] {
+        all.push(Step::Request { time: 9, room: ROOM, made: true, list: vec![], input });
+    }
+    all.extend(events());
+    all
+}
+
+/// 02 No. 3: each of these on stores of every kind and of other lengths, with the data end in each state and type, closed
+/// and breaking the relation.
+fn environments(each: EachOf, [sound, ..]: &[Vec<u8>; 3]) -> bool {
+    let mut lent: Vec<Vec<u8>> = stores::kinds().into_iter().map(|(_, store, _)| store).collect();
+    lent.extend(stores::OTHERS.map(|n| vec![0; n]));
+    lent.extend(stores::named_kinds().into_iter().map(|(_, store)| store));
+    let steps = environment_steps();
+    let joined = [4, 1].map(|state| ((state, 0), (2, 0)));
+    let apart = DATA_APART.into_iter().chain([(9, 0)]).map(|data| (data, (0, 0)));
+    for (pair, (authorized, closed)) in
+        joined.into_iter().chain(apart).flat_map(|p| [(true, false), (false, false), (true, true)].map(|a| (p, a)))
+    {
+        let mut s = rest(authorized);
+        (s.closed, s.tape.opened, s.tape.writable) = (closed, true, true);
+        with_ends(&mut s, pair);
+        (s.mover.mode, s.source.operation) = (0, 1);
+        with_window(&mut s, WINDOWS[2]);
+        for store in &lent {
+            if !steps.iter().all(|step| each((sound, store), &s, step)) {
+                return false;
+            }
+        }
+    }
+    true
 }
 
 /// SCSI and CONNECT look at few things.

@@ -9,6 +9,7 @@ use crate::lists;
 use crate::model::requests::HANDLED;
 use crate::random::Random;
 use crate::script::Step;
+use crate::stores;
 use crate::world::World;
 use proved::Session;
 use wire::{Header, LAST, put_word, word_at};
@@ -77,8 +78,9 @@ impl Driver {
             _ => (b"admin".to_vec(), b"secret!".to_vec()),
         };
         let image = if r.percent(4) { images::damaged(r, self.size) } else { images::sound(r, self.size) };
+        let store = if r.percent(70) { vec![0; stores::LENGTH] } else { stores::any(r) };
         let open = Step::Open { time: self.time(), room: self.room() };
-        vec![Step::Account(id, password), Step::Image(image), open]
+        vec![Step::Account(id, password), Step::Image(image), Step::Store(store), open]
     }
 
     /// None: the session has come to its end.
@@ -166,7 +168,7 @@ impl Driver {
             return self.before_auth(w);
         }
         if self.r.percent(4) {
-            let message = self.r.pick(&[0x400, 0xa00, 0x302, 0x108, 0x102, 0x202]);
+            let message = self.r.pick(&[0x400, 0xa00, 0x302, 0x108, 0x102, 0x202, 0x404]);
             return self.plain(message);
         }
         if self.r.percent(2) {
@@ -177,6 +179,9 @@ impl Driver {
         {
             self.spare = None;
             return Step::Image(image);
+        }
+        if let Some(step) = self.environment(s) {
+            return step;
         }
         let stops = self.stops;
         if s.source.state == 2 && self.r.percent(stops) {
@@ -208,6 +213,18 @@ impl Driver {
             3 => self.paused(w),
             _ if s.source.state != 0 && self.r.percent(30) => self.plain(0x403),
             _ => self.tape_work(),
+        }
+    }
+
+    /// Where the data end has an environment to give: it is asked for, or another store is lent.
+    fn environment(&mut self, s: &Session) -> Option<Step> {
+        if !matches!(s.source.state, 1 | 2) {
+            return None;
+        }
+        match self.r.below(100) {
+            0..=4 => Some(self.plain(0x404)),
+            5 | 6 => Some(Step::Store(stores::any(&mut self.r))),
+            _ => None,
         }
     }
 
@@ -323,8 +340,8 @@ impl Driver {
             }
             3 if chance < 14 => Step::Made { time: self.time(), room: self.room(), mover: false },
             4 if chance < 14 => {
-                let backup = self.r.percent(50);
-                self.start(backup, b"dump")
+                let (backup, method) = (self.r.percent(50), self.method());
+                self.start(backup, method)
             }
             1 if chance < 5 => Step::End { time: self.time(), room: self.room(), ok: self.r.percent(50) },
             2 if chance < 14 => self.plain(0x407),
@@ -378,8 +395,8 @@ impl Driver {
             if s.mover.mode == 1 && self.r.percent(20) {
                 return self.mover_read(s);
             }
-            let backup = (s.mover.mode == 0) == self.r.percent(96);
-            return self.start(backup, b"dump");
+            let (backup, method) = ((s.mover.mode == 0) == self.r.percent(96), self.method());
+            return self.start(backup, method);
         }
         match self.r.below(100) {
             0 => return self.plain(0x403),
@@ -481,21 +498,27 @@ impl Driver {
         self.quads(0xa06, place, many)
     }
 
+    fn method(&mut self) -> &'static [u8] {
+        if self.r.percent(94) { b"dump" } else { b"tar" }
+    }
+
     fn start(&mut self, backup: bool, method: &[u8]) -> Step {
         let mut body = vec![];
         let few = |r: &mut Random| if r.percent(6) { r.pick(&[63, 64, 65, 66, u32::MAX]) } else { r.below(4) as u32 };
-        let pairs = few(&mut self.r);
         let names = few(&mut self.r);
         if backup {
             self.opaque(&mut body, method);
         }
-        body.extend(pairs.to_be_bytes());
-        for _ in 0..pairs.min(66) {
-            for _ in 0..2 {
-                let text = self.text(9);
-                self.opaque(&mut body, &text);
-            }
+        let pairs = stores::pairs(&mut self.r);
+        let mut environment = stores::listed(&pairs);
+        match self.r.below(100) {
+            0 => put_word(&mut environment, 0, u32::MAX),
+            1 => put_word(&mut environment, 0, pairs.len() as u32 + 1),
+            // A byte of the last text or of its fill.
+            2 if pairs.len() > 1 => *environment.last_mut().unwrap() ^= 1,
+            _ => {}
         }
+        body.extend(environment);
         if !backup {
             body.extend(names.to_be_bytes());
             for _ in 0..names.min(66) {
@@ -613,6 +636,40 @@ impl Driver {
         Step::Image(images::damaged(&mut self.r, size))
     }
 
+    /// Another store; one of another length is taken out again after a call or two.
+    fn lend(&mut self, w: &World) -> Step {
+        if self.r.percent(40) {
+            return Step::Store(stores::any(&mut self.r));
+        }
+        // Now and then beside a session that breaks the relation.
+        let broken = self.r.percent(20);
+        if broken {
+            let mut s = w.session;
+            s.source.state = 9;
+            self.queue.push_back(Step::Session(s));
+        }
+        for _ in 0..self.r.within(1, 3) {
+            let message = self.r.pick(&HANDLED);
+            let call = match self.r.below(8) {
+                0 => self.event(),
+                1 => self.to_tape(&w.session),
+                2 => self.plain(0x404),
+                3 => {
+                    let step = self.plain(0x404);
+                    self.badly_framed(step)
+                }
+                _ => self.some(w, message),
+            };
+            self.queue.push_back(call);
+        }
+        if broken {
+            self.queue.push_back(Step::Session(w.session));
+        }
+        self.queue.push_back(Step::Store(w.store.clone()));
+        let length = self.r.pick(&stores::OTHERS);
+        Step::Store(if self.r.percent(50) { vec![0; length] } else { self.r.bytes(length) })
+    }
+
     // Anything at all.
 
     fn anything(&mut self, w: &World) -> Step {
@@ -630,7 +687,7 @@ impl Driver {
                 let message = match self.r.below(6) {
                     0 => self.r.next() as u32,
                     1 => self.r.pick(&[0x501, 0x502, 0x503, 0x504, 0x505]),
-                    2 => self.r.pick(&[0x103, 0x404, 0x307, 0x40b, 0x903, 0x10a, 0x405, 0x408]),
+                    2 => self.r.pick(&[0x103, 0x406, 0x307, 0x40b, 0x903, 0x10a, 0x405, 0x408]),
                     3 => self.r.pick(&HANDLED) ^ 1 << self.r.below(32),
                     _ => self.r.below(0xb00) as u32,
                 };
@@ -659,7 +716,8 @@ impl Driver {
             67..=72 => self.from_tape(s),
             73..=76 => self.event(),
             77..=78 => Step::End { time: self.time(), room: self.room(), ok: self.r.percent(50) },
-            79..=81 => self.swap(),
+            79 | 80 => self.swap(),
+            81 => self.lend(w),
             // Each call may be lent another account.
             82 => {
                 let (id, password) = (self.text(12), self.text(12));

@@ -9,6 +9,7 @@ mod lists;
 mod model;
 mod random;
 mod script;
+mod stores;
 mod world;
 
 use std::panic::{AssertUnwindSafe, catch_unwind};
@@ -88,10 +89,12 @@ fn run(calls: u64, seed: u64) -> ExitCode {
     let mut found = None;
     let mut w = World::new();
     (w.id, w.password) = (b"id".to_vec(), b"word".to_vec());
-    cross::all(&mut |image, session, call| {
+    cross::all(&mut |(image, store), session, call| {
         w.session = *session;
         w.image.clear();
         w.image.extend(image);
+        w.store.clear();
+        w.store.extend(store);
         crossed += 1;
         let what = match step(&mut w, call) {
             Ok(seen) => {
@@ -101,7 +104,8 @@ fn run(calls: u64, seed: u64) -> ExitCode {
             Err(what) => what,
         };
         let account = Step::Account(w.id.clone(), w.password.clone());
-        found = Some((vec![account, Step::Image(image.to_vec()), Step::Session(*session), call.clone()], what));
+        let lent = [Step::Image(image.to_vec()), Step::Store(store.to_vec())];
+        found = Some(([&[account][..], &lent, &[Step::Session(*session), call.clone()]].concat(), what));
         false
     });
     if let Some((steps, what)) = found {

@@ -2,6 +2,7 @@
 //!
 //!     account ID PASSWORD              what auth is compared with from here on (hex, `-` is empty)
 //!     image LENGTH HEX                 this image is lent from here on; zeros follow the bytes given
+//!     store LENGTH HEX                 this store of the environment is lent from here on; zeros follow the bytes given
 //!     session FIELD=VALUE ..           the session is replaced by this one
 //!     open TIME ROOM                   the calls; ROOM is the output's length
 //!     request TIME ROOM MADE LIST INPUT        whether a connection is made, and the list of addresses that is lent
@@ -18,6 +19,7 @@ use proved::Session;
 pub enum Step {
     Account(Vec<u8>, Vec<u8>),
     Image(Vec<u8>),
+    Store(Vec<u8>),
     Session(Session),
     Open { time: u32, room: usize },
     Request { time: u32, room: usize, made: bool, list: Vec<u8>, input: Vec<u8> },
@@ -36,7 +38,7 @@ impl Step {
     /// The output's length, of a call.
     pub fn room(&self) -> Option<usize> {
         match self {
-            Step::Account(..) | Step::Image(_) | Step::Session(_) => None,
+            Step::Account(..) | Step::Image(_) | Step::Store(_) | Step::Session(_) => None,
             Step::Open { room, .. }
             | Step::Request { room, .. }
             | Step::To { room, .. }
@@ -49,7 +51,7 @@ impl Step {
 
     pub fn set_room(&mut self, length: usize) {
         match self {
-            Step::Account(..) | Step::Image(_) | Step::Session(_) => {}
+            Step::Account(..) | Step::Image(_) | Step::Store(_) | Step::Session(_) => {}
             Step::Open { room, .. }
             | Step::Request { room, .. }
             | Step::To { room, .. }
@@ -63,10 +65,8 @@ impl Step {
     pub fn line(&self) -> String {
         match self {
             Step::Account(id, password) => format!("account {} {}", hex(id), hex(password)),
-            Step::Image(image) => {
-                let end = image.iter().rposition(|b| *b != 0).map_or(0, |i| i + 1);
-                format!("image {} {}", image.len(), hex(&image[..end]))
-            }
+            Step::Image(image) => format!("image {}", shortened(image)),
+            Step::Store(store) => format!("store {}", shortened(store)),
             Step::Session(s) => {
                 let all: Vec<String> = fields(s).iter().map(|(name, x)| format!("{name}={x}")).collect();
                 format!("session {}", all.join(" "))
@@ -102,10 +102,10 @@ impl Step {
         let yes = |i: usize| whole(i).map(|x| x != 0);
         Some(match kind {
             "account" => Step::Account(bytes(0)?, bytes(1)?),
-            "image" => {
-                let mut image = bytes(1)?;
-                image.resize(whole(0)?, 0);
-                Step::Image(image)
+            "image" | "store" => {
+                let mut all = bytes(1)?;
+                all.resize(whole(0)?, 0);
+                if kind == "image" { Step::Image(all) } else { Step::Store(all) }
             }
             "open" => Step::Open { time: time()?, room: room()? },
             "request" => {
@@ -120,6 +120,12 @@ impl Step {
             _ => return None,
         })
     }
+}
+
+/// Its length, and its bytes without the zeros at its end.
+fn shortened(bytes: &[u8]) -> String {
+    let end = bytes.iter().rposition(|b| *b != 0).map_or(0, |i| i + 1);
+    format!("{} {}", bytes.len(), hex(&bytes[..end]))
 }
 
 pub fn hex(bytes: &[u8]) -> String {

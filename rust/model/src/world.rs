@@ -2,13 +2,16 @@
 
 use crate::convert;
 use crate::model::State;
-use crate::model::calls::{self, Given, Lent};
+use crate::model::calls::{self, Given, Kept, Lent};
 use crate::script::Step;
+use crate::stores;
 use proved::{Answer, Moved, Session};
 
 pub struct World {
     pub session: Session,
     pub image: Vec<u8>,
+    /// The store of the environment, which requests are lent.
+    pub store: Vec<u8>,
     pub id: Vec<u8>,
     pub password: Vec<u8>,
     /// No session was handed in but by calls.
@@ -24,6 +27,8 @@ pub struct World {
 pub struct Seen {
     pub given: Given,
     pub closed_before: bool,
+    /// What kind of store it was lent.
+    pub store: &'static str,
 }
 
 /// Output and destination are filled with bytes that a reply is not likely to have in the same places.
@@ -37,6 +42,7 @@ impl World {
         World {
             session: convert::session(&State::at_rest()),
             image: vec![],
+            store: vec![0; stores::LENGTH],
             id: vec![],
             password: vec![],
             natural: true,
@@ -52,6 +58,7 @@ impl World {
         match step {
             Step::Account(id, password) => (self.id, self.password) = (id.clone(), password.clone()),
             Step::Image(image) => self.image.clone_from(image),
+            Step::Store(store) => self.store.clone_from(store),
             Step::Session(session) => {
                 self.session = *session;
                 self.natural = false;
@@ -73,8 +80,9 @@ impl World {
             self.natural = true;
         }
         let mut s = convert::state(&before);
-        let mut image = self.image.clone();
-        let given = self.model(step, &mut s, &mut image, room);
+        let (mut image, mut store) = (self.image.clone(), self.store.clone());
+        let kind = stores::kind(&store);
+        let given = self.model(step, &mut s, &mut Kept { image: &mut image, store: &mut store }, room);
         let gave = self.core(step);
         self.expected[..given.sent.len()].copy_from_slice(&given.sent);
         self.session = gave.session;
@@ -82,16 +90,18 @@ impl World {
         let mut wrong = differences(&given, &convert::session(&s), &gave);
         bytes("output", &self.expected, &self.out, &mut wrong);
         bytes("image", &image, &self.image, &mut wrong);
+        bytes("store", &store, &self.store, &mut wrong);
         bytes("destination", &self.expected_dest, &self.dest, &mut wrong);
         if !wrong.is_empty() {
             wrong.push(format!("(the model's rule: {})", given.rule));
             return Err(wrong.join("\n"));
         }
-        Ok(Seen { given, closed_before: before.closed })
+        Ok(Seen { given, closed_before: before.closed, store: kind })
     }
 
-    /// The call made of the model, with an image and a session of its own.
-    fn model(&mut self, step: &Step, s: &mut State, image: &mut [u8], room: usize) -> Given {
+    /// The call made of the model, with an image, a store and a session of its own.
+    fn model(&mut self, step: &Step, s: &mut State, kept: &mut Kept, room: usize) -> Given {
+        let Kept { image, .. } = &mut *kept;
         match step {
             Step::Open { time, .. } => {
                 let (next, given) = calls::open(*time, room);
@@ -100,24 +110,24 @@ impl World {
             }
             Step::Request { time, made, list, input, .. } => {
                 let lent = Lent { account: (&self.id, &self.password), addresses: list, made: *made };
-                calls::request(s, &lent, image, input, *time, room)
+                calls::request(s, &lent, kept, input, *time, room)
             }
             Step::To { time, last, stream, .. } => calls::move_to_tape(s, image, stream, *last, *time, room),
             Step::From { time, .. } => calls::move_from_tape(s, image, &mut self.expected_dest, *time, room),
             Step::End { time, ok, .. } => calls::end_method(s, *ok, *time, room),
             Step::Made { time, mover, .. } => calls::made(s, *mover, *time, room),
             Step::Lost { time, mover, .. } => calls::lost(s, *mover, *time, room),
-            Step::Account(..) | Step::Image(_) | Step::Session(_) => unreachable!("is no call"),
+            Step::Account(..) | Step::Image(_) | Step::Store(_) | Step::Session(_) => unreachable!("is no call"),
         }
     }
 
     /// The call made of the core.
     fn core(&mut self, step: &Step) -> Moved {
-        let (s, image, out) = (self.session, &mut self.image, &mut self.out);
+        let (s, image, store, out) = (self.session, &mut self.image, &mut self.store, &mut self.out);
         let answer = match step {
             Step::Open { time, .. } => proved::open(*time, out),
             Step::Request { time, made, list, input, .. } => {
-                proved::request(s, &self.id, &self.password, list, *made, image, input, *time, out)
+                proved::request(s, &self.id, &self.password, list, *made, image, store, input, *time, out)
             }
             Step::To { time, last, stream, .. } => {
                 return proved::move_to_tape(s, image, stream, *last, *time, out);
@@ -126,7 +136,7 @@ impl World {
             Step::End { time, ok, .. } => proved::end_method(s, *ok, *time, out),
             Step::Made { time, mover, .. } => proved::made(s, *mover, *time, out),
             Step::Lost { time, mover, .. } => proved::lost(s, *mover, *time, out),
-            Step::Account(..) | Step::Image(_) | Step::Session(_) => unreachable!("is no call"),
+            Step::Account(..) | Step::Image(_) | Step::Store(_) | Step::Session(_) => unreachable!("is no call"),
         };
         let Answer { code, len, session } = answer;
         Moved { code, count: 0, len, session }

@@ -17,6 +17,7 @@ pub const DATA_GET_STATE: u32 = 0x400;
 pub const DATA_START_BACKUP: u32 = 0x401;
 pub const DATA_START_RECOVER: u32 = 0x402;
 pub const DATA_ABORT: u32 = 0x403;
+pub const DATA_GET_ENV: u32 = 0x404;
 pub const DATA_STOP: u32 = 0x407;
 pub const DATA_LISTEN: u32 = 0x409;
 pub const DATA_CONNECT: u32 = 0x40a;
@@ -58,6 +59,7 @@ pub fn name(message: u32) -> &'static str {
         DATA_START_BACKUP => "data start backup",
         DATA_START_RECOVER => "data start recover",
         DATA_ABORT => "data abort",
+        DATA_GET_ENV => "data get env",
         DATA_STOP => "data stop",
         DATA_LISTEN => "data listen",
         DATA_CONNECT => "data connect",

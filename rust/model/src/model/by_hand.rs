@@ -1,7 +1,8 @@
 //! Cases of 02 No. 14, worked out by hand from the papers.
 
 use super::State;
-use super::calls::{self, Given, Lent, ROOM};
+use super::calls::{self, Given, Kept, Lent, ROOM};
+use super::environment::STORE;
 use super::relation::broken;
 use super::state::{Data, LOCAL, Mover, TCP, data, mover};
 use super::xdr::Writer;
@@ -9,53 +10,55 @@ use super::xdr::Writer;
 /// 10.0.0.1, port 10000, no pairs.
 const ONE: [u32; 4] = [1, 0x0a00_0001, 10_000, 0];
 
-fn bytes(words: &[u32]) -> Vec<u8> {
+pub fn bytes(words: &[u32]) -> Vec<u8> {
     Writer::words(words).0
 }
 
-fn words(bytes: &[u8]) -> Vec<u32> {
+pub fn words(bytes: &[u8]) -> Vec<u32> {
     bytes.chunks(4).map(|b| u32::from_be_bytes(b.try_into().unwrap())).collect()
 }
 
-fn record(message: u32, body: &[u8]) -> Vec<u8> {
+pub fn record(message: u32, body: &[u8]) -> Vec<u8> {
     let length = 1 << 31 | (24 + body.len() as u32);
     [bytes(&[length, 5, 6, 0, message, 0, 0]), body.to_vec()].concat()
 }
 
 /// A session that is logged in, with the tape open for writing and a window of two records of four bytes; a cartridge
-/// for three entries.
-struct Desk {
-    s: State,
+/// for three entries; an empty store.
+pub struct Desk {
+    pub s: State,
     image: Vec<u8>,
+    pub store: Vec<u8>,
     list: Vec<u8>,
     made: bool,
 }
 
 impl Desk {
-    fn new() -> Desk {
+    pub fn new() -> Desk {
         let mut s = State::at_rest();
         (s.authorized, s.fresh, s.number) = (true, false, 2);
         (s.tape.open, s.tape.writable) = (true, true);
         (s.mover.record_size, s.mover.window) = (4, (0, 8));
         let image = bytes(&[1, 3, 0, 0, 0, 0, 0, 0, 0, 0, 0, 0, 0]);
-        Desk { s, image, list: bytes(&ONE), made: true }
+        Desk { s, image, store: vec![0; STORE], list: bytes(&ONE), made: true }
     }
 
-    fn send(&mut self, message: u32, body: &[u8]) -> Vec<u8> {
+    pub fn send(&mut self, message: u32, body: &[u8]) -> Vec<u8> {
         let lent = Lent { account: (b"", b""), addresses: &self.list, made: self.made };
-        let given = calls::request(&mut self.s, &lent, &mut self.image, &record(message, body), 6, ROOM);
+        let mut kept = Kept { image: &mut self.image, store: &mut self.store };
+        let given = calls::request(&mut self.s, &lent, &mut kept, &record(message, body), 6, ROOM);
         assert_eq!((given.code, broken(&self.s)), (0, None));
         given.sent
     }
 
     /// The header's error and the words behind the header, the notices with them.
-    fn ask(&mut self, message: u32, body: &[u32]) -> (u32, Vec<u32>) {
+    pub fn ask(&mut self, message: u32, body: &[u32]) -> (u32, Vec<u32>) {
         let sent = words(&self.send(message, &bytes(body)));
         (sent[6], sent[7..].to_vec())
     }
 
     /// An error in the body, first of its words; or in the header.
-    fn number(&mut self, message: u32, body: &[u32]) -> u32 {
+    pub fn number(&mut self, message: u32, body: &[u32]) -> u32 {
         let (error, body) = self.ask(message, body);
         body.first().copied().unwrap_or(error)
     }
@@ -64,7 +67,7 @@ impl Desk {
         ((self.s.data.state, self.s.data.address), (self.s.mover.state, self.s.mover.address))
     }
 
-    fn event(&mut self, f: impl Fn(&mut State) -> Given) -> Vec<u32> {
+    pub fn event(&mut self, f: impl Fn(&mut State) -> Given) -> Vec<u32> {
         let given = f(&mut self.s);
         assert_eq!((given.code, broken(&self.s)), (0, None));
         words(&given.sent)
@@ -273,9 +276,9 @@ fn a_mover_by_tcp_reads_pauses_and_halts_alone() {
     let given = calls::move_from_tape(&mut d.s, &mut d.image, &mut taken, 6, ROOM);
     assert_eq!(words(&given.sent), [1 << 31 | 36, 4, 6, 0, 0x504, 0, 0, 2, 0, 4]);
     assert_eq!(d.ends(), ((data::IDLE, LOCAL), (mover::PAUSED, TCP)));
-    let mut lost = Desk { s: d.s.clone(), image: vec![], list: vec![], made: true };
+    let mut lost = Desk { s: d.s.clone(), image: vec![], ..Desk::new() };
     assert_eq!(lost.event(|s| calls::lost(s, true, 6, ROOM)), notice(5, 0x503, 1));
-    let mut closed = Desk { s: d.s.clone(), image: vec![], list: vec![], made: true };
+    let mut closed = Desk { s: d.s.clone(), image: vec![], ..Desk::new() };
     assert_eq!(closed.ask(0xa07, &[]).1, [vec![0], notice(6, 0x503, 1)].concat());
     assert_eq!(d.ask(0xa03, &[]).1, [vec![0], notice(6, 0x503, 2)].concat());
 }

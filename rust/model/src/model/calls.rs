@@ -3,7 +3,7 @@
 use super::record::{Notice, framed, sent};
 use super::refusals::{Outcome, refuse, refused};
 use super::requests::{Address, HANDLED, Request, decode};
-use super::{State, changer, connection, ends, moves, relation, tape};
+use super::{State, changer, connection, ends, environment, moves, relation, tape};
 
 pub const ROOM: usize = 36_864;
 
@@ -61,7 +61,7 @@ pub fn open(time: u32, room: usize) -> (State, Given) {
     (s, g)
 }
 
-/// What a request is lent beside the image: the account, the list that a listen by TCP answers, and whether the
+/// What a request is lent to read: the account, the list that a listen by TCP answers, and whether the
 /// connection of a connect by TCP was made.
 pub struct Lent<'a> {
     pub account: (&'a [u8], &'a [u8]),
@@ -69,7 +69,17 @@ pub struct Lent<'a> {
     pub made: bool,
 }
 
-pub fn request(s: &mut State, lent: &Lent, image: &mut [u8], input: &[u8], time: u32, room: usize) -> Given {
+/// What a request is lent to read and to write: the cartridge, and the store of the environment.
+pub struct Kept<'a> {
+    pub image: &'a mut [u8],
+    pub store: &'a mut [u8],
+}
+
+pub fn request(s: &mut State, lent: &Lent, kept: &mut Kept, input: &[u8], time: u32, room: usize) -> Given {
+    // 02 No. 3: "1001 for one of another length", at every request and with the other 1001.
+    if room >= ROOM && kept.store.len() != environment::STORE {
+        return given(1001, "store of another length");
+    }
     if let Some(g) = guard(s, room) {
         return g;
     }
@@ -94,7 +104,7 @@ pub fn request(s: &mut State, lent: &Lent, image: &mut [u8], input: &[u8], time:
                 s.closed = true;
                 return given(0, "closing");
             }
-            Some(r) => match answer(s, lent, image, &r, &mut notices) {
+            Some(r) => match answer(s, lent, kept, &r, &mut notices) {
                 Ok(w) => (0, w.0),
                 Err(n) => (0, refused(record.message, n)),
             },
@@ -107,8 +117,9 @@ pub fn request(s: &mut State, lent: &Lent, image: &mut [u8], input: &[u8], time:
     g
 }
 
-fn answer(s: &mut State, lent: &Lent, image: &mut [u8], r: &Request, notices: &mut Vec<Notice>) -> Outcome {
+fn answer(s: &mut State, lent: &Lent, kept: &mut Kept, r: &Request, notices: &mut Vec<Notice>) -> Outcome {
     use Request::*;
+    let Kept { image, store } = kept;
     // "4: before auth, all but CONNECT and 0x108"
     let free = matches!(r, ConnectOpen { .. } | ClientAuth { .. } | ConnectClose | ServerInfo);
     refuse(!s.authorized && !free, 4)?;
@@ -130,10 +141,11 @@ fn answer(s: &mut State, lent: &Lent, image: &mut [u8], r: &Request, notices: &m
         TapeWrite { data } => tape::write(s, image, data),
         TapeRead { count } => tape::read(s, image, count),
         DataState => ends::data_state(s),
-        StartBackup { method } => ends::start(s, method, true),
-        StartRecover { method } => ends::start(s, method, false),
+        StartBackup { method, ref pairs } => ends::start(s, store, method, pairs, true),
+        StartRecover { method, ref pairs } => ends::start(s, store, method, pairs, false),
         DataAbort => ends::data_abort(s, notices),
-        DataStop => ends::data_stop(s),
+        DataEnvironment => environment::get(s, store),
+        DataStop => ends::data_stop(s, store),
         DataListen { address } => ends::data_listen(s, address, lent.addresses),
         DataConnect { ref to } => ends::data_connect(s, to, lent.made),
         MoverState => ends::mover_state(s),

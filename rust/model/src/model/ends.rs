@@ -1,8 +1,9 @@
 //! "Data and mover states": the DATA and MOVER requests.
 
+use super::environment::{fits, forget, keep};
 use super::record::Notice;
 use super::refusals::{Outcome, refuse};
-use super::requests::{Address, address_list};
+use super::requests::{Address, Pair, address_list};
 use super::state::{BACKUP, Data, ENDLESS, LOCAL, Mover, RECOVER, State, TCP, data, mover};
 use super::xdr::Writer;
 
@@ -150,18 +151,22 @@ pub fn data_connect(s: &mut State, to: &Address, made: bool) -> Outcome {
     done()
 }
 
-/// "Start: CONNECTED to ACTIVE; method name other than `dump`: 9."
-pub fn start(s: &mut State, method: &[u8], backup: bool) -> Outcome {
+/// "Start: CONNECTED to ACTIVE; method name other than `dump`: 9." 02 No. 3: "22 if the pairs do not fit, after 9".
+pub fn start(s: &mut State, store: &mut [u8], method: &[u8], pairs: &[Pair], backup: bool) -> Outcome {
     refuse(s.data.state != data::CONNECTED, 19)?;
     refuse(method != b"dump", 9)?;
+    refuse(!fits(pairs), 22)?;
+    keep(store, pairs);
     s.data.state = data::ACTIVE;
     s.data.operation = if backup { BACKUP } else { RECOVER };
     done()
 }
 
-/// "Stop: HALTED to IDLE, all variables of its own end reset but the record size."
-pub fn data_stop(s: &mut State) -> Outcome {
+/// "Stop: HALTED to IDLE, all variables of its own end reset but the record size." 02 No. 3: "data stop makes the count
+/// 0"; how the store is laid out is not asked.
+pub fn data_stop(s: &mut State, store: &mut [u8]) -> Outcome {
     refuse(s.data.state != data::HALTED, 19)?;
+    forget(store);
     s.data = Data::at_rest();
     done()
 }

@@ -9,6 +9,9 @@ pub mod cartridge;
 pub mod changer;
 pub mod connection;
 pub mod ends;
+pub mod environment;
+#[cfg(test)]
+mod environment_by_hand;
 pub mod moves;
 pub mod record;
 pub mod refusals;

@@ -26,6 +26,8 @@ pub fn refused(message: u32, number: u32) -> Vec<u8> {
         0x303..=0x305 => (2, 0),
         // unsupported, error, operation, state, halt_reason, two quads, est_time_remain, address, two quads
         0x400 => (15, 1),
+        // env<>
+        0x404 => (2, 0),
         // connect_addr
         0x409 | 0xa01 => (2, 0),
         // error, mode, state, two reasons, record_size, record_num, five quads, address

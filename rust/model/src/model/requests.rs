@@ -13,6 +13,9 @@ pub enum Address {
     Other,
 }
 
+/// 004's ndmp_pval: name and value.
+pub type Pair<'a> = (&'a [u8], &'a [u8]);
+
 #[derive(Debug)]
 pub enum Request<'a> {
     ConnectOpen {
@@ -54,11 +57,14 @@ pub enum Request<'a> {
     DataState,
     StartBackup {
         method: &'a [u8],
+        pairs: Vec<Pair<'a>>,
     },
     StartRecover {
         method: &'a [u8],
+        pairs: Vec<Pair<'a>>,
     },
     DataAbort,
+    DataEnvironment,
     DataStop,
     DataListen {
         address: u32,
@@ -92,11 +98,12 @@ pub enum Request<'a> {
     },
 }
 
-/// "What the vault handles": the numbers of 004. The notices' own numbers are sent, not handled (reading).
-pub const HANDLED: [u32; 33] = [
+/// "What the vault handles": the numbers of 004; with 02 No. 3 also 0x404. The notices' own numbers are sent, not handled
+/// (reading).
+pub const HANDLED: [u32; 34] = [
     0x900, 0x901, 0x902, 0x102, 0x108, 0x200, 0x201, 0x202, 0x204, 0x206, 0x300, 0x301, 0x302, 0x303, 0x304, 0x305,
-    0x400, 0x401, 0x402, 0x403, 0x407, 0x409, 0x40a, 0xa00, 0xa01, 0xa02, 0xa03, 0xa04, 0xa05, 0xa06, 0xa07, 0xa08,
-    0xa09,
+    0x400, 0x401, 0x402, 0x403, 0x404, 0x407, 0x409, 0x40a, 0xa00, 0xa01, 0xa02, 0xa03, 0xa04, 0xa05, 0xa06, 0xa07,
+    0xa08, 0xa09,
 ];
 
 /// None: the body does not decode.
@@ -142,15 +149,15 @@ pub fn decode(message: u32, body: &[u8]) -> Option<Request<'_>> {
         0x400 => Request::DataState,
         0x401 => {
             let method = r.opaque()?;
-            environment(&mut r)?;
-            Request::StartBackup { method }
+            Request::StartBackup { method, pairs: environment(&mut r)? }
         }
         0x402 => {
-            environment(&mut r)?;
+            let pairs = environment(&mut r)?;
             names(&mut r)?;
-            Request::StartRecover { method: r.opaque()? }
+            Request::StartRecover { method: r.opaque()?, pairs }
         }
         0x403 => Request::DataAbort,
+        0x404 => Request::DataEnvironment,
         0x407 => Request::DataStop,
         0x409 => Request::DataListen { address: address_type(&mut r)? },
         0x40a => Request::DataConnect { to: address(&mut r)? },
@@ -184,12 +191,13 @@ fn count(r: &mut Reader) -> Option<u32> {
     r.word().filter(|n| *n <= 64)
 }
 
-fn environment(r: &mut Reader) -> Option<()> {
-    for _ in 0..count(r)? {
-        r.opaque()?;
-        r.opaque()?;
-    }
-    Some(())
+fn environment<'a>(r: &mut Reader<'a>) -> Option<Vec<Pair<'a>>> {
+    (0..count(r)?)
+        .map(|_| {
+            let name = r.opaque()?;
+            Some((name, r.opaque()?))
+        })
+        .collect()
 }
 
 /// The address type of a listen. "Bytes left over make error 18, except after an address type other than 0 ...: there

@@ -17,8 +17,8 @@ fn connect(to: &Address) -> String {
     }
 }
 
-/// What a line has of it behind the sequence number: the end of a listen's and a connect's, else no more than whether it
-/// is read.
+/// What a line has of it behind the sequence number: the end of a listen's, a connect's and a start's, else no more than
+/// whether it is read.
 fn shown(record: &[u8]) -> String {
     let Some(r) = framed(record) else { return "broken".into() };
     if r.kind != 0 {
@@ -33,6 +33,8 @@ fn shown(record: &[u8]) -> String {
         Some(Request::MoverListen { mode, address }) => format!("MOVER_LISTEN mode {mode} address {address}"),
         Some(Request::DataConnect { to }) => connect(&to),
         Some(Request::MoverConnect { to, .. }) => connect(&to),
+        Some(Request::StartBackup { pairs, .. } | Request::StartRecover { pairs, .. }) => format!("+{}", pairs.len()),
+        Some(Request::DataEnvironment) => "DATA_GET_ENV".into(),
         Some(_) => String::new(),
     }
 }
@@ -42,22 +44,21 @@ fn vectors_are_read_as_they_are_marked() {
     let path = concat!(env!("CARGO_MANIFEST_DIR"), "/../../crates/run_requests/stdin");
     let text = std::fs::read_to_string(path).unwrap();
     let lines: Vec<&str> = text.lines().collect();
-    let mut connects = 0;
+    let (mut connects, mut starts) = (0, 0);
     for pair in lines.chunks(2) {
         let (name, hex) = pair[0].split_once(' ').unwrap_or((pair[0], ""));
         let (record, expected) = (bytes(hex), pair[1].strip_prefix("= ").unwrap());
         let shown = shown(&record);
         assert!(expected.ends_with(&shown), "{name}: {expected}, and not {shown}");
-        assert_eq!(
-            shown.is_empty() || shown.contains("addresses"),
-            expected.contains("_") && !shown.contains("LISTEN")
-        );
+        let read = shown.is_empty() || ["addresses", "LISTEN", "+", "ENV"].iter().any(|word| shown.contains(word));
+        assert_eq!(read, expected.contains("_"), "{name}");
         // The reader gives as many as the line says.
         let count = addresses(&record).len();
         let told =
             if expected.contains("_CONNECT ") { expected.rsplit(' ').next().unwrap().parse().unwrap() } else { 0 };
         assert_eq!(count, told, "{name}");
         connects += (count > 0) as u32;
+        starts += shown.starts_with("+") as u32;
     }
-    assert!(lines.len() > 500 && connects > 8);
+    assert!(lines.len() > 500 && connects > 8 && starts > 12);
 }
