@@ -69,6 +69,7 @@ pub fn meaning(error: u32) -> &'static str {
         codes::NO_DEVICE => " (no such device)",
         codes::UNDECODABLE => " (not to be decoded)",
         codes::ILLEGAL_STATE => " (not in this state)",
+        codes::NO_MEMORY => " (more variables than the vault keeps)",
         codes::OTHER_NOT_LISTENING => " (the other end does not listen)",
         codes::READ_IN_PROGRESS => " (a read is in progress)",
         codes::PRECONDITION => " (no window is set, or one that does not begin at 0)",

@@ -83,7 +83,8 @@ A backup, seen from the client: connect open (version 4), client auth (text), ta
 `tape0` for writing, mover set record size (10,240 where it is left out), mover set window,
 mover listen (mode 0), data connect, data start backup. At `mover paused` with reason 5 (end
 of window): set the next window and continue; a window of length 2^64 - 1 has no end. At
-`data halted`: data stop, mover stop, tape close.
+`data halted`: data get env, which gives the variables of the start back, until data stop;
+mover stop, tape close.
 A recover is the same with mode 1 and data start recover, from a rewound tape; the mover
 reads are made by the vault.
 A copy between two vaults has a session on each: mover listen by TCP where the tape is gives
@@ -91,7 +92,8 @@ addresses, data connect to them where the files are, data start backup; or data 
 mover connect. In such a recover the client sends the mover reads.
 
 Names of a recover are those in the archive, with or without FILESYSTEM before them: only
-these are restored. Other wishes are not followed, and the log says so.
+these are restored. Other wishes are not followed, and the log says so, such as another
+FILESYSTEM than the path of --stream.
 
 One session at a time has the tape: tape open in a second one is answered with 15.
 The vault runs until SIGTERM or SIGINT, which end it in order; what a client was told is on

@@ -34,6 +34,7 @@ mod sys;
 pub mod tar;
 pub mod trial;
 pub mod untar;
+mod variables;
 mod vault;
 mod watch;
 mod wishes;

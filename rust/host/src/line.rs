@@ -7,6 +7,7 @@ use crate::job::Job;
 use crate::log::Log;
 use crate::ports::Ports;
 use crate::progress::Progress;
+use crate::variables;
 use crate::vault::Vault;
 use crate::watch::Watch;
 use crate::wishes::Wishes;
@@ -120,6 +121,8 @@ pub struct Line<'a> {
     /// When the client last said something, or bytes moved.
     pub heard: Instant,
     pub wishes: Wishes,
+    /// The store of the data end's variables, this session's own: none of another session's are in it.
+    pub variables: Vec<u8>,
     /// The length of the stream that the job reads, where it is known.
     pub whole: Option<u64>,
     pub out: Vec<u8>,
@@ -164,6 +167,7 @@ impl<'a> Line<'a> {
             unmet: false,
             heard: Instant::now(),
             wishes: Wishes::default(),
+            variables: variables::none(),
             whole: None,
             out,
             progress: Progress::new(&shared.log, number),
@@ -183,8 +187,8 @@ impl Line<'_> {
     /// With the addresses that a listen by TCP answers, and whether the connection of a connect by TCP was made.
     pub fn ask_with(&mut self, record: &[u8], addresses: &[u8], made: bool) -> proved::Answer {
         let (id, password) = (&self.shared.id, &self.shared.password);
-        let (image, out) = (image(&mut self.held), &mut self.out);
-        proved::request(self.core, id, password, addresses, made, image, record, seconds(), out)
+        let (image, variables, out) = (image(&mut self.held), &mut self.variables, &mut self.out);
+        proved::request(self.core, id, password, addresses, made, image, variables, record, seconds(), out)
     }
 
     /// Takes over what a call made of the session; `from` is the tape's position before a call that may have written

@@ -4,12 +4,10 @@ use crate::line::{Line, Over, Result, Shared, seconds};
 use crate::server::Leaves;
 use crate::steps;
 use crate::sys;
-use crate::wishes;
+use crate::variables;
+use crate::wishes::{self, Wishes};
 use proved::{Data, OUTPUT, codes};
-use std::ffi::OsStr;
 use std::net::TcpStream;
-use std::os::unix::ffi::OsStrExt;
-use std::path::Path;
 use std::sync::atomic::Ordering;
 use std::time::{Duration, Instant};
 use wire::{HEADER, Header, message, word_at};
@@ -218,31 +216,44 @@ impl Connection<'_> {
             let (name, meaning) = (message::name(message), crate::client::meaning(error));
             line.progress.line(format_args!("refused: {name} (0x{message:03x}) with {error}{meaning}"));
         } else if was != Data::ACTIVE && line.core.source.state == Data::ACTIVE {
-            let read = if message == message::DATA_START_BACKUP { wishes::of_backup } else { wishes::of_recover };
-            line.wishes = read(record).unwrap_or_default();
-            line.unfollowed();
+            line.started(record);
         }
     }
 }
 
 impl Line<'_> {
+    /// A start was accepted, and the store has its variables.
+    fn started(&mut self, record: &[u8]) {
+        let pairs = variables::pairs(&self.variables).unwrap_or_else(|| {
+            self.progress.error("the variables were not kept as they should be");
+            Vec::new()
+        });
+        let what = self.core.source.operation_name();
+        if !pairs.is_empty() {
+            self.progress.line(format_args!("{what} starts with {}", variables::told(&pairs)));
+        }
+        self.wishes = Wishes::of(&pairs, record);
+        self.unfollowed();
+    }
+
     /// Says what the client asked for and does not get.
     fn unfollowed(&self) {
-        let (from, to) = (&self.shared.stream, &self.shared.restore_to);
         let backup = self.core.source.operation == Data::BACKUP;
-        if let (Some(asked), Some(path), true) = (&self.wishes.filesystem, from, backup)
-            && Path::new(OsStr::from_bytes(asked)) != path
-        {
-            let asked = String::from_utf8_lossy(asked);
-            self.progress.line(format_args!(
-                "asks for FILESYSTEM {asked}; the vault backs up {}, as --stream says",
-                path.display()
-            ));
+        let (path, does, option) = match (backup, &self.shared.stream, &self.shared.restore_to) {
+            (true, Some(path), _) => (path, "backs up", "--stream"),
+            (false, _, Some(path)) => (path, "restores to", "--restore-to"),
+            // The method fails, and says why.
+            _ => return,
+        };
+        let others = self.wishes.others(path, backup);
+        if !others.is_empty() {
+            let (asked, path) = (others.join(" and "), path.display());
+            self.progress.line(format_args!("asks for {asked}; the vault {does} {path}, as {option} says"));
         }
-        if let (Some(path), true) = (to, self.wishes.names.iter().any(|n| n.moved)) {
+        if self.wishes.names.iter().any(|n| n.moved) {
+            let path = path.display();
             self.progress.line(format_args!(
-                "asks for other places or names; the vault restores to {}, by the names of the archive",
-                path.display()
+                "asks for other places or names; the vault restores to {path}, by the names of the archive"
             ));
         }
     }

@@ -1,14 +1,16 @@
 //! What a client asks for in a start request besides the method: a FILESYSTEM, and names of a recover. The core has read the
-//! request and accepted it; here it is only read once more.
+//! request and accepted it, and kept its variables; here the names, which it does not keep, are read once more.
 use crate::place::plain;
+use crate::variables::{Pair, quoted, value};
 use std::ffi::OsStr;
 use std::os::unix::ffi::OsStrExt;
 use std::path::{Path, PathBuf};
-use wire::{HEADER, word_at};
+use wire::{HEADER, Header, message, word_at};
 
 #[derive(Debug, Default, PartialEq)]
 pub struct Wishes {
-    pub filesystem: Option<Vec<u8>>,
+    filesystem: Option<Vec<u8>>,
+    prefix: Option<Vec<u8>>,
     pub names: Vec<Name>,
 }
 
@@ -36,18 +38,6 @@ impl Words<'_> {
         Some(bytes)
     }
 
-    /// The values of these variables.
-    fn values<const N: usize>(&mut self, keys: [&[u8]; N]) -> Option<[Option<Vec<u8>>; N]> {
-        let mut found = [const { None }; N];
-        for _ in 0..self.word()? {
-            let (key, value) = (self.text()?, self.text()?);
-            if let Some(i) = keys.iter().position(|k| *k == key) {
-                found[i] = Some(value);
-            }
-        }
-        Some(found)
-    }
-
     fn name(&mut self) -> Option<Name> {
         let [original, to, new, other] = [self.text()?, self.text()?, self.text()?, self.text()?];
         (self.1, _) = (self.1 + 16, other);
@@ -56,22 +46,14 @@ impl Words<'_> {
     }
 }
 
-/// Of a record of data start backup.
-pub fn of_backup(record: &[u8]) -> Option<Wishes> {
+/// The names of a record of data start recover, which stand behind its variables.
+fn names(record: &[u8]) -> Option<Vec<Name>> {
     let mut w = Words(record, HEADER);
-    w.text()?;
-    let [filesystem] = w.values([b"FILESYSTEM"])?;
-    Some(Wishes { filesystem, names: Vec::new() })
-}
-
-/// Of a record of data start recover.
-pub fn of_recover(record: &[u8]) -> Option<Wishes> {
-    let mut w = Words(record, HEADER);
-    // Clients are known that name it by PREFIX in a recover.
-    let [filesystem, prefix] = w.values([b"FILESYSTEM", b"PREFIX"])?;
-    let filesystem = filesystem.or(prefix);
-    let names = (0..w.word()?).map(|_| w.name()).collect::<Option<_>>()?;
-    Some(Wishes { filesystem, names })
+    for _ in 0..w.word()? {
+        w.text()?;
+        w.text()?;
+    }
+    (0..w.word()?).map(|_| w.name()).collect()
 }
 
 /// The id of a record of client auth, by text.
@@ -85,14 +67,36 @@ fn path(bytes: &[u8]) -> &Path {
     Path::new(OsStr::from_bytes(bytes))
 }
 
+/// Whether a client means this path, as it was told to the vault or in full.
+fn is_named(told: &Path, asked: &[u8]) -> bool {
+    path(asked) == told || told.canonicalize().is_ok_and(|full| path(asked) == full)
+}
+
 impl Wishes {
+    /// Of a start that was accepted: its variables, and its record.
+    pub fn of(pairs: &[Pair], record: &[u8]) -> Wishes {
+        let given = |name: &[u8]| value(pairs, name).map(<[u8]>::to_vec);
+        let recover = Header::of(record).is_some_and(|h| h.message == message::DATA_START_RECOVER);
+        let names = if recover { names(record).unwrap_or_default() } else { Vec::new() };
+        Wishes { filesystem: given(b"FILESYSTEM"), prefix: given(b"PREFIX"), names }
+    }
+
+    /// What the client names that is not this path, for the log: the FILESYSTEM, and the PREFIX of a recover.
+    pub fn others(&self, told: &Path, backup: bool) -> Vec<String> {
+        let named = [("FILESYSTEM", &self.filesystem), ("PREFIX", if backup { &None } else { &self.prefix })];
+        let named = named.into_iter().filter_map(|(name, value)| Some((name, value.as_ref()?)));
+        named.filter(|(_, v)| !is_named(told, v)).map(|(name, v)| format!("{name} {}", quoted(v))).collect()
+    }
+
     /// The names in the archive that are meant: those of the client, without what it calls the file system, or the
     /// folder that the vault backs up. None if all is meant.
     pub fn wanted(&self, stream: Option<&Path>) -> Result<Vec<PathBuf>, String> {
         let mut all = Vec::new();
         for name in &self.names {
             let told = path(&name.original);
-            let roots = [self.filesystem.as_deref().map(path), stream];
+            // Clients are known that name it by PREFIX in a recover.
+            let root = self.filesystem.as_ref().or(self.prefix.as_ref());
+            let roots = [root.map(|r| path(r)), stream];
             let below = roots.into_iter().flatten().find_map(|root| told.strip_prefix(root).ok());
             let below = below.unwrap_or_else(|| told.strip_prefix("/").unwrap_or(told));
             match plain(below.as_os_str().as_bytes()).map_err(|e| e.to_string())? {
@@ -109,19 +113,21 @@ mod tests {
     use super::*;
     use wire::{request, text, words};
 
-    fn named(names: &[[&str; 4]], key: &str, filesystem: &str) -> Vec<u8> {
-        let mut body = [words(&[2]), text("HIST"), text("n"), text(key), text(filesystem)].concat();
+    /// A recover with one variable and these names.
+    fn recover(names: &[[&str; 4]], key: &str, value: &str) -> Wishes {
+        let mut body = [words(&[2]), text("HIST"), text("n"), text(key), text(value)].concat();
         body.extend(words(&[names.len() as u32]));
         for name in names {
             name.iter().for_each(|part| body.extend(text(part)));
             body.extend([0; 16]);
         }
-        request(1, 0x402, &[body, text("dump")].concat())
+        let record = request(1, message::DATA_START_RECOVER, &[body, text("dump")].concat());
+        Wishes::of(&[Pair { name: key.as_bytes(), value: value.as_bytes() }], &record)
     }
 
     #[test]
     fn names_are_those_of_the_archive() {
-        let wishes = |names: &[[&str; 4]], fs: &str| of_recover(&named(names, "FILESYSTEM", fs)).unwrap();
+        let wishes = |names: &[[&str; 4]], fs: &str| recover(names, "FILESYSTEM", fs);
         let wanted = |names: &[&str], fs: &str| {
             let all: Vec<[&str; 4]> = names.iter().map(|n| [*n, "", "", ""]).collect();
             wishes(&all, fs).wanted(Some(Path::new("/srv/data")))
@@ -133,20 +139,26 @@ mod tests {
             assert_eq!(wanted(&["a", all], "/vol"), paths(&[]), "{all}");
         }
         assert!(wanted(&["../a"], "/vol").is_err());
-        let by_prefix = of_recover(&named(&[["/vol/a", "", "", ""]], "PREFIX", "/vol")).unwrap();
+        let by_prefix = recover(&[["/vol/a", "", "", ""]], "PREFIX", "/vol");
         assert_eq!(by_prefix.wanted(None), paths(&["a"]));
         let moved = |to, new| wishes(&[["/vol/a", to, new, ""]], "/vol").names[0].moved;
         assert_eq!([moved("", ""), moved("/vol/a", ""), moved("/b", ""), moved("", "c")], [false, false, true, true]);
+        assert_eq!((names(&request(1, 0x402, &words(&[0, 9]))), names(&request(1, 0x402, b""))), (None, None));
     }
 
     #[test]
-    fn file_systems_are_read() {
-        let body = [text("dump"), words(&[2]), text("HIST"), text("n"), text("FILESYSTEM"), text("/vol")].concat();
-        let wishes = of_backup(&request(1, 0x401, &body)).unwrap();
-        assert_eq!(wishes, Wishes { filesystem: Some(b"/vol".to_vec()), names: Vec::new() });
-        let none = of_backup(&request(1, 0x401, &[text("dump"), words(&[0])].concat()));
-        assert_eq!(none, Some(Wishes::default()));
-        assert_eq!(of_backup(&request(1, 0x401, &text("dump"))), None);
-        assert_eq!(of_recover(&request(1, 0x402, &words(&[0, 9]))), None);
+    fn other_file_systems_are_found() {
+        let fs = |value: &str| recover(&[], "FILESYSTEM", value);
+        let told = Path::new("/srv/data");
+        for same in ["/srv/data", "/srv/data/", "/srv/./data"] {
+            assert_eq!(fs(same).others(told, true), Vec::<String>::new(), "{same}");
+        }
+        assert_eq!(fs("/vol").others(told, true), ["FILESYSTEM \"/vol\""]);
+        assert_eq!(fs("").others(told, false), ["FILESYSTEM \"\""]);
+        let prefix = recover(&[], "PREFIX", "/vol");
+        assert_eq!((prefix.others(told, false), prefix.others(told, true).len()), (vec!["PREFIX \"/vol\"".into()], 0));
+        // In full, where the vault was told less.
+        let here = Path::new(".").canonicalize().unwrap();
+        assert!(is_named(Path::new("."), here.as_os_str().as_bytes()) && !is_named(Path::new("."), b"/vol"));
     }
 }

@@ -105,7 +105,7 @@ type Account = [Vec<u8>; 2];
 
 /// The shortest times of logins, in turn: each is an account, and what is told in its place.
 fn login_times(logins: &[(Account, Account)]) -> Vec<Duration> {
-    let mut out = vec![0; proved::OUTPUT];
+    let (mut out, mut variables) = (vec![0; proved::OUTPUT], vec![0; codes::STORE_LENGTH]);
     let session = proved::open(0, &mut out).session;
     let record =
         |[id, word]: &[Vec<u8>; 2]| request(1, CONNECT_CLIENT_AUTH, &[words(&[1]), text(id), text(word)].concat());
@@ -114,7 +114,7 @@ fn login_times(logins: &[(Account, Account)]) -> Vec<Duration> {
     for _ in 0..2_000 {
         for (i, ([id, word], record)) in all.iter().enumerate() {
             let begun = Instant::now();
-            let done = proved::request(session, id, word, &[], false, &mut [], record, 0, &mut out);
+            let done = proved::request(session, id, word, &[], false, &mut [], &mut variables, record, 0, &mut out);
             least[i] = least[i].min(begun.elapsed());
             assert!(done.code == 0 && !done.session.login.authorized);
         }
@@ -303,7 +303,7 @@ fn wishes_are_followed_or_told() {
     c.good(DATA_START_BACKUP, &[text("dump"), pairs("/vol\n")].concat()).unwrap();
     assert_eq!(c.run(0, |_| ()).unwrap().why, DONE);
     c.finish().unwrap();
-    told(&log, &["asks for FILESYSTEM /vol\\n; the vault backs up ", ", as --stream says"]);
+    told(&log, &["asks for FILESYSTEM \"/vol\\n\"; the vault backs up ", ", as --stream says"]);
 
     let mut recover = |names: &[[&str; 2]]| {
         let mut body = [pairs("/vol"), words(&[names.len() as u32])].concat();

@@ -3,7 +3,7 @@ mod common;
 use common::*;
 use host::cartridge::{Cartridge, Disk};
 use host::session::writes;
-use proved::OUTPUT;
+use proved::{OUTPUT, codes};
 use std::cell::{Cell, RefCell};
 use std::fs;
 use std::io::{self, Write};
@@ -103,6 +103,7 @@ fn judge(file: &mut [u8], steps: &[Step], old: &[List], new: &List) -> Result<us
 struct Deck {
     session: proved::Session,
     out: Vec<u8>,
+    variables: Vec<u8>,
     cartridge: Cartridge<Recorder>,
 }
 
@@ -117,6 +118,7 @@ impl Deck {
             &[],
             false,
             &mut self.cartridge.image,
+            &mut self.variables,
             &record,
             0,
             &mut self.out,
@@ -140,7 +142,8 @@ fn runs(seed: u64, failing: bool) -> (Vec<u8>, Vec<Run>) {
     let Recorder { steps, fails_in } = disk.clone();
     let mut out = vec![0; OUTPUT];
     let session = proved::open(0, &mut out).session;
-    let mut deck = Deck { session, out, cartridge: Cartridge::new(image, disk) };
+    let variables = vec![0; codes::STORE_LENGTH];
+    let mut deck = Deck { session, out, variables, cartridge: Cartridge::new(image, disk) };
     deck.call(CONNECT_CLIENT_AUTH, &[words(&[1]), text("vault"), text("noon")].concat());
     deck.call(TAPE_OPEN, &[text("tape0"), words(&[1])].concat());
     let chance = noise(seed + 1_000, 400);
