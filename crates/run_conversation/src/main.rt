@@ -50,7 +50,7 @@ fn ask(s: Session, image: &mut [u8], store: &mut [u8], input: &[u8]) -> Session 
 
 // A record in hex. What is none is said, and not asked.
 fn ask_text(s: Session, image: &mut [u8], store: &mut [u8], text: &[u8]) -> Session {
-    let mut record = [0u8; 2048];
+    let mut record = [0u8; 20000];
     let d = hex::decode(text, &mut record);
     match d {
         Decoded::Bytes(len) => ask(s, image, store, &record[..len]),
@@ -59,7 +59,7 @@ fn ask_text(s: Session, image: &mut [u8], store: &mut [u8], text: &[u8]) -> Sess
             s
         }
         Decoded::NoRoom => {
-            put(b": above 2048 bytes\n");
+            put(b": above 20000 bytes\n");
             s
         }
     }
@@ -74,11 +74,11 @@ fn ask_file(i: usize, s: Session, image: &mut [u8], store: &mut [u8]) -> Session
         os::fail(&path[..n]);
         return s;
     }
-    let mut text = [0u8; 4097];
+    let mut text = [0u8; 40001];
     let len = io::read_full(fd, &mut text);
     libc::close(fd);
-    if 4096 < len {
-        put(b": above 4096 bytes\n");
+    if 40000 < len {
+        put(b": above 40000 bytes\n");
         return s;
     }
     ask_text(s, image, store, &text[..len])
