@@ -1,0 +1,78 @@
+-- Each case is computed: the definitions unfold, and both sides are one term. A login's digest is computed once. Assumes nothing.
+use mathlib.Core.Path.{_≡_, refl}
+use Rattle.xdr.specs.Choose.{choose}
+use Rattle.xdr.specs.Xdr.{word, sameBytes}
+use Rattle.xdr_opaque.specs.Opaque.{allZero, opaqueAt}
+use Rattle.md5.specs.Md5.{indexOf, shiftOf, md5, le32, md5Registers, processed, padding, compressed, operations, stepped}
+use Rattle.md5.specs.Md5.{auxiliaryOf, rotated, leWord}
+use Rattle.md5.specs.Login.{loginString, loginDigest}
+use Rattle.wire_accounts.specs.Accounts.{isKind, withPassword, withId, accountAt, withAccount, andThen, accountsFrom, accountsIn}
+use Rattle.wire_accounts.specs.Accounts.{entriesOf, textMatches, isDigestible, isDigest, md5Matches, anyOf}
+use Rattle.wire_accounts.specs.Cases.{LaidCases, BrokenCases, TextLogins, Md5Logins, AccountCases, ndmp, givenChallenge, sentDigest}
+
+laid : LaidCases
+unfolding choose word allZero opaqueAt isKind withPassword withId accountAt withAccount andThen accountsFrom accountsIn
+laid = record { no-account = refl; one-text = refl; one-md5 = refl; eight-accounts = refl; twice = refl }
+
+not-laid : BrokenCases
+unfolding choose word allZero opaqueAt isKind withPassword withId accountAt withAccount andThen accountsFrom accountsIn
+not-laid =
+    record {
+      no-byte = refl;
+      no-count = refl;
+      nine = refl;
+      far-more = refl;
+      kind-zero = refl;
+      kind-three = refl;
+      kind-high = refl;
+      second-kind = refl;
+      byte-more = refl;
+      word-more = refl;
+      account-more = refl;
+      after-none = refl;
+      id-fill = refl;
+      password-fill = refl;
+      no-kind = refl;
+      no-id = refl;
+      no-password = refl;
+      no-fill = refl;
+      one-missing = refl;
+    }
+
+text : TextLogins
+unfolding choose word allZero opaqueAt isKind withPassword withId accountAt withAccount andThen accountsFrom accountsIn entriesOf sameBytes textMatches anyOf
+text =
+    record {
+      lets-in = refl;
+      wrong-id = refl;
+      wrong-password = refl;
+      shorter = refl;
+      with-fill = refl;
+      other-kind = refl;
+      first-of-two = refl;
+      second-of-two = refl;
+      neither = refl;
+      empty = refl;
+      long = refl;
+    }
+
+ndmp-digest : loginDigest ndmp givenChallenge ≡ sentDigest
+unfolding loginString loginDigest choose indexOf shiftOf md5 le32 md5Registers processed padding compressed operations stepped auxiliaryOf rotated leWord
+ndmp-digest = refl
+
+by-md5 : Md5Logins
+unfolding choose word allZero opaqueAt isKind withPassword withId accountAt withAccount andThen accountsFrom accountsIn entriesOf sameBytes isDigestible isDigest md5Matches anyOf
+by-md5 =
+    record {
+      lets-in = rw ndmp-digest;
+      last-byte = rw ndmp-digest;
+      wrong-id = refl;
+      second-of-two = rw ndmp-digest;
+      other-kind = refl;
+      password = rw ndmp-digest;
+      empty = λ c d. refl;
+      long = λ c d. refl;
+    }
+
+pub cases-hold : AccountCases
+cases-hold = record { laid = laid; not-laid = not-laid; text = text; md5 = by-md5 }

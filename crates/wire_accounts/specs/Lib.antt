@@ -1,0 +1,4 @@
+pub mod Accounts
+pub mod Place
+pub mod Cases
+pub mod Holds
