@@ -117,6 +117,22 @@ mostLent = 16384
 abbrev pub storeLength : ℕ
 storeLength = 16384
 
+-- "The accounts grow to eight"
+abbrev pub mostAccounts : ℕ
+mostAccounts = 8
+
+-- "an MD5 password above 32 bytes never does"
+abbrev pub longestPassword : ℕ
+longestPassword = 32
+
+-- "a 64-byte challenge that the host lends"
+abbrev pub challengeLength : ℕ
+challengeLength = 64
+
+-- the digest of an MD5 login: 004's opaque of 16 bytes, with no length before it
+abbrev pub digestLength : ℕ
+digestLength = 16
+
 -- ---- what a client asks for
 -- "Address types other than LOCAL"
 abbrev pub localAddress : ℕ
@@ -129,6 +145,10 @@ tcpAddress = 1
 -- "Auth type 1 (text)"
 abbrev pub textAuth : ℕ
 textAuth = 1
+
+-- "NDMP's MD5 login": NDMP_AUTH_MD5
+abbrev pub md5Auth : ℕ
+md5Auth = 2
 
 -- the version that CONNECT open asks for
 abbrev pub versionFour : ℕ
@@ -151,4 +171,5 @@ pub record AsWritten : Type 0 where
   pub calls-are : shortOutput ∷ brokenSession ∷ [] ≡ 1001 ∷ 1002 ∷ []
   pub operations-are : mtioOperations ≡ 0 ∷ 1 ∷ 2 ∷ 3 ∷ 4 ∷ 5 ∷ 6 ∷ []
   pub limits-are : largestMessage ∷ longestRecord ∷ senseBytes ∷ mostListed ∷ mostAddresses ∷ mostPort ∷ mostLent ∷ storeLength ∷ [] ≡ 36864 ∷ 32768 ∷ 18 ∷ 64 ∷ 16 ∷ 65535 ∷ 16384 ∷ 16384 ∷ []
-  pub client-are : localAddress ∷ tcpAddress ∷ textAuth ∷ versionFour ∷ [] ≡ 0 ∷ 1 ∷ 1 ∷ 4 ∷ []
+  pub logins-are : mostAccounts ∷ longestPassword ∷ challengeLength ∷ digestLength ∷ [] ≡ 8 ∷ 32 ∷ 64 ∷ 16 ∷ []
+  pub client-are : localAddress ∷ tcpAddress ∷ textAuth ∷ md5Auth ∷ versionFour ∷ [] ≡ 0 ∷ 1 ∷ 1 ∷ 2 ∷ 4 ∷ []

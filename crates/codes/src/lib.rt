@@ -79,13 +79,25 @@ pub const MOST_LENT: usize = 16384;
 // The bytes of the store of a data end's environment.
 pub const STORE_LENGTH: usize = 16384;
 
+// The most accounts that are lent, and the most bytes of an MD5 account's password.
+pub const MOST_ACCOUNTS: u32 = 8;
+
+pub const LONGEST_PASSWORD: usize = 32;
+
+// The bytes of a challenge, and of the digest that answers it.
+pub const CHALLENGE_LENGTH: usize = 64;
+
+pub const DIGEST_LENGTH: usize = 16;
+
 // The address types LOCAL and TCP.
 pub const LOCAL_ADDRESS: u32 = 0;
 
 pub const TCP_ADDRESS: u32 = 1;
 
-// The auth type of a login by text.
+// The auth types of a login by text and by MD5.
 pub const TEXT_AUTH: u32 = 1;
+
+pub const MD5_AUTH: u32 = 2;
 
 // The version that CONNECT open asks for.
 pub const VERSION_FOUR: u32 = 4;

@@ -7,13 +7,14 @@ use mathlib.Core.Path.{_≡_, refl, sym, ap, _∙_}
 use mathlib.Core.List.{List, [], _∷_, _++_, append-assoc}
 use native.Mathlib.Omega.{arith}
 use lib.Dec.{ltb, ltb→lt}
-use native.Mathlib.Nat.{zero-add, suc-mul, suc-add, add-comm}
+use native.Mathlib.Nat.{zero-add, add-zero, suc-mul, suc-add, add-comm}
 use lib.ListN.{length, take, drop, getD, replicate, set}
 use lib.ListN.{length-append, length-replicate, length-drop, replicate-append-replicate}
 use lib.Seq.{drop-drop, take-append-le, drop-append-le, take-append-add, take-at, drop-at, length-take-le}
 use Rattle.xdr.specs.Xdr.{overlay}
 use Rattle.xdr.proofs.Laws.{store-next, more, length-overlay, overlay-whole}
-use Rattle.md5.specs.Md5.{shifts, stepped, operations, compressed, processed, initial, md5Registers, md5}
+use Rattle.md5.specs.Md5.{plus, rotated, auxiliaryOf, indexOf, table, leWord}
+use Rattle.md5.specs.Md5.{shifts, shiftOf, Shift, Amounts, OfRound, stepped, operations, compressed, processed, initial, md5Registers, md5}
 use Rattle.md5.specs.Md5.{le32, zeros, bits, padding, Padded, PaddedEnd}
 use Rattle.md5.specs.declared.Registers.{Registers}
 use Rattle.md5.proofs.Table.{at}
@@ -30,6 +31,22 @@ shift-some i h = ltb→lt 0 (getD shifts i 0) (at above shifts tt i h)
 pub shift-small : (i : ℕ) → i < 16 → getD shifts i 0 < 32
 shift-small i h = ltb→lt (getD shifts i 0) 32 (at below shifts tt i h)
 
+-- the amount of an operation, by its round
+pub shift-there : (round i : ℕ) (l : List ℕ) → OfRound round i → Amounts l → Shift i (getD l (round * 4 + i % 4) 0)
+unfolding shiftOf
+shift-there round i l o a =
+    let h : i / 16 * 4 + i % 4 < 16 = omega (arith, o .one) in
+    rw (a .are, o .is) (record { is = refl; some = shift-some _ h; small = shift-small _ h })
+
+-- an operation, from what its parts give
+pub stepped-is : (round i k f w n u v y z b : ℕ) (x t : List ℕ) (q : Registers) → OfRound round i → t ≡ table
+    → f ≡ auxiliaryOf round (q .b) (q .c) (q .d) → k ≡ indexOf round i → w ≡ leWord x (4 * k) → n ≡ shiftOf i
+    → u ≡ plus (q .a) f → v ≡ plus w (getD t i 0) → y ≡ plus u v → z ≡ rotated n y → b ≡ plus (q .b) z
+    → record { a = q .d; b = b; c = q .b; d = q .c } ≡ stepped i x q
+unfolding stepped
+stepped-is round i k f w n u v y z b x t q o et ef ek ew en eu ev ey ez eb =
+    rw (eb, ez, ey, ev, eu, en, ew, ek, ef, et, o .is)
+
 -- one operation more of those that are left
 pub operations-next : (n i : ℕ) (x : List ℕ) (q r : Registers) → i < n → r ≡ stepped i x q
     → operations (n - i) i x q ≡ operations (n - (i + 1)) (i + 1) x r
@@ -43,6 +60,20 @@ unfolding operations
 operations-done n i x q h =
     let k : n - i ≡ 0 = omega arith in
     rw k
+
+-- operations, and then those behind them
+operations-more : (m n i : ℕ) (x : List ℕ) (q : Registers) → operations (m + n) i x q ≡ operations n (i + m) x (operations m i x q)
+unfolding operations
+operations-more zero n i x q = rw (zero-add, add-zero)
+operations-more (suc m) n i x q =
+    let e : i + 1 + m ≡ i + suc m = omega arith in
+    rw (suc-add, operations-more m n (i + 1) x (stepped i x q), e)
+
+-- four rounds
+pub operations-rounds : (x : List ℕ) (q a b c d : Registers) → a ≡ operations 16 0 x q → b ≡ operations 16 16 x a → c ≡ operations 16 32 x b
+    → d ≡ operations 16 48 x c → d ≡ operations 64 0 x q
+operations-rounds x q a b c d e f g h =
+    rw (operations-more 16 48 0 x q, ← e, operations-more 16 32 16 x a, ← f, operations-more 16 16 32 x b, ← g) h
 
 -- one block more of those that are left
 processed-suc : (n : ℕ) (l : List ℕ) (q : Registers)

@@ -3,6 +3,7 @@ use Prim.Native.Nat.{ℕ, zero, suc, _+_, _/_, _≤_}
 use mathlib.Core.Path.{_≡_}
 use mathlib.Core.List.{List, [], _∷_, _++_, map}
 use lib.ListN.{length}
+use Rattle.codes.specs.Codes.{longestPassword, challengeLength}
 use Rattle.md5.specs.Md5.{indexOf, shiftOf, md5}
 use Rattle.md5.specs.Login.{loginString, loginDigest}
 
@@ -70,7 +71,7 @@ longPassword = numbersFrom 32 1
 pub record LoginCases : Type 0 where
   pub short : loginString shortPassword challenge ≡ shortString
   pub long : loginString longPassword challenge ≡ longPassword ++ (challenge ++ longPassword)
-  pub whole : (p c : List ℕ) → length p ≤ 32 → length c ≡ 64 → length (loginString p c) ≡ 128
+  pub whole : (p c : List ℕ) → length p ≤ longestPassword → length c ≡ challengeLength → length (loginString p c) ≡ 128
   pub digest : loginDigest shortPassword challenge ≡
       0xea ∷ 0x6a ∷ 0x74 ∷ 0x2b ∷ 0x95 ∷ 0x5d ∷ 0xe8 ∷ 0xa3 ∷
       0xdd ∷ 0x31 ∷ 0x9a ∷ 0x0d ∷ 0x5a ∷ 0xc8 ∷ 0xf9 ∷ 0x34 ∷ []

@@ -3,6 +3,7 @@ use Prim.Native.Nat.{ℕ, _-_, _*_, _≤_}
 use mathlib.Core.Path.{_≡_}
 use mathlib.Core.List.{List, _++_}
 use lib.ListN.{length, replicate}
+use Rattle.codes.specs.Codes.{longestPassword, challengeLength}
 use Rattle.md5.specs.Md5.{md5}
 
 -- "concatenating the 1 to 32 byte password, 0 to 62 bytes of null (0x00) padding, the 64 byte random challenge string
@@ -17,6 +18,6 @@ loginDigest password challenge = md5 (loginString password challenge)
 
 -- a password that is not too long, a whole challenge, and a string of zeros to write them into
 pub record LoginBlank (password challenge l : List ℕ) : Type 0 where
-  pub short : length password ≤ 32
-  pub given : length challenge ≡ 64
+  pub short : length password ≤ longestPassword
+  pub given : length challenge ≡ challengeLength
   pub zeroed : l ≡ replicate 128 0

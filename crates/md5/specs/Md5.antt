@@ -1,4 +1,4 @@
--- MD5, sentence by sentence from RFC 1321; its sections stand in brackets.
+-- MD5 as RFC 1321 defines it, in our words; its sections stand in brackets.
 use Prim.Native.Nat.{ℕ, zero, suc, _+_, _-_, _*_, _/_, _%_, _^_, _<_, _≤_}
 use mathlib.Core.List.{List, [], _∷_, _++_}
 use mathlib.Core.Path.{_≡_}
@@ -9,20 +9,20 @@ use lib.Dec.{eqb}
 use Rattle.xdr.specs.Choose.{choose}
 use Rattle.md5.specs.declared.Registers.{Registers}
 
--- "Let the symbol "+" denote addition of words (i.e., modulo-2^32 addition)." (2)
+-- the sum of two words, modulo 2^32 (2)
 abbrev pub plus : ℕ → ℕ → ℕ
 plus a b = (a + b) % 4294967296
 
--- "Let X <<< s denote the 32-bit value obtained by circularly shifting (rotating) X left by s bit positions." (2)
+-- a word rotated left by s bits: those that leave it above come in below (2)
 unfoldable pub rotated : ℕ → ℕ → ℕ
 rotated s x = bitOr (x * 2 ^ s % 4294967296) (x / 2 ^ (32 - s))
 
--- "Let not(X) denote the bit-wise complement of X" (2)
+-- each bit of a word the other way (2)
 abbrev pub complement : ℕ → ℕ
 complement x = 4294967295 - x
 
--- "F(X,Y,Z) = XY v not(X) Z, G(X,Y,Z) = XZ v Y not(Z), H(X,Y,Z) = X xor Y xor Z, I(X,Y,Z) = Y xor (X v not(Z))" (3.4):
--- one a round
+-- the auxiliary functions F, G, H and I, one a round (3.4): F takes y where x has ones and z elsewhere, G takes x where z has ones
+-- and y elsewhere, H is the exclusive or of all three, I that of y with x or not z
 unfoldable pub auxiliaryOf : ℕ → ℕ → ℕ → ℕ → ℕ
 auxiliaryOf round x y z =
     choose (eqb round 0) (bitOr (bitAnd x y) (bitAnd (complement x) z))
@@ -54,8 +54,8 @@ pub record Shift (i r : ℕ) : Type 0 where
   pub some : 0 < r
   pub small : r < 32
 
--- "Let T[i] denote the i-th element of the table, which is equal to the integer part of 4294967296 times abs(sin(i)),
--- where i is in radians." (3.4) RFC 1321 counts i from 1, the list from 0.
+-- the table T (3.4): entry i is the integer part of 2^32 times the absolute value of the sine of i radians. RFC 1321 counts i
+-- from 1, the list from 0.
 abbrev pub table : List ℕ
 table =
     0xd76a_a478 ∷ 0xe8c7_b756 ∷ 0x2420_70db ∷ 0xc1bd_ceee ∷ 0xf57c_0faf ∷ 0x4787_c62a ∷ 0xa830_4613 ∷ 0xfd46_9501
@@ -67,13 +67,28 @@ table =
     ∷ 0xf429_2244 ∷ 0x432a_ff97 ∷ 0xab94_23a7 ∷ 0xfc93_a039 ∷ 0x655b_59c3 ∷ 0x8f0c_cc92 ∷ 0xffef_f47d ∷ 0x8584_5dd1
     ∷ 0x6fa8_7e4f ∷ 0xfe2c_e6e0 ∷ 0xa301_4314 ∷ 0x4e08_11a1 ∷ 0xf753_7e82 ∷ 0xbd3a_f235 ∷ 0x2ad7_d2bb ∷ 0xeb86_d391 ∷ []
 
--- "a sequence of bytes can be interpreted as a sequence of 32-bit words, where each consecutive group of four bytes is
--- interpreted as a word with the low-order (least significant) byte given first." (2)
+-- operation i is one of a round
+pub record OfRound (round i : ℕ) : Type 0 where
+  pub is : round ≡ i / 16
+  pub one : i < 64
+
+-- a list that is the amounts
+pub record Amounts (l : List ℕ) : Type 0 where
+  pub are : l ≡ shifts
+
+-- what an operation is lent: a whole block, and the two tables
+pub record Lent (x t s : List ℕ) : Type 0 where
+  pub whole : 64 ≤ length x
+  pub constants : t ≡ table
+  pub amounts : Amounts s
+
+-- the word that four bytes are, the low byte first (2)
 unfoldable pub leWord : List ℕ → ℕ → ℕ
 leWord l at = getD l at 0 + getD l (at + 1) 0 * 256 + getD l (at + 2) 0 * 65536 + getD l (at + 3) 0 * 16777216
 
--- "Let [abcd k s i] denote the operation a = b + ((a + F(b,c,d) + X[k] + T[i]) <<< s)." (3.4) The letters of the next one are
--- DABC, then CDAB, BCDA and ABCD again: so the registers move on by one.
+-- operation i, with k and s of its own (3.4): to a are added the auxiliary function of b, c and d, word k of the block and entry i
+-- of the table; that is rotated by s, and b added. The next operation does it for d, then for c, for b and for a again: so the
+-- registers move on by one.
 unfoldable pub stepped : ℕ → List ℕ → Registers → Registers
 stepped i x q =
     record {
@@ -90,8 +105,7 @@ unfoldable pub operations : ℕ → ℕ → List ℕ → Registers → Registers
 operations zero i x q = q
 operations (suc n) i x q = operations n (i + 1) x (stepped i x q)
 
--- "Then perform the following additions. (That is increment each of the four registers by the value it had before this
--- block was started.) A = A + AA, B = B + BB, C = C + CC, D = D + DD" (3.4)
+-- to each register is added what it held before the block (3.4)
 abbrev pub summed : Registers → Registers → Registers
 summed p q = record { a = plus (p .a) (q .a); b = plus (p .b) (q .b); c = plus (p .c) (q .c); d = plus (p .d) (q .d) }
 
@@ -99,13 +113,12 @@ summed p q = record { a = plus (p .a) (q .a); b = plus (p .b) (q .b); c = plus (
 unfoldable pub compressed : List ℕ → Registers → Registers
 compressed x q = summed q (operations 64 0 x q)
 
--- "Process each 16-word block." (3.4): n of them, from the front of the message
+-- one block after the other (3.4): n of them, from the front of the message
 unfoldable pub processed : ℕ → List ℕ → Registers → Registers
 processed zero l q = q
 processed (suc n) l q = processed n (drop 64 l) (compressed (take 64 l) q)
 
--- "These registers are initialized to the following values in hexadecimal, low-order bytes first): word A: 01 23 45 67,
--- word B: 89 ab cd ef, word C: fe dc ba 98, word D: 76 54 32 10" (3.3)
+-- what the registers start with (3.3): their bytes, the low ones first, are 01 23 45 67, 89 ab cd ef, fe dc ba 98 and 76 54 32 10
 abbrev pub initial : Registers
 initial = record { a = 0x6745_2301; b = 0xefcd_ab89; c = 0x98ba_dcfe; d = 0x1032_5476 }
 
@@ -113,22 +126,20 @@ initial = record { a = 0x6745_2301; b = 0xefcd_ab89; c = 0x98ba_dcfe; d = 0x1032
 unfoldable pub le32 : ℕ → List ℕ
 le32 v = (v % 256) ∷ (v / 256 % 256) ∷ (v / 65536 % 256) ∷ (v / 16777216 % 256) ∷ []
 
--- "a single "1" bit is appended to the message, and then "0" bits are appended so that the length in bits of the padded
--- message becomes congruent to 448, modulo 512. In all, at least one bit and at most 512 bits are appended." (3.1)
--- The "1" bit and seven of the zeros are the byte 0x80; so many bytes of zeros follow it.
+-- the padding (3.1): a one bit, and then as few zero bits as make the length in bits 448 modulo 512; 1 to 512 bits in all. The one
+-- bit and seven of the zeros are the byte 0x80; so many bytes of zeros follow it.
 abbrev pub zeros : ℕ → ℕ
 zeros n = (119 - n % 64) % 64
 
--- "A 64-bit representation of b (the length of the message before the padding bits were added) .. In the unlikely event that
--- b is greater than 2^64, then only the low-order 64 bits of b are used." (3.2)
+-- the length of the message in bits, without the padding; of a longer one than 2^64 bits the low 64 bits count (3.2)
 abbrev pub bits : ℕ → ℕ
 bits n = 8 * n % 18446744073709551616
 
--- what is appended to a message of n bytes: the length as "two 32-bit words and appended low-order word first" (3.2)
+-- what is appended to a message of n bytes: the padding, and the length as two words, the low one first (3.2)
 unfoldable pub padding : ℕ → List ℕ
 padding n = 0x80 ∷ (replicate (zeros n) 0 ++ (le32 (bits n % 4294967296) ++ le32 (bits n / 4294967296)))
 
--- The two sentences on the length: after the zeros it is 448 modulo 512, in bits, and with the two words a multiple of 512;
+-- What 3.1 says of the length: after the zeros it is 448 modulo 512, in bits, and with the two words a multiple of 512;
 -- 1 to 512 bits are appended before the words, so no shorter padding does.
 pub record PaddingHolds : Type 0 where
   pub congruent : (n : ℕ) → 8 * (n + 1 + zeros n) % 512 ≡ 448
@@ -158,7 +169,6 @@ pub record Padded (rest : List ℕ) (n r : ℕ) (l : List ℕ) : Type 0 where
 unfoldable pub md5Registers : List ℕ → Registers
 md5Registers m = processed (length (m ++ padding (length m)) / 64) (m ++ padding (length m)) initial
 
--- "The message digest produced as output is A, B, C, D. That is, we begin with the low-order byte of A, and end with the
--- high-order byte of D." (3.5)
+-- the digest: the registers A, B, C and D, each with its low byte first (3.5)
 unfoldable pub md5 : List ℕ → List ℕ
 md5 m = let q = md5Registers m in le32 (q .a) ++ (le32 (q .b) ++ (le32 (q .c) ++ le32 (q .d)))

@@ -3,8 +3,9 @@
 ghost use mathlib.Core.Path.{_≡_};
 ghost use Prim.Native.Nat.{ℕ, _+_, _-_, _*_, _%_, _<_, _≤_};
 ghost use lib.ListN.{length};
+ghost use Rattle.codes.specs.Codes.{longestPassword};
 ghost use Rattle.xdr.specs.Xdr.{overlay};
-ghost use Rattle.md5.specs.Md5.{rotated, auxiliaryOf, Index, Shift, leWord, stepped, operations, compressed, processed};
+ghost use Rattle.md5.specs.Md5.{rotated, auxiliaryOf, Index, Shift, Amounts, OfRound, Lent, leWord, stepped, operations, compressed, processed};
 ghost use Rattle.md5.specs.Md5.{le32, PaddedEnd, Blank, Padded, PaddingHolds, md5Registers, md5};
 ghost use Rattle.md5.specs.Login.{loginString, loginDigest, LoginBlank};
 ghost use Rattle.md5.specs.Cases.{Md5Cases, LoginCases};
@@ -89,12 +90,13 @@ pub struct Registers {
     pub d: u32,
 }
 
-// x rotated left by s bits.
+// x rotated left by s bits. The remainder, which is s, lets the compiler see that this is one rotation.
 fn rotate_left(s: u32, x: u32) -> u32
     requires { ⌜ (0 < s) × (s < 32) ⌝ }
     ensures { λ r. ⌜ r ≡ rotated s x ⌝ }
 {
-    (x << s) | (x >> (32 - s))
+    let n = s % 32;
+    (x << n) | (x >> (32 - n))
 }
 
 // The auxiliary functions F, G, H and I, by round.
@@ -145,24 +147,31 @@ fn read_le(s: &[u8], at: usize) -> u32
 }
 
 // How far operation i rotates.
-fn shift_of(i: usize) -> u32
-    requires { ⌜ i < 64 ⌝ }
+fn shift_of(round: usize, i: usize, shifts: &[u32; 16]) -> u32
+    requires { ⌜ OfRound round i × Amounts (now shifts) ⌝ }
     ensures { λ r. ⌜ Shift i r ⌝ }
 {
-    SHIFTS[i / 16 * 4 + i % 4]
+    shifts[round * 4 + i % 4]
 }
 
-// Operation i of the 64.
-fn step(i: usize, block: &[u8], q: Registers) -> Registers
-    requires { ⌜ (i < 64) × (64 ≤ length (now block)) ⌝ }
+// Operation i of the 64. The tables are lent, for a constant would be laid out anew by each operation; and the round is given, so
+// that with each of the four the compiler drops the choice by round.
+fn step(
+    round: usize,
+    i: usize,
+    block: &[u8],
+    table: &[u32; 64],
+    shifts: &[u32; 16],
+    q: Registers,
+) -> Registers
+    requires { ⌜ OfRound round i × Lent (now block) (now table) (now shifts) ⌝ }
     ensures { λ r. ⌜ r ≡ stepped i (now (block .entry)) q ⌝ }
 {
-    let round = i / 16;
     let f = auxiliary(round, q.b, q.c, q.d);
     let k = index_of(round, i);
     let x = read_le(block, 4 * k);
-    let s = shift_of(i);
-    let first = wrapping_add_u32(wrapping_add_u32(q.a, f), wrapping_add_u32(x, TABLE[i]));
+    let s = shift_of(round, i, shifts);
+    let first = wrapping_add_u32(wrapping_add_u32(q.a, f), wrapping_add_u32(x, table[i]));
     let rotated = rotate_left(s, first);
     Registers {
         a: q.d,
@@ -172,18 +181,38 @@ fn step(i: usize, block: &[u8], q: Registers) -> Registers
     }
 }
 
+// The 16 operations of a round.
+fn one_round(
+    round: usize,
+    block: &[u8],
+    table: &[u32; 64],
+    shifts: &[u32; 16],
+    start: Registers,
+) -> Registers
+    requires { ⌜ (round < 4) × Lent (now block) (now table) (now shifts) ⌝ }
+    ensures { λ r. ⌜ r ≡ operations 16 (round * 16) (now (block .entry)) start ⌝ }
+{
+    let mut q = start;
+    let mut i = round * 16;
+    let end = i + 16;
+    while i < end {
+        q = step(round, i, block, table, shifts, q);
+        i += 1;
+    }
+    q
+}
+
 // The 64 operations.
 fn operations(block: &[u8], start: Registers) -> Registers
     requires { ⌜ 64 ≤ length (now block) ⌝ }
     ensures { λ r. ⌜ r ≡ operations 64 0 (now (block .entry)) start ⌝ }
 {
-    let mut q = start;
-    let mut i = 0;
-    while i < 64 {
-        q = step(i, block, q);
-        i += 1;
-    }
-    q
+    let table = TABLE;
+    let shifts = SHIFTS;
+    let first = one_round(0, block, &table, &shifts, start);
+    let second = one_round(1, block, &table, &shifts, first);
+    let third = one_round(2, block, &table, &shifts, second);
+    one_round(3, block, &table, &shifts, third)
 }
 
 // One block.
@@ -307,7 +336,7 @@ fn write_login(string: &mut [u8], password: &[u8], challenge: &[u8])
 
 // The digest that a login with this password and challenge must send.
 pub fn login_digest(password: &[u8], challenge: &[u8; 64]) -> [u8; 16]
-    requires { ⌜ length (now password) ≤ 32 ⌝ }
+    requires { ⌜ length (now password) ≤ longestPassword ⌝ }
     ensures { λ r. ⌜ r ≡ loginDigest (now (password .entry)) (now (challenge .entry)) ⌝ }
 {
     let mut string = [0u8; 128];

@@ -1,5 +1,7 @@
+use Prim.Native.Nat.{_%_}
+use mathlib.Core.Path.{_≡_}
+use native.Mathlib.Omega.{arith}
 use Rattle.md5.specs.Md5.{rotated}
-use mathlib.Core.Path.{refl}
 use borrow.Author.Needs.{needs}
 use Rattle.md5.proofs.rotate_left.Statement.{statement}
 use Rattle.md5.proofs.rotate_left.Tie as tie
@@ -17,7 +19,9 @@ shr-result c = search needs
 
 returns : tie.Need-returns
 unfolding rotated
-returns c = refl
+returns c =
+    let e : c .args .s % 32 ≡ c .args .s = omega (arith, c .pre) in
+    rw e
 
 pub rotate-left-spec : {M : Type 1} → statement M
 rotate-left-spec = tie.close (tie.spec shl-result sub-result shr-result returns)
