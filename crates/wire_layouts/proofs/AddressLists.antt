@@ -12,7 +12,7 @@ use borrow.Author.Tests.{leb-true}
 use Rattle.codes.specs.Codes.{mostListed, mostAddresses, mostPort}
 use Rattle.xdr.specs.Xdr as xdr
 use Rattle.xdr.proofs.Tests.{by-test}
-use Rattle.wire_layouts.specs.Layout.{text, port, Item, four, eight, bytes, Piece, piece, short, partAt, Got, got, cut, prepend, andPart, andGot, partsAt, timesAt}
+use Rattle.wire_layouts.specs.Layout.{text, port, Item, four, eight, bytes, fixed, Piece, piece, short, partAt, Got, got, cut, prepend, andPart, andGot, partsAt, timesAt}
 use Rattle.wire_layouts.specs.Layout.{FieldGot, fieldGot, stop, bad, counted, listAt, itemsOf, elementAt, fieldAt}
 use Rattle.wire_layouts.specs.Scans.{addresses, addressParts, pairParts, addressAt, forget, fieldSeen}
 use Rattle.wire_layouts.specs.AddressLists.{emptyAddresses, keep, countSeen, andAddress, addressesFrom, listed, addressesAt}
@@ -277,6 +277,7 @@ module _ (b : List ℕ) where
   seeable at (fieldGot (four v) is x) h = let e : v ≡ h .n = cc (h .first) in record { few = rw e (h .few); here = λ _. h .here }
   seeable at (fieldGot (eight v) is x) h = record { few = omega arith; here = λ m. absurd (not-suc-le-zero m) }
   seeable at (fieldGot (bytes t) is x) h = record { few = omega arith; here = λ m. absurd (not-suc-le-zero m) }
+  seeable at (fieldGot (fixed t) is x) h = record { few = omega arith; here = λ m. absurd (not-suc-le-zero m) }
   seeable at (stop v) h = absurd h
   seeable at bad h = record { few = omega arith; here = λ m. absurd (not-suc-le-zero m) }
 

@@ -6,20 +6,21 @@ use mathlib.Core.List.{List, [], _∷_, _++_, map, flatMap, append-assoc, append
 use native.Mathlib.Omega.{arith}
 use native.Mathlib.Nat.{add-zero, add-assoc}
 use lib.ListN.{length, take, drop, length-append}
+use lib.Seq.{drop-append-seam, take-at}
 use lib.Dec.{eqb, leb}
 use borrow.Author.Tests.{le-leb, eq-eqb}
 use Rattle.xdr.specs.Choose.{choose}
-use Rattle.codes.specs.Codes.{mostPort}
+use Rattle.codes.specs.Codes.{mostPort, digestLength}
 use Rattle.xdr.specs.Xdr as xdr
 use Rattle.xdr.proofs.Laws.{length-be32, length-be64}
 use Rattle.xdr_opaque.specs.Opaque.{opaqueAt}
 use Rattle.xdr_opaque.specs.Put.{opaque}
 use Rattle.xdr_opaque.proofs.Fields.{From, all-of, from-length, past, grouped, word-is, opaque-found, opaque-bytes, hyper-is}
-use Rattle.wire_layouts.specs.Layout.{Part, Field, Item, four, eight, bytes, Value, value, itemBytes, valueBytes, writeAs, Piece}
+use Rattle.wire_layouts.specs.Layout.{Part, Field, Item, four, eight, bytes, fixed, Value, value, itemBytes, valueBytes, writeAs, Piece}
 use Rattle.wire_layouts.specs.Layout.{piece, place, pieceOf, partAt, Got, got, cut, prepend, andPart, andGot, partsAt, timesAt, FieldGot, fieldGot, single, counted, listAt, itemsOf, elementAt}
 use Rattle.wire_layouts.specs.Layout.{fieldAt}
 use Rattle.wire_layouts.specs.Layout.{Read, whole, before, broken, andValue, andRead, readAs}
-use Rattle.wire_layouts.specs.Laws.{content, contents, PartFits, is-word, is-hyper, is-text, is-port, PartsFit, no-part, part-on, TimesFit, no-time, time-on, ListFits, is-list}
+use Rattle.wire_layouts.specs.Laws.{content, contents, PartFits, is-word, is-hyper, is-text, is-port, is-digest, PartsFit, no-part, part-on, TimesFit, no-time, time-on, ListFits, is-list}
 use Rattle.wire_layouts.specs.Laws.{ElementFits, is-element, FieldFits, is-one, is-many, is-lists, is-tag, FieldsFit, no-field, field-on, FieldsRoundTrip}
 use Rattle.wire_layouts.specs.declared.Text.{Text}
 
@@ -34,6 +35,10 @@ bytes-append (i ∷ is) js = ap (λ (r : List ℕ). itemBytes i ++ r) (bytes-app
 content-append : (b : List ℕ) (is js : List (Item Text)) → map (content b) (is ++ js) ≡ map (content b) is ++ map (content b) js
 content-append b [] js = refl
 content-append b (i ∷ is) js = ap (λ (r : List (Item (List ℕ))). content b i ∷ r) (content-append b is js)
+
+-- so many bytes with no length before them
+fixed-bytes : {b : List ℕ} {at : ℕ} (q s : List ℕ) (n : ℕ) → From b at (s ++ q) → length s ≡ n → take n (drop at b) ≡ s
+fixed-bytes q s n f h = rw (f .whole, f .place, drop-append-seam (f .front) (s ++ q)) (take-at s q n h)
 
 module _ (b : List ℕ) where
   record PartBack (at : ℕ) (i : Item (List ℕ)) (r : Piece) : Type 0 where
@@ -70,6 +75,9 @@ module _ (b : List ℕ) where
   part-back (is-port {v = v} h) at q f =
       let n : at + 4 ≤ length b = rw (from-length f, length-append, length-be32) (omega arith) in
       record { at-place = four v; read = rw (le-leb (at + 4) (length b) n, ← word-is q v f (omega arith), le-leb v mostPort h, length-be32); same = refl }
+  part-back (is-digest {s = s} h) at q f =
+      let n : at + digestLength ≤ length b = rw (from-length f, length-append, h) (omega arith) in
+      record { at-place = fixed (place at digestLength); read = rw (le-leb (at + digestLength) (length b) n, h); same = ap fixed (fixed-bytes q s digestLength f h) }
 
   parts-back : {ps : List Part} {is : List (Item (List ℕ))} → PartsFit ps is → (at : ℕ) (q : List ℕ) → From b at (itemsBytes is ++ q) → GotBack at is (partsAt ps b at)
   unfolding partsAt andPart prepend flatMap

@@ -9,7 +9,7 @@ use lib.Seq.{drop-cons, drop-drop, length-take-le}
 use lib.Dec.{eqb, leb}
 use borrow.Author.Tests.{leb-true, eqb-true}
 use Rattle.xdr.specs.Choose.{choose}
-use Rattle.codes.specs.Codes.{mostPort}
+use Rattle.codes.specs.Codes.{mostPort, digestLength}
 use Rattle.xdr.specs.Xdr as xdr
 use Rattle.xdr.proofs.Tests.{by-test}
 use Rattle.xdr_opaque.specs.Opaque.{opaqueAt, between, filled, allZero}
@@ -17,7 +17,7 @@ use Rattle.xdr_opaque.specs.Put.{opaque, fill}
 use Rattle.xdr_opaque.specs.declared.Opaque.{Opaque}
 use Rattle.xdr_opaque.specs.declared.Opaque.the-variants as Opaque
 use Rattle.xdr_opaque.proofs.Laws.{Found, opaque-read, zero-is, filled-fill}
-use Rattle.wire_layouts.specs.Layout.{Part, word, hyper, text, port, Field, one, many, lists, tag, never, Item, four, eight, bytes, Value, value, itemBytes, valueBytes, writeAs}
+use Rattle.wire_layouts.specs.Layout.{Part, word, hyper, text, port, digest, Field, one, many, lists, tag, never, Item, four, eight, bytes, Value, value, itemBytes, valueBytes, writeAs}
 use Rattle.wire_layouts.specs.Layout.{Piece, piece, short, place, pieceOf, partAt, Got, got, cut, prepend, andPart, andGot, partsAt, timesAt, FieldGot, fieldGot, stop, bad}
 use Rattle.wire_layouts.specs.Layout.{single, counted, listAt, itemsOf, elementAt, fieldAt, Read, whole, before, broken, andValue, andRead, readAs}
 use Rattle.wire_layouts.specs.Laws.{Bytes, content, contents, Spelled, FieldsOneSpelling}
@@ -130,6 +130,7 @@ module _ (b : List ℕ) where
         by-test (PieceSpelled at) (leb (at + 4) (length b)) _ _
         (λ e. by-test (PieceSpelled at) (leb (xdr.word b at) mostPort) _ _ (λ _. word-spelled b h at (leb-true _ _ e)) (λ _. tt))
         (λ e. tt)
+    part-spelled digest at = by-test (PieceSpelled at) (leb (at + digestLength) (length b)) _ _ (λ e. split at digestLength b) (λ e. tt)
 
   prepend-spelled : (at mid : ℕ) (is : List (Item Text)) (g : Got) → drop at b ≡ written is ++ drop mid b → GotSpelled mid g → GotSpelled at (prepend is g)
   unfolding GotSpelled prepend

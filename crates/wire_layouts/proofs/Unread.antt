@@ -6,11 +6,11 @@ use mathlib.Core.Logic.{_⊎_, inl, inr}
 use lib.ListN.{length}
 use lib.Dec.{eqb, leb}
 use borrow.Author.Tests.{eqb-false}
-use Rattle.codes.specs.Codes.{mostPort}
+use Rattle.codes.specs.Codes.{mostPort, digestLength}
 use Rattle.xdr.specs.Xdr as xdr
 use Rattle.xdr.proofs.Tests.{by-test}
 use Rattle.xdr_opaque.specs.Opaque.{opaqueAt}
-use Rattle.wire_layouts.specs.Layout.{Part, word, hyper, text, port, Field, one, many, lists, tag, never, Item, Value, value, Piece, piece, short, pieceOf, partAt, Got, got, cut}
+use Rattle.wire_layouts.specs.Layout.{Part, word, hyper, text, port, digest, Field, one, many, lists, tag, never, Item, Value, value, Piece, piece, short, pieceOf, partAt, Got, got, cut}
 use Rattle.wire_layouts.specs.Layout.{partsAt, timesAt, FieldGot, fieldGot, stop, bad, single, counted, listAt, elementAt}
 use Rattle.wire_layouts.specs.Layout.{fieldAt, Read, whole, before, broken, andValue, andRead, readAs}
 use Rattle.wire_layouts.specs.Laws.{HasTag, Stops, UnreadRests}
@@ -100,6 +100,10 @@ module _ (b : List ℕ) where
       let P : Piece → Type 0 = λ r. OnAt (at + 4) (single r) in
       by-test P (leb (at + 4) (length b)) _ _ (λ _. by-test P (leb (xdr.word b at) mostPort) _ _ (λ _. refl) (λ _. tt)) (λ _. tt)
 
+  digest-on : (at : ℕ) → OnAt (at + digestLength) (fieldAt (one digest) b at)
+  unfolding fieldAt OnAt partAt single
+  digest-on at = by-test (λ (r : Piece). OnAt (at + digestLength) (single r)) (leb (at + digestLength) (length b)) _ _ (λ _. refl) (λ _. tt)
+
   -- ---- all fields
   any-unread : (fs : List Field) (at : ℕ) → Unread (HasTag fs) (readAs fs b at)
   unfolding readAs Unread fieldAt andRead
@@ -127,6 +131,8 @@ module _ (b : List ℕ) where
   read-unread (one hyper ∷ fs) at = on-at (Stops fs b (at + 8)) (at + 8) (fieldAt (one hyper) b at) (readAs fs b) (hyper-on at) (read-unread fs (at + 8))
   read-unread (one text ∷ fs) at = on-anywhere (HasTag fs) (fieldAt (one text) b at) (readAs fs b) (one-on text at) (any-unread fs)
   read-unread (one port ∷ fs) at = on-at (Stops fs b (at + 4)) (at + 4) (fieldAt (one port) b at) (readAs fs b) (port-on at) (read-unread fs (at + 4))
+  read-unread (one digest ∷ fs) at =
+      on-at (Stops fs b (at + digestLength)) (at + digestLength) (fieldAt (one digest) b at) (readAs fs b) (digest-on at) (read-unread fs (at + digestLength))
   read-unread (many most ps ∷ fs) at = any-unread (many most ps ∷ fs) at
   read-unread (lists most ps inner qs ∷ fs) at = any-unread (lists most ps inner qs ∷ fs) at
   read-unread (tag k ∷ fs) at = tag-unread (Stops fs b (at + 4)) k at (readAs fs b) (read-unread fs (at + 4))

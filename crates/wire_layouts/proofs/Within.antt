@@ -6,15 +6,16 @@ use mathlib.Core.List.{List, [], _∷_}
 use native.Mathlib.Omega.{arith}
 use lib.ListN.{length, getD, set, replicate, length-set}
 use lib.Dec.{eqb, leb}
+use borrow.Author.Tests.{leb-true}
 use Rattle.xdr.specs.Choose.{choose}
-use Rattle.codes.specs.Codes.{mostPort}
+use Rattle.codes.specs.Codes.{mostPort, digestLength}
 use Rattle.xdr.specs.Xdr as xdr
 use Rattle.xdr.proofs.Tests.{by-test}
 use Rattle.xdr_opaque.specs.Opaque.{opaqueAt}
 use Rattle.xdr_opaque.specs.declared.Opaque.{Opaque}
 use Rattle.xdr_opaque.specs.declared.Opaque.the-variants as Opaque
 use Rattle.xdr_opaque.proofs.Laws.{opaque-within}
-use Rattle.wire_layouts.specs.Layout.{Part, word, hyper, text, port, Field, one, many, lists, tag, never, Item, four, eight, bytes, Value, value, Piece, piece, short, pieceOf, partAt}
+use Rattle.wire_layouts.specs.Layout.{Part, word, hyper, text, port, digest, Field, one, many, lists, tag, never, Item, four, eight, bytes, fixed, Value, value, Piece, piece, short, pieceOf, partAt}
 use Rattle.wire_layouts.specs.Layout.{Got, got, cut, partsAt, timesAt, FieldGot, fieldGot, stop, bad, single, counted, listAt, elementAt, fieldAt, Read, whole, before, broken, andValue, andRead, readAs}
 use Rattle.wire_layouts.specs.Scans.{emptyScan, put, puts, summed, scanned}
 use Rattle.wire_layouts.specs.declared.Text.{Text}
@@ -44,6 +45,7 @@ module _ (b : List ℕ) where
   ItemIn (four v) = Unit
   ItemIn (eight v) = Unit
   ItemIn (bytes t) = t .start + t .len ≤ length b
+  ItemIn (fixed t) = t .start + t .len ≤ length b
 
   AllIn : List (Value Text) → Type 0
   AllIn [] = Unit
@@ -72,6 +74,8 @@ module _ (b : List ℕ) where
   put-in i (eight v) k h t = record { alike = t .alike; within = t .within }
   put-in i (bytes x) k h t =
       record { alike = simp length-set (t .alike); within = set-in (length b) (x .start) (x .len) h (k .starts) (k .lens) (t .alike) (t .within) i }
+  put-in i (fixed x) k h t =
+      record { alike = simp length-set (t .alike); within = set-in (length b) (x .start) (x .len) h (k .starts) (k .lens) (t .alike) (t .within) i }
 
   puts-in : (i : ℕ) (vs : List (Value Text)) (k : Scan) → AllIn vs → TextsIn k → TextsIn (puts i vs k)
   unfolding puts AllIn
@@ -89,6 +93,7 @@ module _ (b : List ℕ) where
   part-in hyper at = by-test PieceIn (leb (at + 8) (length b)) _ _ (λ e. tt) (λ e. tt)
   part-in text at = found-in at (opaqueAt b at) refl
   part-in port at = by-test PieceIn (leb (at + 4) (length b)) _ _ (λ e. by-test PieceIn (leb (xdr.word b at) mostPort) _ _ (λ k. tt) (λ k. tt)) (λ e. tt)
+  part-in digest at = by-test PieceIn (leb (at + digestLength) (length b)) _ _ (λ e. leb-true _ _ e) (λ e. tt)
 
   single-in : (r : Piece) → PieceIn r → GivenIn (single r)
   unfolding PieceIn GivenIn single
@@ -147,6 +152,7 @@ unfolding put
 put-ok i (four v) k = refl
 put-ok i (eight v) k = refl
 put-ok i (bytes t) k = refl
+put-ok i (fixed t) k = refl
 
 puts-ok : (i : ℕ) (vs : List (Value Text)) (k : Scan) → puts i vs k .ok ≡ k .ok
 unfolding puts

@@ -5,9 +5,9 @@ use mathlib.Core.Path.{_≡_}
 use mathlib.Core.List.{List, [], _∷_, _++_, map}
 use mathlib.Core.Logic.{_⊎_}
 use lib.ListN.{length, take, drop, getD}
-use Rattle.codes.specs.Codes.{mostPort}
+use Rattle.codes.specs.Codes.{mostPort, digestLength}
 use Rattle.xdr.specs.Xdr as xdr
-use Rattle.wire_layouts.specs.Layout.{Part, word, hyper, text, port, Field, one, many, lists, tag, never, Item, four, eight, bytes, Value, value, writeAs, whole, before, readAs}
+use Rattle.wire_layouts.specs.Layout.{Part, word, hyper, text, port, digest, Field, one, many, lists, tag, never, Item, four, eight, bytes, fixed, Value, value, writeAs, whole, before, readAs}
 use Rattle.wire_layouts.specs.declared.Text.{Text}
 
 -- each byte of a body is below 256
@@ -19,6 +19,7 @@ abbrev pub content : List ℕ → Item Text → Item (List ℕ)
 content b (four v) = four v
 content b (eight v) = eight v
 content b (bytes t) = bytes (take (t .len) (drop (t .start) b))
+content b (fixed t) = fixed (take (t .len) (drop (t .start) b))
 
 abbrev pub contents : List ℕ → Value Text → Value (List ℕ)
 contents b v = value (content b (v .first)) (map (content b) (v .others))
@@ -29,6 +30,7 @@ pub data PartFits : Part → Item (List ℕ) → Type 0 where
   is-hyper : {v : ℕ} → v < 2 ^ 64 → PartFits hyper (eight v)
   is-text : {s : List ℕ} → length s < 2 ^ 32 → PartFits text (bytes s)
   is-port : {v : ℕ} → v ≤ mostPort → PartFits port (four v)
+  is-digest : {s : List ℕ} → length s ≡ digestLength → PartFits digest (fixed s)
 
 pub data PartsFit : List Part → List (Item (List ℕ)) → Type 0 where
   no-part : PartsFit [] []
@@ -71,6 +73,7 @@ Stops (one word ∷ fs) b at = Stops fs b (at + 4)
 Stops (one hyper ∷ fs) b at = Stops fs b (at + 8)
 Stops (one text ∷ fs) b at = HasTag fs
 Stops (one port ∷ fs) b at = Stops fs b (at + 4)
+Stops (one digest ∷ fs) b at = Stops fs b (at + digestLength)
 Stops (many most ps ∷ fs) b at = HasTag fs
 Stops (lists most ps inner qs ∷ fs) b at = HasTag fs
 Stops (tag k ∷ fs) b at = (xdr.word b at ≡ k → ⊥) ⊎ Stops fs b (at + 4)

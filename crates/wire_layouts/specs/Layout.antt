@@ -3,7 +3,7 @@ use Prim.Native.Nat.{ℕ, zero, suc, _+_}
 use mathlib.Core.List.{List, [], _∷_, _++_, flatMap}
 use lib.ListN.{length}
 use lib.Dec.{eqb, leb}
-use Rattle.codes.specs.Codes.{mostPort}
+use Rattle.codes.specs.Codes.{mostPort, digestLength}
 use Rattle.xdr.specs.Choose.{choose}
 use Rattle.xdr.specs.Xdr as xdr
 use Rattle.xdr_opaque.specs.Opaque.{opaqueAt}
@@ -12,12 +12,14 @@ use Rattle.xdr_opaque.specs.declared.Opaque.{Opaque}
 use Rattle.xdr_opaque.specs.declared.Opaque.the-variants as Opaque
 use Rattle.wire_layouts.specs.declared.Text.{Text}
 
--- ---- what a layout is made of: a port is an unsigned short, which takes a whole word
+-- ---- what a layout is made of: a port is an unsigned short, which takes a whole word; a digest is 16 bytes with no length before them, which
+-- need no fill
 pub data Part : Type 0 where
   word : Part
   hyper : Part
   text : Part
   port : Part
+  digest : Part
 
 -- a part; a counted list of at most so many elements, each of the same parts; one whose elements have behind their parts a counted list of
 -- their own, of at most so many elements of other parts; a word behind which, where it is another than this, the rest is not read; and
@@ -29,11 +31,12 @@ pub data Field : Type 0 where
   tag : ℕ → Field
   never : Field
 
--- ---- what is read and written: T is the place of a text where it was read, and its bytes where it is written
+-- ---- what is read and written: T is the place of a text where it was read, and its bytes where it is written; fixed has no length before it
 pub data Item (T : Type 0) : Type 0 where
   four : ℕ → Item T
   eight : ℕ → Item T
   bytes : T → Item T
+  fixed : T → Item T
 
 -- a field: its first item (of a counted list the count), and the others, of lists in a list in the order of the body
 pub record Value (T : Type 0) : Type 0 where
@@ -48,6 +51,7 @@ abbrev pub itemBytes : Item (List ℕ) → List ℕ
 itemBytes (four v) = xdr.be32 v
 itemBytes (eight v) = xdr.be64 v
 itemBytes (bytes s) = opaque s
+itemBytes (fixed s) = s
 
 abbrev pub valueBytes : Value (List ℕ) → List ℕ
 valueBytes v = itemBytes (v .first) ++ flatMap itemBytes (v .others)
@@ -75,6 +79,7 @@ partAt port b at =
     choose (leb (at + 4) (length b))
     (choose (leb (xdr.word b at) mostPort) (piece (four (xdr.word b at)) (at + 4)) short)
     short
+partAt digest b at = choose (leb (at + digestLength) (length b)) (piece (fixed (place at digestLength)) (at + digestLength)) short
 
 pub data Got : Type 0 where
   got : List (Item Text) → ℕ → Got

@@ -4,10 +4,10 @@ use mathlib.Core.Bool.{Bool, true, false}
 use mathlib.Core.List.{List, [], _∷_, map}
 use lib.ListN.{set, replicate}
 use lib.Dec.{eqb}
-use Rattle.codes.specs.Codes.{mostListed, mostAddresses, localAddress, tcpAddress, textAuth}
+use Rattle.codes.specs.Codes.{mostListed, mostAddresses, localAddress, tcpAddress, textAuth, md5Auth}
 use Rattle.wire_layouts.specs.declared.After.{After}
 use Rattle.wire_layouts.specs.declared.After.the-variants as After
-use Rattle.wire_layouts.specs.Layout.{Part, word, hyper, text, port, Field, one, many, lists, tag, never, Item, four, eight, bytes, Value, place, Piece, piece, short, Got, got, cut}
+use Rattle.wire_layouts.specs.Layout.{Part, word, hyper, text, port, digest, Field, one, many, lists, tag, never, Item, four, eight, bytes, fixed, Value, place, Piece, piece, short, Got, got, cut}
 use Rattle.wire_layouts.specs.Layout.{FieldGot, fieldGot, stop, bad, elementAt, Read, whole, before, broken, readAs}
 use Rattle.wire_layouts.specs.declared.Text.{Text}
 use Rattle.wire_layouts.specs.declared.Scan.{Scan}
@@ -25,6 +25,7 @@ unfoldable pub put : ℕ → Item Text → Scan → Scan
 put i (four v) k = record { ok = k .ok; words = set (k .words) i v; hypers = k .hypers; starts = k .starts; lens = k .lens }
 put i (eight v) k = record { ok = k .ok; words = k .words; hypers = set (k .hypers) i v; starts = k .starts; lens = k .lens }
 put i (bytes t) k = record { ok = k .ok; words = k .words; hypers = k .hypers; starts = set (k .starts) i (t .start); lens = set (k .lens) i (t .len) }
+put i (fixed t) k = record { ok = k .ok; words = k .words; hypers = k .hypers; starts = set (k .starts) i (t .start); lens = set (k .lens) i (t .len) }
 
 unfoldable pub puts : ℕ → List (Value Text) → Scan → Scan
 puts i [] k = k
@@ -78,7 +79,9 @@ fieldOf c =
     (pick (eqb c 97) (tag localAddress)
     (pick (eqb c 117) (tag textAuth)
     (pick (eqb c 105) (tag tcpAddress)
-    (pick (eqb c 108) addresses never))))))))
+    (pick (eqb c 108) addresses
+    (pick (eqb c 109) (tag md5Auth)
+    (pick (eqb c 100) (one digest) never))))))))))
 
 -- the parts of an element, by their letters
 abbrev pub pickPart : Bool → Part → Part → Part
@@ -86,7 +89,7 @@ pickPart true p q = p
 pickPart false p q = q
 
 abbrev pub partOf : ℕ → Part
-partOf c = pickPart (eqb c 119) word (pickPart (eqb c 104) hyper (pickPart (eqb c 115) port text))
+partOf c = pickPart (eqb c 119) word (pickPart (eqb c 104) hyper (pickPart (eqb c 115) port (pickPart (eqb c 100) digest text)))
 
 -- passing over what was read: the offset after it
 unfoldable pub past : Piece → After
@@ -102,6 +105,7 @@ unfoldable pub fieldSeen : FieldGot → Seen
 fieldSeen (fieldGot (four v) is x) = Seen.Word v x
 fieldSeen (fieldGot (eight v) is x) = Seen.Hyper v x
 fieldSeen (fieldGot (bytes t) is x) = Seen.Place (t .start) (t .len) x
+fieldSeen (fieldGot (fixed t) is x) = Seen.Place (t .start) (t .len) x
 fieldSeen (stop v) = Seen.Stop v
 fieldSeen bad = Seen.Bad
 

@@ -10,7 +10,7 @@ use lib.ListN.{length, drop, getD, drop-of-length-le}
 use lib.Seq.{drop-cons}
 use lib.Dec.{eqb, leb}
 use borrow.Author.Tests.{le-leb, lt-leb, leb-true, leb-false, eq-eqb, ne-eqb}
-use Rattle.codes.specs.Codes.{mostPort}
+use Rattle.codes.specs.Codes.{mostPort, digestLength}
 use Rattle.xdr.specs.Choose.{choose}
 use Rattle.xdr.specs.Xdr as xdr
 use Rattle.xdr_opaque.specs.Opaque as o
@@ -20,7 +20,7 @@ use Rattle.xdr_opaque.specs.declared.Opaque.the-variants as Opaque
 use Rattle.wire_layouts.specs.declared.After.{After}
 use Rattle.wire_layouts.specs.declared.After.the-variants as After
 use Rattle.xdr_opaque.proofs.Laws.{word-within, word-missing}
-use Rattle.wire_layouts.specs.Layout.{Part, word, hyper, text, port, one, tag, never, Item, four, eight, bytes, Value, value, place, Piece, piece, short, pieceOf}
+use Rattle.wire_layouts.specs.Layout.{Part, word, hyper, text, port, digest, one, tag, never, Item, four, eight, bytes, fixed, Value, value, place, Piece, piece, short, pieceOf}
 use Rattle.wire_layouts.specs.Layout.{partAt, Got, got, cut, prepend, andPart, andGot, partsAt, timesAt, FieldGot, fieldGot, stop, bad, single, counted, listAt, itemsOf, elementAt, fieldAt, Read, whole}
 use Rattle.wire_layouts.specs.Layout.{before, broken, andValue, andRead, readAs}
 use Rattle.wire_layouts.specs.Scans.{fieldOf, partOf, past, forget, fieldSeen, afterSeen, emptyScan, put, puts, summed, scanned}
@@ -123,6 +123,14 @@ module _ (b : List ℕ) (at : ℕ) where
   unfolding fieldSeen fieldAt single partAt pieceOf
   misses-text e = rw (← e)
 
+  pub sees-digest : at + digestLength ≤ length b → Seen.Place at digestLength (at + digestLength) ≡ fieldSeen (fieldAt (one digest) b at)
+  unfolding fieldSeen fieldAt single partAt choose
+  sees-digest h = rw (le-leb (at + digestLength) (length b) h)
+
+  pub misses-digest : length b < at + digestLength → Seen.Bad ≡ fieldSeen (fieldAt (one digest) b at)
+  unfolding fieldSeen fieldAt single partAt choose
+  misses-digest h = rw (lt-leb (at + digestLength) (length b) h)
+
   pub sees-tag : (k v : ℕ) → Word.Value v ≡ o.wordAt b at → v ≡ k → Seen.Word v (at + 4) ≡ fieldSeen (fieldAt (tag k) b at)
   unfolding fieldSeen fieldAt choose
   sees-tag k v e h = let w = word-within b at v e in rw (le-leb (at + 4) (length b) (w .0), ← w .1, eq-eqb v k h)
@@ -154,6 +162,14 @@ module _ (b : List ℕ) (at : ℕ) where
     unfolding choose
     sees-list n x e h k = let w = word-within b at n e in rw (le-leb (at + 4) (length b) (w .0), ← w .1, le-leb n most h) (seen-counted n (timesAt element n (at + 4)) x k)
 
+after-single : (r : Piece) → afterSeen (fieldSeen (single r)) ≡ past r
+unfolding afterSeen fieldSeen single past
+after-single (piece (four v) x) = refl
+after-single (piece (eight v) x) = refl
+after-single (piece (bytes t) x) = refl
+after-single (piece (fixed t) x) = refl
+after-single short = refl
+
 -- a part that is passed over
 module _ (b : List ℕ) (at : ℕ) where
   pub passes-word : (v : ℕ) → Word.Value v ≡ o.wordAt b at → After.Next (at + 4) ≡ past (partAt word b at)
@@ -184,14 +200,19 @@ module _ (b : List ℕ) (at : ℕ) where
   unfolding past partAt choose
   no-port v e h = let w = word-within b at v e in rw (le-leb (at + 4) (length b) (w .0), ← w .1, lt-leb v mostPort h)
 
-  module _ (c : ℕ) (w : c ≡ 119 → ⊥) (h : c ≡ 104 → ⊥) (p : c ≡ 115 → ⊥) where
+  -- as a field of this one part
+  pub passes-single : (p : Part) → afterSeen (fieldSeen (fieldAt (one p) b at)) ≡ past (partAt p b at)
+  unfolding fieldAt
+  passes-single p = after-single (partAt p b at)
+
+  module _ (c : ℕ) (w : c ≡ 119 → ⊥) (h : c ≡ 104 → ⊥) (p : c ≡ 115 → ⊥) (d : c ≡ 100 → ⊥) where
     pub passes-text : (s n x : ℕ) → Opaque.At s n x ≡ o.opaqueAt b at → After.Next x ≡ past (partAt (partOf c) b at)
     unfolding past partAt pieceOf
-    passes-text s n x e = rw (ne-eqb c 119 w, ne-eqb c 104 h, ne-eqb c 115 p, ← e)
+    passes-text s n x e = rw (ne-eqb c 119 w, ne-eqb c 104 h, ne-eqb c 115 p, ne-eqb c 100 d, ← e)
 
     pub short-text : Opaque.Bad ≡ o.opaqueAt b at → After.Short ≡ past (partAt (partOf c) b at)
     unfolding past partAt pieceOf
-    short-text e = rw (ne-eqb c 119 w, ne-eqb c 104 h, ne-eqb c 115 p, ← e)
+    short-text e = rw (ne-eqb c 119 w, ne-eqb c 104 h, ne-eqb c 115 p, ne-eqb c 100 d, ← e)
 
 -- ---- an address
 after-items : (g : FieldGot) → afterSeen (fieldSeen g) ≡ forget (itemsOf g)
@@ -199,6 +220,7 @@ unfolding afterSeen fieldSeen forget itemsOf
 after-items (fieldGot (four v) is x) = refl
 after-items (fieldGot (eight v) is x) = refl
 after-items (fieldGot (bytes t) is x) = refl
+after-items (fieldGot (fixed t) is x) = refl
 after-items (stop v) = refl
 after-items bad = refl
 
@@ -214,9 +236,22 @@ module _ (ps : List Part) (inner : ℕ) (qs : List Part) (b : List ℕ) (at : �
 
 -- ---- a letter that no field has
 module _ (c : ℕ) (w : c ≡ 119 → ⊥) (h : c ≡ 104 → ⊥) (t : c ≡ 116 → ⊥) (p : c ≡ 112 → ⊥) (n : c ≡ 110 → ⊥) (a : c ≡ 97 → ⊥) (u : c ≡ 117 → ⊥)
-    (i : c ≡ 105 → ⊥) (l : c ≡ 108 → ⊥) where
+    (i : c ≡ 105 → ⊥) (l : c ≡ 108 → ⊥) (m : c ≡ 109 → ⊥) (d : c ≡ 100 → ⊥) where
   other-letter : never ≡ fieldOf c
-  other-letter = rw (ne-eqb c 119 w, ne-eqb c 104 h, ne-eqb c 116 t, ne-eqb c 112 p, ne-eqb c 110 n, ne-eqb c 97 a, ne-eqb c 117 u, ne-eqb c 105 i, ne-eqb c 108 l)
+  other-letter =
+      rw (
+        ne-eqb c 119 w,
+        ne-eqb c 104 h,
+        ne-eqb c 116 t,
+        ne-eqb c 112 p,
+        ne-eqb c 110 n,
+        ne-eqb c 97 a,
+        ne-eqb c 117 u,
+        ne-eqb c 105 i,
+        ne-eqb c 108 l,
+        ne-eqb c 109 m,
+        ne-eqb c 100 d,
+      )
 
   pub unknown : (b : List ℕ) (at : ℕ) → Seen.Bad ≡ fieldSeen (fieldAt (fieldOf c) b at)
   unfolding fieldSeen fieldAt
@@ -238,10 +273,11 @@ carried i k F (Seen.Stop v) = put i (four v) k
 carried i k F Seen.Bad = emptyScan false
 
 carries : (i : ℕ) (k : Scan) (F : ℕ → Read) (g : FieldGot) → summed i k (andRead g F) ≡ carried i k F (fieldSeen g)
-unfolding fieldSeen andRead carried summed puts
+unfolding fieldSeen andRead carried summed puts put
 carries i k F (fieldGot (four w) is y) = summed-first i k (value (four w) is) (F y)
 carries i k F (fieldGot (eight w) is y) = summed-first i k (value (eight w) is) (F y)
 carries i k F (fieldGot (bytes t) is y) = summed-first i k (value (bytes t) is) (F y)
+carries i k F (fieldGot (fixed t) is y) = summed-first i k (value (fixed t) is) (F y)
 carries i k F (stop w) = refl
 carries i k F bad = refl
 

@@ -4,7 +4,7 @@ ghost use mathlib.Core.List.{map};
 ghost use Prim.Native.Nat.{_≤_, _<_};
 ghost use lib.ListN.{length};
 ghost use mathlib.Core.Bool.{true, false};
-ghost use Rattle.wire_layouts.specs.Layout.{word, hyper, text, port, one, many, tag, partAt, partsAt, timesAt, fieldAt};
+ghost use Rattle.wire_layouts.specs.Layout.{word, hyper, text, port, digest, one, many, tag, partAt, partsAt, timesAt, fieldAt};
 ghost use Rattle.wire_layouts.specs.Scans.{emptyScan, scanned, fieldOf, partOf, addressAt, addresses, past, forget, fieldSeen, afterSeen};
 ghost use Rattle.wire_layouts.specs.AddressLists.{emptyAddresses, countSeen, addressesAt, isTcp, lendable};
 use wire_layouts::Addresses;
@@ -59,6 +59,23 @@ fn one_text(body: &[u8], at: usize) -> Seen
     Seen::Place { start, len, next }
 }
 
+// A digest has no length before it.
+fn one_digest(body: &[u8], at: usize) -> Seen
+    ensures { λ r. ⌜ r ≡ fieldSeen (fieldAt (one digest) (now (body .entry)) at) ⌝ }
+{
+    if body.len() < codes::DIGEST_LENGTH {
+        return Seen::Bad;
+    }
+    if body.len() - codes::DIGEST_LENGTH < at {
+        return Seen::Bad;
+    }
+    Seen::Place {
+        start: at,
+        len: codes::DIGEST_LENGTH,
+        next: at + codes::DIGEST_LENGTH,
+    }
+}
+
 // Passes over a port, which is a word.
 fn port_at(body: &[u8], at: usize) -> After
     ensures { λ r. ⌜ r ≡ past (partAt port (now (body .entry)) at) ⌝ }
@@ -70,6 +87,23 @@ fn port_at(body: &[u8], at: usize) -> After
         return After::Short;
     }
     After::Next(at + 4)
+}
+
+// The offset after a field.
+fn past_field(seen: Seen) -> After
+    ensures { λ r. ⌜ r ≡ afterSeen seen ⌝ }
+{
+    match seen {
+        Seen::Word(_, next) => After::Next(next),
+        Seen::Hyper(_, next) => After::Next(next),
+        Seen::Place {
+            start: _,
+            len: _,
+            next,
+        } => After::Next(next),
+        Seen::Stop(_) => After::Short,
+        Seen::Bad => After::Short,
+    }
 }
 
 // Passes over a part, by its letter.
@@ -93,6 +127,7 @@ fn part_at(letter: u8, body: &[u8], at: usize) -> After
             After::Next(at + 8)
         }
         b's' => port_at(body, at),
+        b'd' => past_field(one_digest(body, at)),
         _ => {
             let Opaque::At {
                 start: _,
@@ -153,23 +188,6 @@ fn many_at(most: u32, letters: &[u8], body: &[u8], at: usize) -> Seen
         return Seen::Bad;
     };
     Seen::Word(count, next)
-}
-
-// The offset after a field.
-fn past_field(seen: Seen) -> After
-    ensures { λ r. ⌜ r ≡ afterSeen seen ⌝ }
-{
-    match seen {
-        Seen::Word(_, next) => After::Next(next),
-        Seen::Hyper(_, next) => After::Next(next),
-        Seen::Place {
-            start: _,
-            len: _,
-            next,
-        } => After::Next(next),
-        Seen::Stop(_) => After::Short,
-        Seen::Bad => After::Short,
-    }
 }
 
 // Passes over an address: its host and its port, then the pairs of its environment.
@@ -240,6 +258,8 @@ fn field_at(letter: u8, body: &[u8], at: usize) -> Seen
         b'u' => tagged(body, at, codes::TEXT_AUTH),
         b'i' => tagged(body, at, codes::TCP_ADDRESS),
         b'l' => address_list(body, at),
+        b'm' => tagged(body, at, codes::MD5_AUTH),
+        b'd' => one_digest(body, at),
         _ => Seen::Bad,
     }
 }

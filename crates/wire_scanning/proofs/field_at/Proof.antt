@@ -7,6 +7,7 @@ use Rattle.wire_scanning.proofs.field_at.Reads as reads
 use Rattle.wire_scanning.proofs.field_at.Lts as lts
 use Rattle.wire_scanning.proofs.address_list.Reads as address-list-reads
 use Rattle.wire_scanning.proofs.many_at.Reads as many-at-reads
+use Rattle.wire_scanning.proofs.one_digest.Reads as one-digest-reads
 use Rattle.wire_scanning.proofs.one_hyper.Reads as one-hyper-reads
 use Rattle.wire_scanning.proofs.one_text.Reads as one-text-reads
 use Rattle.wire_scanning.proofs.one_word.Reads as one-word-reads
@@ -45,6 +46,12 @@ tagged-requires-3 c κs = search needs
 address-list-requires : tie.Need-address-list-requires
 address-list-requires c κs = search needs
 
+tagged-requires-4 : tie.Need-tagged-requires-4
+tagged-requires-4 c κs = search needs
+
+one-digest-requires : tie.Need-one-digest-requires
+one-digest-requires c κs = search needs
+
 returns : tie.Need-returns
 returns c = rw (c .before .match .keys1) (c .one-word .ensures)
 
@@ -73,10 +80,17 @@ returns-9 : tie.Need-returns-9
 returns-9 c = rw (c .before .match .keys9) (c .address-list .ensures)
 
 returns-10 : tie.Need-returns-10
-returns-10 c =
+returns-10 c = rw (c .before .match .keys10) (c .tagged4 .ensures)
+
+returns-11 : tie.Need-returns-11
+returns-11 c = rw (c .before .match .keys11) (c .one-digest .ensures)
+
+returns-12 : tie.Need-returns-12
+returns-12 c =
     let r = c .match .rest in
     let q = r .0 .0 .0 .0 in
-    unknown _ (q .0 .0 .0 .0 .1) (q .0 .0 .0 .1) (q .0 .0 .1) (q .0 .1) (q .1) (r .0 .0 .0 .1) (r .0 .0 .1) (r .0 .1) (r .1) _ _
+    let s = q .0 .0 .0 .0 in
+    unknown _ (s .0 .0 .1) (s .0 .1) (s .1) (q .0 .0 .0 .1) (q .0 .0 .1) (q .0 .1) (q .1) (r .0 .0 .0 .1) (r .0 .0 .1) (r .0 .1) (r .1) _ _
 
 pub field-at-spec : {M : Type 1} → statement M
 field-at-spec =
@@ -93,6 +107,8 @@ field-at-spec =
     tagged-requires-2
     tagged-requires-3
     address-list-requires
+    tagged-requires-4
+    one-digest-requires
     returns
     returns-2
     returns-3
@@ -102,4 +118,6 @@ field-at-spec =
     returns-7
     returns-8
     returns-9
-    returns-10)
+    returns-10
+    returns-11
+    returns-12)
