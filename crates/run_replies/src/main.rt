@@ -350,6 +350,30 @@ fn environments() {
     refuse(b"environment_refused", 54, 1054, 0x404, 554, 0, 19, 1);
 }
 
+// A challenge of 64 bytes, no two alike; a login by text is not shown it.
+fn auth_types() {
+    let challenge = b"ABCDEFGHIJKLMNOPQRSTUVWXYZabcdefghijklmnopqrstuvwxyz0123456789+/";
+    send(
+        b"auth_attr_text",
+        55,
+        1055,
+        0x103,
+        555,
+        Reply::TextAuth,
+        challenge,
+    );
+    send(
+        b"auth_attr_md5",
+        56,
+        1056,
+        0x103,
+        556,
+        Reply::Challenge,
+        challenge,
+    );
+    refuse(b"auth_attr_refused", 57, 1057, 0x103, 557, 0, 9, 1);
+}
+
 fn main() {
     plain();
     config();
@@ -365,4 +389,5 @@ fn main() {
     listens();
     states_by_tcp();
     environments();
+    auth_types();
 }

@@ -1,4 +1,5 @@
--- "What the vault handles", and 0x404 of 02 No. 3: the message numbers of NDMP version 4 (004, Appendix C) that are requests here, by interface.
+-- "What the vault handles", 0x404 of 02 No. 3 and 0x103 of 02 No. 2: the message numbers of NDMP version 4 (004,
+-- Appendix C) that are requests here, by interface.
 use Prim.Native.Nat.{ℕ}
 use mathlib.Core.Bool.{Bool}
 use mathlib.Core.List.{List, [], _∷_}
@@ -32,6 +33,7 @@ table =
     ∷ is 0x901 (Connect ConnectKind.Auth) 0 0
     ∷ is 0x902 (Connect ConnectKind.Close) 0 0
     ∷ is 0x102 (Config ConfigKind.ConnectionType) 0 1
+    ∷ is 0x103 (Config ConfigKind.AuthAttributes) 0 1
     ∷ is 0x108 (Config ConfigKind.ServerInfo) 0 4
     ∷ is 0x200 (Scsi ScsiKind.Open) 0 0
     ∷ is 0x201 (Scsi ScsiKind.Close) 0 0

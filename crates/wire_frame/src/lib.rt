@@ -11,6 +11,7 @@ pub enum ConnectKind {
 
 pub enum ConfigKind {
     ConnectionType,
+    AuthAttributes,
     ServerInfo,
 }
 
@@ -130,6 +131,7 @@ pub fn row_of(number: u32) -> Row
         0x901 => line(Message::Connect(ConnectKind::Auth), 0, 0),
         0x902 => line(Message::Connect(ConnectKind::Close), 0, 0),
         0x102 => line(Message::Config(ConfigKind::ConnectionType), 0, 1),
+        0x103 => line(Message::Config(ConfigKind::AuthAttributes), 0, 1),
         0x108 => line(Message::Config(ConfigKind::ServerInfo), 0, 4),
         0x200 => line(Message::Scsi(ScsiKind::Open), 0, 0),
         0x201 => line(Message::Scsi(ScsiKind::Close), 0, 0),

@@ -2,7 +2,7 @@
 use Prim.Native.Nat.{ℕ, _+_, _*_, _≤_}
 use mathlib.Core.Bool.{Bool, true, false}
 use mathlib.Core.Path.{_≡_, refl, ap}
-use mathlib.Core.List.{List, [], _∷_, _++_}
+use mathlib.Core.List.{List, [], _∷_, _++_, append-nil}
 use native.Mathlib.Omega.{arith}
 use lib.Dec.{eqb}
 use lib.ListN.{length, take, length-append, length-take, length-replicate}
@@ -19,21 +19,22 @@ use Rattle.wire_pairs.proofs.Sizes.{most-pairs, environment-size}
 use Rattle.wire_frame.specs.Messages.{look, rowOf}
 use Rattle.wire_frame.proofs.Laws.{length-record}
 use Rattle.wire_replies.specs.declared.Reply.{Reply}
-use Rattle.wire_replies.specs.declared.Reply.the-variants.{Header, Refused, Plain, Listening, ListeningTcp, ConnectionTypes, ServerInfo, ScsiState}
+use Rattle.wire_replies.specs.declared.Reply.the-variants.{Header, Refused, Plain, Listening, ListeningTcp, ConnectionTypes, TextAuth, Challenge, ServerInfo, ScsiState}
 use Rattle.wire_replies.specs.declared.Reply.the-variants.{Cdb, Sense, Check, TapeState, Mtio, Wrote, Read, DataState, Environment, MoverState}
 use Rattle.wire_replies.specs.declared.Notice.{Notice}
 use Rattle.wire_replies.specs.declared.Notice.the-variants.{DataHalted, Connected, MoverHalted, MoverPaused}
 use Rattle.wire_replies.specs.Replies.{Body, opaques, bodyBytes, wordsOnly, sense, serverTexts, addressWords, shapeOf, isShowing, replyBytes, noticeWords, noticeBytes}
 use Rattle.wire_replies.specs.Fit.{Sendable, AnswersFit, EnvironmentFits}
 use Rattle.wire_replies.specs.Refusals.{RefusalsAsLong}
-use Rattle.wire_replies.specs.Addresses.{AddressReplies}
+use Rattle.wire_replies.specs.Addresses.{AddressReplies, small}
+use Rattle.wire_replies.specs.AuthReplies.{AuthReplies}
 use Rattle.wire_replies.specs.EnvironmentReplies.{EnvironmentReplies}
 
 pub length-sense : (pending : Bool) → length (sense pending) ≡ 18
 unfolding sense
 length-sense pending = refl
 
--- ---- only a read, a listen by TCP and an environment show lent bytes
+-- ---- only a read, a listen by TCP, a challenge and an environment show lent bytes
 pub shows-nothing : (r : Reply) (l m : List ℕ) → isShowing r ≡ false → shapeOf r l ≡ shapeOf r m
 unfolding isShowing shapeOf
 shows-nothing (Header e) l m h = refl
@@ -42,6 +43,8 @@ shows-nothing Plain l m h = refl
 shows-nothing Listening l m h = refl
 shows-nothing ListeningTcp l m h = let z : _≡_ {A = ℕ} 0 1 = cc in absurd (omega arith)
 shows-nothing ConnectionTypes l m h = refl
+shows-nothing TextAuth l m h = refl
+shows-nothing Challenge l m h = let z : _≡_ {A = ℕ} 0 1 = cc in absurd (omega arith)
 shows-nothing (ServerInfo known) l m h = refl
 shows-nothing ScsiState l m h = refl
 shows-nothing Cdb l m h = refl
@@ -67,7 +70,7 @@ unfolding opaques
 few ws h = rw length-body (omega arith)
 
 -- words and lent bytes
-lent : (ws r : List ℕ) → length ws ≤ 2 → length r ≤ 16384
+lent : (ws r : List ℕ) → length ws ≤ 19 → length r ≤ 16384
     → length (bodyBytes (record { words = ws; raw = r; texts = []; tail = [] })) ≤ 32776
 unfolding opaques
 lent ws r h k = rw length-body (omega arith)
@@ -83,11 +86,11 @@ two-texts : (ws t u : List ℕ) → length ws ≤ 3 → length t ≤ 18 → leng
 unfolding opaques
 two-texts ws t u h j k = simp (length-body, length-append, length-opaque-filled) (omega arith)
 
-server-small : (known : Bool)
-    → length (bodyBytes (record { words = 0 ∷ []; raw = []; texts = serverTexts known; tail = 1 ∷ 1 ∷ [] })) ≤ 32776
+server-small : (known : Bool) (tail : List ℕ) → length tail ≤ 19
+    → length (bodyBytes (record { words = 0 ∷ []; raw = []; texts = serverTexts known; tail = tail })) ≤ 32776
 unfolding serverTexts opaques
-server-small true = simp (length-body, length-append, length-opaque-filled) (omega arith)
-server-small false = simp (length-body, length-append, length-opaque-filled) (omega arith)
+server-small true tail h = simp (length-body, length-append, length-opaque-filled) (omega arith)
+server-small false tail h = simp (length-body, length-append, length-opaque-filled) (omega arith)
 
 -- the texts of pairs are their bytes
 pub opaques-texts : (ps : List Pair) → opaques (textsOf ps) ≡ pairBytes ps
@@ -117,7 +120,9 @@ body-small Plain image s = few _ (omega arith)
 body-small Listening image s = few _ (omega arith)
 body-small ListeningTcp image s = lent _ image (omega arith) s
 body-small ConnectionTypes image s = few _ (omega arith)
-body-small (ServerInfo known) image s = server-small known
+body-small TextAuth image s = few _ (omega arith)
+body-small Challenge image s = lent _ image (omega arith) (omega (arith, s))
+body-small (ServerInfo known) image s = server-small known _ (omega arith)
 body-small ScsiState image s = few _ (omega arith)
 body-small Cdb image s = two-texts _ [] [] (omega arith) (omega arith) (omega arith)
 body-small (Sense n pending) image s = two-texts _ _ [] (omega arith) (simp length-take (omega (arith, s))) (omega arith)
@@ -178,6 +183,18 @@ addresses =
       tcp-data = refl;
       local-mover = refl;
       tcp-mover = refl;
+    }
+
+-- ---- what is told of auth types, byte for byte; a challenge is what was lent, with nothing behind it
+pub auth-types : AuthReplies
+unfolding shapeOf bodyBytes opaques opaque serverTexts be32s be32
+auth-types =
+    record {
+      challenge = λ c. ap (λ (r : List ℕ). small 0 ++ small 2 ++ r) (append-nil c);
+      text = λ c. refl;
+      refused = refl;
+      info = refl;
+      stranger = refl;
     }
 
 -- ---- what is given of stores, byte for byte

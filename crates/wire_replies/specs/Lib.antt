@@ -6,3 +6,4 @@ pub mod Refusals
 pub mod Numbers
 pub mod Addresses
 pub mod EnvironmentReplies
+pub mod AuthReplies

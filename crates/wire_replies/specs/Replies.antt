@@ -4,7 +4,7 @@ use mathlib.Core.Bool.{Bool, true, false}
 use mathlib.Core.List.{List, [], _∷_, _++_}
 use lib.ListN.{length, take, drop, replicate}
 use lib.Dec.{eqb}
-use Rattle.codes.specs.Codes.{localAddress, tcpAddress, versionFour}
+use Rattle.codes.specs.Codes.{localAddress, tcpAddress, textAuth, md5Auth, versionFour}
 use Rattle.xdr.specs.Choose.{choose}
 use Rattle.xdr.specs.Xdr.{be32s}
 use Rattle.xdr_opaque.specs.Put.{opaque}
@@ -14,7 +14,7 @@ use Rattle.wire_frame.specs.Frame.{recordBytes}
 use Rattle.wire_replies.specs.declared.DataView.{DataView}
 use Rattle.wire_replies.specs.declared.MoverView.{MoverView}
 use Rattle.wire_replies.specs.declared.Reply.{Reply}
-use Rattle.wire_replies.specs.declared.Reply.the-variants.{Header, Refused, Plain, Listening, ListeningTcp, ConnectionTypes, ServerInfo, ScsiState, Cdb, Sense, Check, TapeState, Mtio, Wrote, Read, DataState, Environment, MoverState}
+use Rattle.wire_replies.specs.declared.Reply.the-variants.{Header, Refused, Plain, Listening, ListeningTcp, ConnectionTypes, TextAuth, Challenge, ServerInfo, ScsiState, Cdb, Sense, Check, TapeState, Mtio, Wrote, Read, DataState, Environment, MoverState}
 use Rattle.wire_replies.specs.declared.Notice.{Notice}
 use Rattle.wire_replies.specs.declared.Notice.the-variants.{DataHalted, Connected, MoverHalted, MoverPaused}
 
@@ -58,8 +58,9 @@ serverTexts false = [] ∷ [] ∷ [] ∷ []
 unfoldable pub addressWords : ℕ → List ℕ
 addressWords address = choose (eqb address tcpAddress) (tcpAddress ∷ 0 ∷ []) (localAddress ∷ [])
 
--- The body of each reply, in 004's order. "other reply fields are zero or empty"; what is not kept is zero. What is shown
--- of lent bytes lies in `shown`: of a read in the image; of a listen by TCP it is the list, of an environment the store.
+-- The body of each reply, in 004's order. "other reply fields are zero or empty"; what is not kept is zero. What is
+-- shown of lent bytes lies in `shown`: of a read in the image; of a listen by TCP it is the list, of a challenge its
+-- bytes, of an environment the store.
 unfoldable pub shapeOf : Reply → List ℕ → Body
 shapeOf (Header e) shown = wordsOnly []
 shapeOf (Refused b e a) shown = wordsOnly (replicate b 0 ++ (e ∷ replicate a 0))
@@ -69,8 +70,12 @@ shapeOf Listening shown = wordsOnly (0 ∷ localAddress ∷ [])
 shapeOf ListeningTcp shown = record { words = 0 ∷ tcpAddress ∷ []; raw = shown; texts = []; tail = [] }
 -- "Connection types lists 0 and 1"
 shapeOf ConnectionTypes shown = wordsOnly (0 ∷ 2 ∷ localAddress ∷ tcpAddress ∷ [])
--- "its auth list is type 1"
-shapeOf (ServerInfo known) shown = record { words = 0 ∷ []; raw = []; texts = serverTexts known; tail = 1 ∷ 1 ∷ [] }
+-- ndmp_config_get_auth_attr_reply: error, and ndmp_auth_attr: the type, and behind MD5 the challenge, which has no
+-- length before it
+shapeOf TextAuth shown = wordsOnly (0 ∷ textAuth ∷ [])
+shapeOf Challenge shown = record { words = 0 ∷ md5Auth ∷ []; raw = shown; texts = []; tail = [] }
+-- "Server info lists 1 and 2"
+shapeOf (ServerInfo known) shown = record { words = 0 ∷ []; raw = []; texts = serverTexts known; tail = 2 ∷ textAuth ∷ md5Auth ∷ [] }
 shapeOf ScsiState shown = wordsOnly (0 ∷ 0 ∷ 0 ∷ 0 ∷ [])
 -- execute CDB: error, status, data-out length, data in, extended sense
 shapeOf Cdb shown = record { words = 0 ∷ 0 ∷ 0 ∷ []; raw = []; texts = [] ∷ [] ∷ []; tail = [] }
@@ -104,6 +109,8 @@ isShowing Plain = false
 isShowing Listening = false
 isShowing ListeningTcp = true
 isShowing ConnectionTypes = false
+isShowing TextAuth = false
+isShowing Challenge = true
 isShowing (ServerInfo known) = false
 isShowing ScsiState = false
 isShowing Cdb = false
@@ -125,6 +132,8 @@ numberOf Plain = 0
 numberOf Listening = 0
 numberOf ListeningTcp = 0
 numberOf ConnectionTypes = 0
+numberOf TextAuth = 0
+numberOf Challenge = 0
 numberOf (ServerInfo known) = 0
 numberOf ScsiState = 0
 numberOf Cdb = 0
@@ -146,6 +155,8 @@ headerError Plain = 0
 headerError Listening = 0
 headerError ListeningTcp = 0
 headerError ConnectionTypes = 0
+headerError TextAuth = 0
+headerError Challenge = 0
 headerError (ServerInfo known) = 0
 headerError ScsiState = 0
 headerError Cdb = 0

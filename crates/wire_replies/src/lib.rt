@@ -4,6 +4,7 @@ ghost use Rattle.wire_replies.specs.RoundTrip.{RepliesBack};
 ghost use Rattle.wire_replies.specs.Refusals.{RefusalsAsLong};
 ghost use Rattle.wire_replies.specs.Numbers.{NumbersTold};
 ghost use Rattle.wire_replies.specs.Addresses.{AddressReplies};
+ghost use Rattle.wire_replies.specs.AuthReplies.{AuthReplies};
 ghost use Rattle.wire_replies.specs.EnvironmentReplies.{EnvironmentReplies};
 
 // What get state tells of the data end.
@@ -36,10 +37,11 @@ pub struct MoverView {
 // A reply by its layout, with what it tells. Header is a refusal in the header with no body; Refused one in the body:
 // so many zero words, the number, so many zero words. The others accept: Mtio, Wrote and Read begin with the tape's
 // outcome (0, 12 or 13), the rest have the error 0; Plain is that error alone. ListeningTcp shows the list of
-// addresses that was lent. Cdb is an execute CDB that hands over nothing, Sense one that hands over the first bytes
-// of the sense (pending or not) as data in, Check one that ends with status 2 and the extended sense. TapeState is
-// the file and the block, Mtio the residue, Wrote the count, and Read where the bytes lie in the image. Environment
-// gives the pairs of the store that was lent.
+// addresses that was lent. TextAuth is the auth type of text, Challenge that of MD5 and the challenge that was lent.
+// Cdb is an execute CDB that hands over nothing, Sense one that hands over the first bytes of the sense (pending or
+// not) as data in, Check one that ends with status 2 and the extended sense. TapeState is the file and the block, Mtio
+// the residue, Wrote the count, and Read where the bytes lie in the image. Environment gives the pairs of the store
+// that was lent.
 pub enum Reply {
     Header(u32),
     Refused(u32, u32, u32),
@@ -47,6 +49,8 @@ pub enum Reply {
     Listening,
     ListeningTcp,
     ConnectionTypes,
+    TextAuth,
+    Challenge,
     ServerInfo(bool),
     ScsiState,
     Cdb,
@@ -93,6 +97,11 @@ pub fn numbers_told()
 // The same, of the replies that tell of addresses, byte for byte.
 pub fn address_replies()
     ensures { λ r. ⌜ AddressReplies ⌝ }
+{}
+
+// The same, of the replies that tell of auth types, byte for byte.
+pub fn auth_replies()
+    ensures { λ r. ⌜ AuthReplies ⌝ }
 {}
 
 // The same, of the reply that gives an environment, byte for byte.

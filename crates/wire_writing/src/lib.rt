@@ -4,7 +4,7 @@ ghost use mathlib.Core.Bool.{true};
 ghost use mathlib.Core.List.{[], _∷_};
 ghost use Prim.Native.Nat.{_+_, _*_, _≤_};
 ghost use lib.ListN.{length};
-ghost use Rattle.codes.specs.Codes.{largestMessage, senseBytes, mostLent, storeLength};
+ghost use Rattle.codes.specs.Codes.{largestMessage, senseBytes, mostLent, storeLength, textAuth, md5Auth};
 ghost use Rattle.xdr.specs.Xdr.{be32s, overlay};
 ghost use Rattle.xdr_opaque.specs.Put.{Put};
 ghost use Rattle.wire_pairs.specs.Store.{isLaid};
@@ -36,7 +36,7 @@ fn put_refused(out: &mut [u8], at: usize, before: u32, error: u32, after: u32) -
     xdr_opaque::put_zero_words(out, second, after as usize)
 }
 
-// Writes server info with these texts; the auth list is type 1.
+// Writes server info with these texts; the auth types are text and MD5.
 fn put_server_texts(
     out: &mut [u8],
     at: usize,
@@ -44,19 +44,19 @@ fn put_server_texts(
     product: &[u8],
     revision: &[u8],
 ) -> usize
-    requires { ⌜ (at + 60 ≤ length (now out)) × (length (now vendor) ≤ 5) × (length (now product) ≤ 5) × (length (now revision) ≤ 5) ⌝ }
-    ensures { λ r. ⌜ Put at (bodyBytes (record { words = 0 ∷ []; raw = []; texts = now (vendor .entry) ∷ now (product .entry) ∷ now (revision .entry) ∷ []; tail = 1 ∷ 1 ∷ [] })) (now (out .entry)) r (now (out .exit)) ⌝ }
+    requires { ⌜ (at + 64 ≤ length (now out)) × (length (now vendor) ≤ 5) × (length (now product) ≤ 5) × (length (now revision) ≤ 5) ⌝ }
+    ensures { λ r. ⌜ Put at (bodyBytes (record { words = 0 ∷ []; raw = []; texts = now (vendor .entry) ∷ now (product .entry) ∷ now (revision .entry) ∷ []; tail = 2 ∷ textAuth ∷ md5Auth ∷ [] })) (now (out .entry)) r (now (out .exit)) ⌝ }
 {
     let first = xdr_opaque::put_words(out, at, &[0]);
     let second = xdr_opaque::put_opaque(out, first, vendor);
     let third = xdr_opaque::put_opaque(out, second, product);
     let end = xdr_opaque::put_opaque(out, third, revision);
-    xdr_opaque::put_words(out, end, &[1, 1])
+    xdr_opaque::put_words(out, end, &[2, codes::TEXT_AUTH, codes::MD5_AUTH])
 }
 
 // Writes server info; its texts are empty before auth.
 fn put_server_info(out: &mut [u8], at: usize, known: bool) -> usize
-    requires { ⌜ at + 60 ≤ length (now out) ⌝ }
+    requires { ⌜ at + 64 ≤ length (now out) ⌝ }
     ensures { λ r. ⌜ Put at (bodyBytes (shapeOf (Reply.ServerInfo known) [])) (now (out .entry)) r (now (out .exit)) ⌝ }
 {
     if known {
@@ -115,14 +115,14 @@ fn put_read(out: &mut [u8], at: usize, outcome: u32, bytes: &[u8]) -> usize
     xdr_opaque::put_opaque(out, first, bytes)
 }
 
-// Writes the list that a listen by TCP was lent, behind its type.
-fn put_listening(out: &mut [u8], at: usize, list: &[u8]) -> usize
-    requires { ⌜ (at + length (now list) + 8 ≤ length (now out)) × (length (now list) ≤ mostLent) ⌝ }
-    ensures { λ r. ⌜ Put at (bodyBytes (shapeOf Reply.ListeningTcp (now (list .entry)))) (now (out .entry)) r (now (out .exit)) ⌝ }
+// Writes the bytes that a reply was lent, behind their type: the list of a listen by TCP, or a challenge.
+fn put_lent(out: &mut [u8], at: usize, kind: u32, bytes: &[u8]) -> usize
+    requires { ⌜ (at + length (now bytes) + 8 ≤ length (now out)) × (length (now bytes) ≤ mostLent) ⌝ }
+    ensures { λ r. ⌜ Put at (bodyBytes (record { words = 0 ∷ kind ∷ []; raw = now (bytes .entry); texts = []; tail = [] })) (now (out .entry)) r (now (out .exit)) ⌝ }
 {
-    let first = xdr_opaque::put_words(out, at, &[0, codes::TCP_ADDRESS]);
-    xdr::copy_blocks(out, first, list);
-    first + list.len()
+    let first = xdr_opaque::put_words(out, at, &[0, kind]);
+    xdr::copy_blocks(out, first, bytes);
+    first + bytes.len()
 }
 
 // Writes an address with nothing but its type: behind TCP an empty list.
@@ -194,7 +194,7 @@ fn put_mover_state(out: &mut [u8], at: usize, v: MoverView) -> usize
 }
 
 // Writes a reply's body at an offset; returns the offset after it. The bytes of a read lie in the image; in its place a
-// listen by TCP is lent its list, and an environment the store.
+// listen by TCP is lent its list, a challenge its bytes, and an environment the store.
 pub fn write_body(out: &mut [u8], at: usize, reply: Reply, image: &[u8]) -> usize
     requires { ⌜ (at + 32800 ≤ length (now out)) × Sendable reply (now image) ⌝ }
     ensures { λ r. ⌜ Put at (bodyBytes (shapeOf reply (now (image .entry)))) (now (out .entry)) r (now (out .exit)) ⌝ }
@@ -204,12 +204,14 @@ pub fn write_body(out: &mut [u8], at: usize, reply: Reply, image: &[u8]) -> usiz
         Reply::Refused(before, error, after) => put_refused(out, at, before, error, after),
         Reply::Plain => put_body(out, at, &[0]),
         Reply::Listening => put_body(out, at, &[0, codes::LOCAL_ADDRESS]),
-        Reply::ListeningTcp => put_listening(out, at, image),
+        Reply::ListeningTcp => put_lent(out, at, codes::TCP_ADDRESS, image),
         Reply::ConnectionTypes => put_body(
             out,
             at,
             &[0, 2, codes::LOCAL_ADDRESS, codes::TCP_ADDRESS],
         ),
+        Reply::TextAuth => put_body(out, at, &[0, codes::TEXT_AUTH]),
+        Reply::Challenge => put_lent(out, at, codes::MD5_AUTH, image),
         Reply::ServerInfo(known) => put_server_info(out, at, known),
         Reply::ScsiState => put_body(out, at, &[0, 0, 0, 0]),
         Reply::Cdb => put_cdb(out, at, 0, b"", b""),

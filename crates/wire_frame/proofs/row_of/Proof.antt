@@ -115,6 +115,9 @@ line-requires-34 c κs = search needs
 line-requires-35 : tie.Need-line-requires-35
 line-requires-35 c κs = search needs
 
+line-requires-36 : tie.Need-line-requires-36
+line-requires-36 c κs = search needs
+
 returns : tie.Need-returns
 unfolding rowOf look choose
 returns c = rw (c .line .ensures, c .before .match .keys1)
@@ -252,8 +255,12 @@ unfolding rowOf look choose
 returns-34 c = rw (c .line34 .ensures, c .before .match .keys34)
 
 returns-35 : tie.Need-returns-35
+unfolding rowOf look choose
+returns-35 c = rw (c .line35 .ensures, c .before .match .keys35)
+
+returns-36 : tie.Need-returns-36
 unfolding rowOf
-returns-35 c = c .line35 .ensures ∙ absent Unit table _ (c .before .match .rest)
+returns-36 c = c .line36 .ensures ∙ absent Unit table _ (c .before .match .rest)
 
 pub row-of-spec : {M : Type 1} → statement M
 row-of-spec =
@@ -294,6 +301,7 @@ row-of-spec =
     line-requires-33
     line-requires-34
     line-requires-35
+    line-requires-36
     returns
     returns-2
     returns-3
@@ -328,4 +336,5 @@ row-of-spec =
     returns-32
     returns-33
     returns-34
-    returns-35)
+    returns-35
+    returns-36)

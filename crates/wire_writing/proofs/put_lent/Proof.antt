@@ -3,13 +3,12 @@ use native.Mathlib.Omega.{arith}
 use mathlib.Core.Path.{refl}
 use Rattle.xdr.specs.Xdr.{be32, be32s}
 use Rattle.xdr_opaque.proofs.Laws.{put}
-use Rattle.wire_replies.specs.Replies.{shapeOf}
 use Rattle.wire_writing.proofs.Laws.{whole, no-texts, no-words}
 use borrow.Author.Needs.{needs}
-use Rattle.wire_writing.proofs.put_listening.Statement.{statement}
-use Rattle.wire_writing.proofs.put_listening.Tie as tie
-use Rattle.wire_writing.proofs.put_listening.Reads as reads
-use Rattle.wire_writing.proofs.put_listening.Lts as lts
+use Rattle.wire_writing.proofs.put_lent.Statement.{statement}
+use Rattle.wire_writing.proofs.put_lent.Tie as tie
+use Rattle.wire_writing.proofs.put_lent.Reads as reads
+use Rattle.wire_writing.proofs.put_lent.Lts as lts
 use Rattle.xdr.proofs.copy_blocks.Reads as copy-blocks-reads
 use Rattle.xdr_opaque.proofs.put_words.Reads as put-words-reads
 
@@ -31,13 +30,12 @@ same-length : tie.Need-same-length
 same-length c = search needs
 
 returns : tie.Need-returns
-unfolding shapeOf
 returns c =
     whole _ (c .before .before .before .before .before .before .put-words .ensures)
     (put _ (c .before .before .copy-blocks .ensures) refl) no-texts no-words
 
-pub put-listening-spec : {M : Type 1} → statement M
-put-listening-spec =
+pub put-lent-spec : {M : Type 1} → statement M
+put-lent-spec =
     tie.close
     (tie.spec
     slice-aggregate-put-words
