@@ -28,6 +28,10 @@ def auth_md5(name, digest):  # lines 13144 and 13138: NDMP_AUTH_MD5 2; a digest 
     return word(2) + opaque(name) + digest
 
 
+def auth_attr(kind):  # line 13228
+    return word(kind)
+
+
 def scsi_open(device):  # line 13377
     return opaque(device)
 
@@ -117,6 +121,7 @@ N = name(b'a', b'b', b'', b'', 1, 2)  # 40 bytes
 A = address(0xC0000201, 10000, [])  # 12 bytes: 192.0.2.1
 AP = address(0xC0000202, 10001, [P])  # 28 bytes
 W = bytes(i % 251 for i in range(36837))
+DIGEST = bytes(range(16))
 CLOSE = header(1, TIME, 0, 0x902, 0, 0)  # a request with no body
 
 # name, record, expected
@@ -127,6 +132,7 @@ HANDLED = [
      '2 CONNECT_CLIENT_AUTH id 8+5=61646d696e password 20+6=736563726574'),
     ('connect_close', request(3, 0x902), '3 CONNECT_CLOSE'),
     ('config_get_connection_type', request(4, 0x102), '4 CONFIG_GET_CONNECTION_TYPE'),
+    ('config_get_auth_attr', request(308, 0x103, auth_attr(2)), '308 CONFIG_GET_AUTH_ATTR type 2'),
     ('config_get_server_info', request(5, 0x108), '5 CONFIG_GET_SERVER_INFO'),
     ('scsi_open', request(6, 0x200, scsi_open(b'changer0')), '6 SCSI_OPEN device 4+8=6368616e67657230'),
     ('scsi_close', request(7, 0x201), '7 SCSI_CLOSE'),
@@ -216,7 +222,7 @@ UNKNOWN = [
 ]
 
 # "Bytes left over make error 18, except after an address type other than 0 or an auth type other than 1: there the rest is not read."
-# (paper 02, 14: "type 1 no longer leaves bytes unread", of address types)
+# (paper 02, 14: "type 1 no longer leaves bytes unread", of address types; and 2: "9 for a type other than 1 and 2, its rest unread")
 CONNECT = [
     ('open_65540', request(70, 0x900, connect_open(65540)), '70 CONNECT_OPEN version 65540'),
     ('open_all_ones', request(71, 0x900, connect_open(4294967295)), '71 CONNECT_OPEN version 4294967295'),
@@ -226,9 +232,10 @@ CONNECT = [
     ('open_8', request(75, 0x900, connect_open(4) + word(0)), '75 bad'),
     ('auth_none', request(76, 0x901, word(0)), '76 CONNECT_CLIENT_AUTH other'),
     ('auth_none_rubbish', request(77, 0x901, word(0) + b'\xff'), '77 CONNECT_CLIENT_AUTH other'),
-    ('auth_md5', request(78, 0x901, auth_md5(b'admin', bytes(range(16)))), '78 CONNECT_CLIENT_AUTH other'),
-    ('auth_md5_bare', request(79, 0x901, word(2)), '79 CONNECT_CLIENT_AUTH other'),
-    ('auth_md5_rubbish', request(80, 0x901, word(2) + b'\xff\xff\xff\xff\xff'), '80 CONNECT_CLIENT_AUTH other'),
+    ('auth_md5', request(78, 0x901, auth_md5(b'admin', DIGEST)),
+     '78 CONNECT_CLIENT_AUTH id 8+5=61646d696e digest 16+16=000102030405060708090a0b0c0d0e0f'),
+    ('auth_md5_bare', request(79, 0x901, word(2)), '79 bad'),
+    ('auth_md5_rubbish', request(80, 0x901, word(2) + b'\xff\xff\xff\xff\xff'), '80 bad'),
     ('auth_type_all_ones', request(81, 0x901, word(4294967295)), '81 CONNECT_CLIENT_AUTH other'),
     ('auth_empty', request(82, 0x901), '82 bad'),
     ('auth_type_cut', request(83, 0x901, word(2)[:3]), '83 bad'),
@@ -414,7 +421,7 @@ FILL = [
     ('fill_recover_name_third', request(246, 0x402, recover_of(word(0, 0), opaque(b'abc', b'\1'), word(0))), '246 bad'),
     ('fill_recover_name_fourth', request(247, 0x402, recover_of(word(0, 0, 0), opaque(b'abcde', b'\0\0\1'))), '247 bad'),
     ('fill_recover_method', request(248, 0x402, listed([]) + listed([]) + opaque(b'dum', b'\1')), '248 bad'),
-    ('fill_behind_auth_type_unread', request(249, 0x901, word(2) + opaque(b'admin', b'\0\0\1')), '249 CONNECT_CLIENT_AUTH other'),
+    ('fill_behind_auth_type_unread', request(249, 0x901, word(3) + opaque(b'admin', b'\0\0\1')), '249 CONNECT_CLIENT_AUTH other'),
     ('fill_behind_address_type_unread', request(250, 0x409, data_listen(3) + opaque(b'a', b'\0\0\1')), '250 DATA_LISTEN address 3'),
 ]
 
@@ -500,7 +507,43 @@ ENVIRONMENT = [
      '307 DATA_START_RECOVER method 2572+4=64756d70 pairs 4+0'),
 ]
 
-SAMPLES = HANDLED + FRAMES + UNKNOWN + CONNECT + BARE + SCSI + TAPE + DATA + MOVER + FILL + TCP + ENVIRONMENT
+# paper 02, 2: a login by MD5, whose digest is an opaque[16] with no length before it, and the auth type that 0x103 asks about
+AUTH = [
+    ('auth_md5_no_id', request(309, 0x901, auth_md5(b'', DIGEST)), '309 CONNECT_CLIENT_AUTH id 8+0= digest 8+16=000102030405060708090a0b0c0d0e0f'),
+    ('auth_md5_length_word', request(310, 0x901, word(2) + opaque(b'admin') + opaque(DIGEST)), '310 bad'),
+    ('auth_md5_15', request(311, 0x901, auth_md5(b'admin', DIGEST[:15])), '311 bad'),
+    ('auth_md5_17', request(312, 0x901, auth_md5(b'admin', DIGEST + b'\0')), '312 bad'),
+    ('auth_md5_no_digest', request(313, 0x901, auth_md5(b'admin', b'')), '313 bad'),
+    ('auth_md5_left_over', request(314, 0x901, auth_md5(b'admin', DIGEST) + word(0)), '314 bad'),
+    ('auth_md5_id_cut', request(315, 0x901, word(2) + word(20) + DIGEST), '315 bad'),
+    ('auth_md5_fill', request(316, 0x901, word(2) + opaque(b'admin', b'\0\1\0') + DIGEST), '316 bad'),
+    # a password of 12 bytes behind its length is 16 bytes, and one of 6 is fewer
+    ('auth_md5_password_12', request(317, 0x901, word(2) + opaque(b'admin') + opaque(b'secretsecret')),
+     '317 CONNECT_CLIENT_AUTH id 8+5=61646d696e digest 16+16=0000000c736563726574736563726574'),
+    ('auth_md5_password_6', request(318, 0x901, word(2) + opaque(b'admin') + opaque(b'secret')), '318 bad'),
+    ('auth_text_digest', request(319, 0x901, word(1) + opaque(b'admin') + DIGEST), '319 bad'),
+    ('auth_3_md5_body', request(320, 0x901, word(3) + opaque(b'admin') + DIGEST), '320 CONNECT_CLIENT_AUTH other'),
+    ('auth_3_rubbish', request(321, 0x901, word(3) + b'\xff\xfe\xfd'), '321 CONNECT_CLIENT_AUTH other'),
+    ('auth_258', request(322, 0x901, word(258)), '322 CONNECT_CLIENT_AUTH other'),
+    ('auth_attr_none', request(323, 0x103, auth_attr(0)), '323 CONFIG_GET_AUTH_ATTR type 0'),
+    ('auth_attr_text', request(324, 0x103, auth_attr(1)), '324 CONFIG_GET_AUTH_ATTR type 1'),
+    ('auth_attr_7_rubbish', request(325, 0x103, auth_attr(7) + b'\xff\xfe\xfd'), '325 CONFIG_GET_AUTH_ATTR type 7'),
+    ('auth_attr_none_word', request(326, 0x103, auth_attr(0) + word(2)), '326 CONFIG_GET_AUTH_ATTR type 0'),
+    ('auth_attr_258', request(327, 0x103, auth_attr(258)), '327 CONFIG_GET_AUTH_ATTR type 258'),
+    ('auth_attr_all_ones', request(328, 0x103, auth_attr(4294967295)), '328 CONFIG_GET_AUTH_ATTR type 4294967295'),
+    ('auth_attr_text_left_over_1', request(329, 0x103, auth_attr(1) + b'\0'), '329 bad'),
+    ('auth_attr_text_left_over_4', request(330, 0x103, auth_attr(1) + word(0)), '330 bad'),
+    ('auth_attr_md5_left_over_1', request(331, 0x103, auth_attr(2) + b'\0'), '331 bad'),
+    ('auth_attr_md5_left_over_4', request(332, 0x103, auth_attr(2) + word(0)), '332 bad'),
+    ('auth_attr_empty', request(333, 0x103), '333 bad'),
+    ('auth_attr_cut', request(334, 0x103, auth_attr(2)[:3]), '334 bad'),
+    # the bodies that ndmjob, a client that others wrote, sent to log in
+    ('auth_attr_client', request(335, 0x103, bytes.fromhex('00000002')), '335 CONFIG_GET_AUTH_ATTR type 2'),
+    ('auth_md5_client', request(336, 0x901, bytes.fromhex('00000002 00000004 6e646d70 5da7ac7324b97caf774d6ea4927f57d0')),
+     '336 CONNECT_CLIENT_AUTH id 8+4=6e646d70 digest 12+16=5da7ac7324b97caf774d6ea4927f57d0'),
+]
+
+SAMPLES = HANDLED + FRAMES + UNKNOWN + CONNECT + BARE + SCSI + TAPE + DATA + MOVER + FILL + TCP + ENVIRONMENT + AUTH
 
 
 def vector(own, data, expected):

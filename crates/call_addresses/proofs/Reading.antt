@@ -24,7 +24,7 @@ use Rattle.wire_frame.specs.declared.Message.{Message}
 use Rattle.wire_frame.specs.declared.Message.the-variants as Message
 use Rattle.wire_frame.specs.declared.Framed.{Framed}
 use Rattle.wire_frame.specs.declared.Row.{Row}
-use Rattle.wire_layouts.specs.Layout.{word, Field, one, Item, four, eight, bytes, value, partAt, Got, got, cut, FieldGot, fieldGot, stop, bad}
+use Rattle.wire_layouts.specs.Layout.{word, Field, one, Item, four, eight, bytes, fixed, value, partAt, Got, got, cut, FieldGot, fieldGot, stop, bad}
 use Rattle.wire_layouts.specs.Layout.{single, counted, fieldAt, Read, whole, before, broken, andValue, andRead, readAs}
 use Rattle.wire_layouts.specs.Scans.{addresses, emptyScan, put, puts, summed, scanned}
 use Rattle.wire_layouts.specs.AddressLists.{emptyAddresses, addressesAt, isTcp}
@@ -116,6 +116,7 @@ own-row (Message.Connect ConnectKind.Open) k = tt
 own-row (Message.Connect ConnectKind.Auth) k = tt
 own-row (Message.Connect ConnectKind.Close) k = tt
 own-row (Message.Config ConfigKind.ConnectionType) k = tt
+own-row (Message.Config ConfigKind.AuthAttributes) k = tt
 own-row (Message.Config ConfigKind.ServerInfo) k = tt
 own-row (Message.Scsi ScsiKind.Open) k = tt
 own-row (Message.Scsi ScsiKind.Close) k = tt
@@ -180,6 +181,7 @@ module _ (b : List ℕ) (at : ℕ) where
   Listed (fieldGot (four n) items x) = Unit
   Listed (fieldGot (eight n) items x) = ⊥
   Listed (fieldGot (bytes t) items x) = ⊥
+  Listed (fieldGot (fixed t) items x) = ⊥
   Listed (stop v) = ⊥
   Listed bad = Unit
 
@@ -206,6 +208,7 @@ module _ (b : List ℕ) (at : ℕ) where
   list-read (fieldGot (four n) items x) e l = list-end n x items e
   list-read (fieldGot (eight n) items x) e l = absurd l
   list-read (fieldGot (bytes t) items x) e l = absurd l
+  list-read (fieldGot (fixed t) items x) e l = absurd l
   list-read (stop v) e l = absurd l
   list-read bad e l = no-tcp
 

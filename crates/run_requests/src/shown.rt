@@ -25,6 +25,10 @@ pub fn connect(r: ConnectRequest, body: &[u8]) {
             put_text(b" CONNECT_CLIENT_AUTH id ", body, id);
             put_text(b" password ", body, password);
         }
+        ConnectRequest::Md5Auth(id, digest) => {
+            put_text(b" CONNECT_CLIENT_AUTH id ", body, id);
+            put_text(b" digest ", body, digest);
+        }
         ConnectRequest::OtherAuth => put(b" CONNECT_CLIENT_AUTH other"),
         ConnectRequest::Close => put(b" CONNECT_CLOSE"),
     }
@@ -33,6 +37,7 @@ pub fn connect(r: ConnectRequest, body: &[u8]) {
 pub fn config(r: ConfigRequest) {
     match r {
         ConfigRequest::ConnectionType => put(b" CONFIG_GET_CONNECTION_TYPE"),
+        ConfigRequest::AuthAttributes(kind) => put_word(b" CONFIG_GET_AUTH_ATTR type ", kind),
         ConfigRequest::ServerInfo => put(b" CONFIG_GET_SERVER_INFO"),
     }
 }

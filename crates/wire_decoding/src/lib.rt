@@ -40,6 +40,7 @@ pub fn decode_config(k: ConfigKind, body: &[u8]) -> Request
 {
     match k {
         ConfigKind::ConnectionType => bare(body, Request::Config(ConfigRequest::ConnectionType)),
+        ConfigKind::AuthAttributes => messages::auth_attributes(body),
         ConfigKind::ServerInfo => bare(body, Request::Config(ConfigRequest::ServerInfo)),
     }
 }

@@ -1,16 +1,18 @@
 // A decoder for each message with arguments, by the letters of its layout: w is a word, h a hyper, t a text, p the pairs of an
-// environment, n the names of a recover, a an address of type LOCAL, i one of type TCP, l the list of its addresses, u an auth.
+// environment, n the names of a recover, a an address of type LOCAL, i one of type TCP, l the list of its addresses, u an auth by text,
+// m one by MD5, d its digest.
 ghost use mathlib.Core.Path.{_≡_};
 ghost use mathlib.Core.List.{map};
 ghost use Prim.Native.Nat.{_≤_};
 ghost use lib.Dec.{eqb};
 ghost use lib.ListN.{length};
-ghost use Rattle.codes.specs.Codes.{textAuth};
+ghost use Rattle.codes.specs.Codes.{textAuth, md5Auth};
 ghost use Rattle.xdr.specs.Choose.{choose};
 ghost use Rattle.wire_requests.specs.declared.ConnectRequest.the-variants as ConnectRequest;
 ghost use Rattle.wire_layouts.specs.Scans.{scanned, fieldOf};
-ghost use Rattle.wire_requests.specs.Bodies.{connectBody, scsiBody, tapeBody, dataBody, moverBody, jointBody};
+ghost use Rattle.wire_requests.specs.Bodies.{isMd5, connectBody, configBody, scsiBody, tapeBody, dataBody, moverBody, jointBody};
 ghost use Rattle.wire_frame.specs.declared.ConnectKind.the-variants as ConnectKind;
+ghost use Rattle.wire_frame.specs.declared.ConfigKind.the-variants as ConfigKind;
 ghost use Rattle.wire_frame.specs.declared.ScsiKind.the-variants as ScsiKind;
 ghost use Rattle.wire_frame.specs.declared.TapeKind.the-variants as TapeKind;
 ghost use Rattle.wire_frame.specs.declared.DataKind.the-variants as DataKind;
@@ -21,6 +23,7 @@ use super::fields::pairs_behind;
 use super::fields::text_of;
 use wire_layouts::Scan;
 use wire_layouts::Text;
+use wire_requests::ConfigRequest;
 use wire_requests::ConnectRequest;
 use wire_requests::DataRequest;
 use wire_requests::JointRequest;
@@ -31,6 +34,8 @@ use wire_requests::ScsiRequest;
 use wire_requests::TapeRequest;
 use wire_scanning::is_tcp;
 use wire_scanning::scan_body;
+use xdr_opaque::Word;
+use xdr_opaque::word_at;
 
 pub fn connect_open(body: &[u8]) -> Request
     ensures { λ r. ⌜ r ≡ connectBody ConnectKind.Open (now (body .entry)) ⌝ }
@@ -39,23 +44,58 @@ pub fn connect_open(body: &[u8]) -> Request
     judged(k.ok, Request::Connect(ConnectRequest::Open(k.words[0])))
 }
 
-// An auth by text has an id and a password; of another type the rest is not read.
-fn auth(kind: u32, id: Text, password: Text) -> ConnectRequest
-    ensures { λ r. ⌜ r ≡ choose (eqb kind textAuth) (ConnectRequest.Auth id password) ConnectRequest.OtherAuth ⌝ }
+// Scans a body by the type that it has: by the one layout where that is the layout's own, and else by the other.
+fn scan_by_type(own: &[u8], other: &[u8], same: bool, body: &[u8]) -> Scan
+    requires { ⌜ (length (now own) ≤ 5) × (length (now other) ≤ 5) ⌝ }
+    ensures { λ r. ⌜ r ≡ scanned (map fieldOf (choose same (now (own .entry)) (now (other .entry)))) (now (body .entry)) ⌝ }
 {
-    if kind != codes::TEXT_AUTH {
-        return ConnectRequest::OtherAuth;
+    if same {
+        return scan_body(own, body);
     }
-    ConnectRequest::Auth(id, password)
+    scan_body(other, body)
+}
+
+// Whether the auth type that a body begins with is MD5.
+fn is_md5(body: &[u8]) -> bool
+    ensures { λ r. ⌜ r ≡ isMd5 (now (body .entry)) ⌝ }
+{
+    let Word::Value(kind) = word_at(body, 0) else {
+        return false;
+    };
+    kind == codes::MD5_AUTH
+}
+
+// An auth by text has an id and a password, one by MD5 an id and a digest; of another type the rest is not read.
+fn auth(kind: u32, id: Text, secret: Text) -> ConnectRequest
+    ensures { λ r. ⌜ r ≡ choose (eqb kind textAuth) (ConnectRequest.Auth id secret)
+        (choose (eqb kind md5Auth) (ConnectRequest.Md5Auth id secret) ConnectRequest.OtherAuth) ⌝ }
+{
+    if kind == codes::TEXT_AUTH {
+        return ConnectRequest::Auth(id, secret);
+    }
+    if kind == codes::MD5_AUTH {
+        return ConnectRequest::Md5Auth(id, secret);
+    }
+    ConnectRequest::OtherAuth
 }
 
 pub fn client_auth(body: &[u8]) -> Request
     ensures { λ r. ⌜ r ≡ connectBody ConnectKind.Auth (now (body .entry)) ⌝ }
 {
-    let k = scan_body(b"utt", body);
+    let k = scan_by_type(b"mtd", b"utt", is_md5(body), body);
     judged(
         k.ok,
         Request::Connect(auth(k.words[0], text_of(k, 1), text_of(k, 2))),
+    )
+}
+
+pub fn auth_attributes(body: &[u8]) -> Request
+    ensures { λ r. ⌜ r ≡ configBody ConfigKind.AuthAttributes (now (body .entry)) ⌝ }
+{
+    let k = scan_by_type(b"m", b"u", is_md5(body), body);
+    judged(
+        k.ok,
+        Request::Config(ConfigRequest::AuthAttributes(k.words[0])),
     )
 }
 
@@ -134,28 +174,17 @@ pub fn start_recover(body: &[u8]) -> Request
     )
 }
 
-// Scans a body with an address: by the one layout where its type is TCP, and else by the other.
-fn scan_address(far: &[u8], near: &[u8], tcp: bool, body: &[u8]) -> Scan
-    requires { ⌜ (length (now far) ≤ 5) × (length (now near) ≤ 5) ⌝ }
-    ensures { λ r. ⌜ r ≡ scanned (map fieldOf (choose tcp (now (far .entry)) (now (near .entry)))) (now (body .entry)) ⌝ }
-{
-    if tcp {
-        return scan_body(far, body);
-    }
-    scan_body(near, body)
-}
-
 pub fn data_listen(body: &[u8]) -> Request
     ensures { λ r. ⌜ r ≡ dataBody DataKind.Listen (now (body .entry)) ⌝ }
 {
-    let k = scan_address(b"i", b"a", is_tcp(body, 0), body);
+    let k = scan_by_type(b"i", b"a", is_tcp(body, 0), body);
     judged(k.ok, Request::Data(DataRequest::Listen(k.words[0])))
 }
 
 pub fn mover_listen(body: &[u8]) -> Request
     ensures { λ r. ⌜ r ≡ moverBody MoverKind.Listen (now (body .entry)) ⌝ }
 {
-    let k = scan_address(b"wi", b"wa", is_tcp(body, 4), body);
+    let k = scan_by_type(b"wi", b"wa", is_tcp(body, 4), body);
     judged(
         k.ok,
         Request::Mover(MoverRequest::Listen(k.words[0], k.words[1])),
@@ -192,7 +221,7 @@ pub fn set_record_size(body: &[u8]) -> Request
 pub fn data_connect(body: &[u8]) -> Request
     ensures { λ r. ⌜ r ≡ jointBody JointKind.DataConnect (now (body .entry)) ⌝ }
 {
-    let k = scan_address(b"il", b"a", is_tcp(body, 0), body);
+    let k = scan_by_type(b"il", b"a", is_tcp(body, 0), body);
     judged(
         k.ok,
         Request::Joint(JointRequest::DataConnect(k.words[0], k.words[1])),
@@ -202,7 +231,7 @@ pub fn data_connect(body: &[u8]) -> Request
 pub fn mover_connect(body: &[u8]) -> Request
     ensures { λ r. ⌜ r ≡ jointBody JointKind.MoverConnect (now (body .entry)) ⌝ }
 {
-    let k = scan_address(b"wil", b"wa", is_tcp(body, 4), body);
+    let k = scan_by_type(b"wil", b"wa", is_tcp(body, 4), body);
     judged(
         k.ok,
         Request::Joint(JointRequest::MoverConnect(k.words[0], k.words[1], k.words[2])),

@@ -10,8 +10,8 @@ use Rattle.codes.specs.Codes.{mostListed, mostAddresses}
 use Rattle.xdr.specs.Xdr.{be32, be64}
 use Rattle.xdr_opaque.specs.Put.{opaque, Each}
 use Rattle.wire_pairs.specs.Pairs.{Pair}
-use Rattle.wire_layouts.specs.Layout.{Part, word, hyper, text, Field, one, many, tag, Item, four, eight, bytes, Value, value, itemBytes, valueBytes, writeAs}
-use Rattle.wire_layouts.specs.Laws.{content, contents, PartFits, is-word, is-hyper, is-text, is-port, PartsFit, no-part, part-on, TimesFit, no-time, time-on, FieldFits, is-one}
+use Rattle.wire_layouts.specs.Layout.{Part, word, hyper, text, digest, Field, one, many, tag, Item, four, eight, bytes, fixed, Value, value, itemBytes, valueBytes, writeAs}
+use Rattle.wire_layouts.specs.Laws.{content, contents, PartFits, is-word, is-hyper, is-text, is-port, is-digest, PartsFit, no-part, part-on, TimesFit, no-time, time-on, FieldFits, is-one}
 use Rattle.wire_layouts.specs.Laws.{ElementFits, is-element, is-many, is-lists, is-list, is-tag, FieldsFit, no-field, field-on}
 use Rattle.wire_layouts.specs.Scans.{emptyScan, put, puts, pairParts, pairs, nameParts, names, addressParts, addresses}
 use Rattle.wire_layouts.specs.declared.Scan.{Scan}
@@ -19,7 +19,7 @@ use Rattle.wire_layouts.specs.declared.Text.{Text}
 use Rattle.wire_layouts.proofs.Back.{bytes-append}
 use Rattle.wire_requests.specs.Within.{bytesAt}
 use Rattle.wire_requests.specs.Sent.{pvalBytes, PvalFits, Name, nameBytes, NameFits, TcpAddr, tcpAddrBytes, TcpAddrFits}
-use Rattle.wire_requests.specs.Sent.{Arg, ulong, uquad, octets, pvals, nameList, tcpAddrs, union, argBytes, ArgFits}
+use Rattle.wire_requests.specs.Sent.{Arg, ulong, uquad, octets, sixteen, pvals, nameList, tcpAddrs, union, argBytes, ArgFits}
 
 -- ---- the field of a layout that an argument is, and its value there
 abbrev pvalItems : Pair → List (Item (List ℕ))
@@ -35,6 +35,7 @@ abbrev pub fieldFor : Arg → Field
 fieldFor (ulong v) = one word
 fieldFor (uquad v) = one hyper
 fieldFor (octets s) = one text
+fieldFor (sixteen s) = one digest
 fieldFor (pvals ps) = pairs
 fieldFor (nameList ns) = names
 fieldFor (tcpAddrs addrs) = addresses
@@ -44,6 +45,7 @@ abbrev pub valueFor : Arg → Value (List ℕ)
 valueFor (ulong v) = value (four v) []
 valueFor (uquad v) = value (eight v) []
 valueFor (octets s) = value (bytes s) []
+valueFor (sixteen s) = value (fixed s) []
 valueFor (pvals ps) = value (four (length ps)) (flatMap pvalItems ps)
 valueFor (nameList ns) = value (four (length ns)) (flatMap nameItems ns)
 valueFor (tcpAddrs addrs) = value (four (length addrs)) (flatMap addrItems addrs)
@@ -83,6 +85,7 @@ arg-fits : (a : Arg) → ArgFits a → FieldFits (fieldFor a) (valueFor a)
 arg-fits (ulong v) h = is-one (is-word h)
 arg-fits (uquad v) h = is-one (is-hyper h)
 arg-fits (octets s) h = is-one (is-text h)
+arg-fits (sixteen s) h = is-one (is-digest h)
 arg-fits (pvals ps) h = is-many (is-list few (h .0) (pvals-fit ps (h .1)))
 arg-fits (nameList ns) h = is-many (is-list few (h .0) (names-fit ns (h .1)))
 arg-fits (tcpAddrs addrs) h = is-lists (is-list not-many (h .0) (addrs-fit addrs (h .1)))
@@ -117,6 +120,7 @@ unfolding flatMap
 arg-written (ulong v) = append-nil (be32 v)
 arg-written (uquad v) = append-nil (be64 v)
 arg-written (octets s) = append-nil (opaque s)
+arg-written (sixteen s) = append-nil s
 arg-written (pvals ps) = ap (λ (r : List ℕ). be32 (length ps) ++ r) (pvals-written ps)
 arg-written (nameList ns) = ap (λ (r : List ℕ). be32 (length ns) ++ r) (names-written ns)
 arg-written (tcpAddrs addrs) = ap (λ (r : List ℕ). be32 (length addrs) ++ r) (addrs-written addrs)
@@ -132,6 +136,7 @@ abbrev AnyItem : List ℕ → Item (List ℕ) → (Item Text → Type 0) → Typ
 AnyItem b (four v) P = P (four v)
 AnyItem b (eight v) P = P (eight v)
 AnyItem b (bytes s) P = (t : Text) → bytesAt b t ≡ s → P (bytes t)
+AnyItem b (fixed s) P = (t : Text) → bytesAt b t ≡ s → P (fixed t)
 
 abbrev pub AnyPlaces : List ℕ → List (Value (List ℕ)) → ℕ → Scan → (Scan → Type 0) → Type 0
 AnyPlaces b [] i k P = P k
@@ -141,6 +146,7 @@ of-item : (b : List ℕ) (j : Item Text) (P : Item Text → Type 0) → AnyItem 
 of-item b (four v) P h = h
 of-item b (eight v) P h = h
 of-item b (bytes t) P h = h t refl
+of-item b (fixed t) P h = h t refl
 
 pub of-places : (b : List ℕ) (ws : List (Value Text)) (i : ℕ) (k : Scan) (P : Scan → Type 0) → AnyPlaces b (map (contents b) ws) i k P → P (puts i ws k)
 unfolding puts

@@ -4,6 +4,7 @@ use mathlib.Core.Path.{_≡_}
 use mathlib.Core.List.{List}
 use lib.Dec.{eqb}
 use lib.ListN.{length, getD}
+use Rattle.codes.specs.Codes.{textAuth, md5Auth}
 use Rattle.xdr.specs.Choose.{choose}
 use Rattle.xdr.proofs.Tests.{by-test}
 use Rattle.wire_layouts.specs.Scans.{scanned}
@@ -18,8 +19,9 @@ use Rattle.wire_frame.specs.declared.MoverKind.the-variants as MoverKind
 use Rattle.wire_frame.specs.declared.JointKind.the-variants as JointKind
 use Rattle.wire_frame.specs.declared.Message.{Message}
 use Rattle.wire_frame.specs.declared.Message.the-variants as Message
-use Rattle.wire_requests.specs.Bodies.{layoutOf, requestOf, readBy, connectBody, configBody, scsiBody, tapeBody, dataBody, moverBody, jointBody, decoded}
+use Rattle.wire_requests.specs.Bodies.{wordOf, layoutOf, requestOf, readBy, connectBody, configBody, scsiBody, tapeBody, dataBody, moverBody, jointBody, decoded}
 use Rattle.wire_requests.specs.Within.{textsWithin, Decoded}
+use Rattle.wire_requests.specs.declared.ConnectRequest.{ConnectRequest}
 use Rattle.wire_requests.specs.declared.Request.{Request}
 use Rattle.wire_requests.specs.declared.Request.the-variants.{Connect, Bad}
 
@@ -27,9 +29,12 @@ use Rattle.wire_requests.specs.declared.Request.the-variants.{Connect, B
 of-kept : (b : List ℕ) (m : Message) (k : Scan) → ((i : ℕ) → getD (k .starts) i 0 + getD (k .lens) i 0 ≤ length b) → textsWithin b (requestOf m k)
 unfolding textsWithin
 of-kept b (Message.Connect ConnectKind.Open) k h = tt
-of-kept b (Message.Connect ConnectKind.Auth) k h = by-test (λ q. textsWithin b (Connect q)) (eqb (getD (k .words) 0 0) 1) _ _ (λ e. (h _, h _)) (λ e. tt)
+of-kept b (Message.Connect ConnectKind.Auth) k h =
+    let P : ConnectRequest → Type 0 = λ q. textsWithin b (Connect q) in
+    by-test P (eqb (wordOf k 0) textAuth) _ _ (λ e. (h _, h _)) (λ e. by-test P (eqb (wordOf k 0) md5Auth) _ _ (λ g. (h _, h _)) (λ g. tt))
 of-kept b (Message.Connect ConnectKind.Close) k h = tt
 of-kept b (Message.Config ConfigKind.ConnectionType) k h = tt
+of-kept b (Message.Config ConfigKind.AuthAttributes) k h = tt
 of-kept b (Message.Config ConfigKind.ServerInfo) k h = tt
 of-kept b (Message.Scsi ScsiKind.Open) k h = h _
 of-kept b (Message.Scsi ScsiKind.Close) k h = tt

@@ -2,9 +2,10 @@
 use mathlib.Core.Path.{_≡_}
 use mathlib.Core.List.{List, _++_, map}
 use Prim.Native.Nat.{ℕ, _^_, _<_}
-use Rattle.codes.specs.Codes.{localAddress, tcpAddress, textAuth}
+use Rattle.codes.specs.Codes.{localAddress, tcpAddress, textAuth, md5Auth}
 use Rattle.xdr.specs.Xdr.{be32, word}
 use Rattle.wire_frame.specs.declared.ConnectKind.the-variants as ConnectKind
+use Rattle.wire_frame.specs.declared.ConfigKind.the-variants as ConfigKind
 use Rattle.wire_frame.specs.declared.DataKind.the-variants as DataKind
 use Rattle.wire_frame.specs.declared.MoverKind.the-variants as MoverKind
 use Rattle.wire_frame.specs.declared.JointKind.the-variants as JointKind
@@ -16,10 +17,11 @@ use Rattle.wire_layouts.specs.declared.Text.{Text}
 use Rattle.wire_requests.specs.Bodies.{layoutOf, decoded}
 use Rattle.wire_requests.specs.Sent.{Sent, sentBytes, SentFits, Means}
 use Rattle.wire_requests.specs.declared.ConnectRequest.the-variants as ConnectRequest
+use Rattle.wire_requests.specs.declared.ConfigRequest.the-variants as ConfigRequest
 use Rattle.wire_requests.specs.declared.DataRequest.the-variants as DataRequest
 use Rattle.wire_requests.specs.declared.MoverRequest.the-variants as MoverRequest
 use Rattle.wire_requests.specs.declared.JointRequest.the-variants as JointRequest
-use Rattle.wire_requests.specs.declared.Request.the-variants.{Connect, Data, Mover, Joint, Bad}
+use Rattle.wire_requests.specs.declared.Request.the-variants.{Connect, Config, Data, Mover, Joint, Bad}
 
 abbrev pub Known : Message → Type 0
 Known (Message.Connect k) = Unit
@@ -39,13 +41,19 @@ OtherThan k v = (v < 2 ^ 32) × (v ≡ k → ⊥)
 abbrev pub OtherType : ℕ → Type 0
 OtherType v = OtherThan localAddress v × (v ≡ tcpAddress → ⊥)
 
--- every message has its requests; each body decodes to the request that it says; and after an auth type other than 1 or an address type other than
--- 0 and 1 the rest is not read, whatever it is ("type 1 no longer leaves bytes unread")
+-- a word that is another auth type than text and MD5
+abbrev pub OtherAuthType : ℕ → Type 0
+OtherAuthType v = OtherThan textAuth v × (v ≡ md5Auth → ⊥)
+
+-- every message has its requests; each body decodes to the request that it says; and after an auth type other than 1 and 2 or an address type other
+-- than 0 and 1 the rest is not read, whatever it is ("type 1 no longer leaves bytes unread"; "a type other than 1 and 2, its rest unread")
 pub record RequestsBack : Type 0 where
   pub every : (m : Message) → Known m → Sent m
   pub sent : {m : Message} (s : Sent m) → SentFits s → Means s (sentBytes s) (decoded m (sentBytes s))
-  pub other-auth : (v : ℕ) (rest : List ℕ) → OtherThan textAuth v
+  pub other-auth : (v : ℕ) (rest : List ℕ) → OtherAuthType v
       → decoded (Message.Connect ConnectKind.Auth) (be32 v ++ rest) ≡ Connect ConnectRequest.OtherAuth
+  pub other-attributes : (v : ℕ) (rest : List ℕ) → OtherAuthType v
+      → decoded (Message.Config ConfigKind.AuthAttributes) (be32 v ++ rest) ≡ Config (ConfigRequest.AuthAttributes v)
   pub other-data-listen : (v : ℕ) (rest : List ℕ) → OtherType v
       → decoded (Message.Data DataKind.Listen) (be32 v ++ rest) ≡ Data (DataRequest.Listen v)
   pub other-mover-listen : (mode v : ℕ) (rest : List ℕ) → mode < 2 ^ 32 → OtherType v
@@ -59,13 +67,19 @@ pub record RequestsBack : Type 0 where
 abbrev pub NoType : ℕ → Type 0
 NoType v = (v ≡ localAddress → ⊥) × (v ≡ tcpAddress → ⊥)
 
--- "address and auth types whose rest is unread stay apart": the bodies of an auth other than text and of an address other than LOCAL and TCP, by
--- the word of that type
+-- a word of the body that is no auth type whose fields are read
+abbrev pub NoAuth : ℕ → Type 0
+NoAuth v = (v ≡ textAuth → ⊥) × (v ≡ md5Auth → ⊥)
+
+-- "address and auth types whose rest is unread stay apart": the bodies of an auth other than text and MD5 and of an address other than LOCAL and TCP,
+-- by the word of that type
 abbrev pub Apart : Message → List ℕ → Type 0
 Apart (Message.Connect ConnectKind.Open) b = ⊥
-Apart (Message.Connect ConnectKind.Auth) b = word b 0 ≡ textAuth → ⊥
+Apart (Message.Connect ConnectKind.Auth) b = NoAuth (word b 0)
 Apart (Message.Connect ConnectKind.Close) b = ⊥
-Apart (Message.Config k) b = ⊥
+Apart (Message.Config ConfigKind.ConnectionType) b = ⊥
+Apart (Message.Config ConfigKind.AuthAttributes) b = NoAuth (word b 0)
+Apart (Message.Config ConfigKind.ServerInfo) b = ⊥
 Apart (Message.Scsi k) b = ⊥
 Apart (Message.Tape k) b = ⊥
 Apart (Message.Data DataKind.State) b = ⊥

@@ -17,6 +17,7 @@ use Rattle.wire_requests.specs.declared.Request.the-variants.{Connect, C
 abbrev pub textsOf : Request → List Text
 textsOf (Connect (ConnectRequest.Open version)) = []
 textsOf (Connect (ConnectRequest.Auth id password)) = id ∷ password ∷ []
+textsOf (Connect (ConnectRequest.Md5Auth id digest)) = id ∷ digest ∷ []
 textsOf (Connect ConnectRequest.OtherAuth) = []
 textsOf (Connect ConnectRequest.Close) = []
 textsOf (Config r) = []

@@ -4,15 +4,19 @@ ghost use Rattle.wire_requests.specs.RoundTrip.{RequestsBack, RequestsOn
 ghost use Rattle.wire_requests.specs.Rows.{RowsHold};
 use wire_layouts::Text;
 
+// A login by text holds the id and the password, one by MD5 the id and the digest.
 pub enum ConnectRequest {
     Open(u32),
     Auth(Text, Text),
+    Md5Auth(Text, Text),
     OtherAuth,
     Close,
 }
 
+// The auth attributes are asked of an auth type.
 pub enum ConfigRequest {
     ConnectionType,
+    AuthAttributes(u32),
     ServerInfo,
 }
 

@@ -1,4 +1,4 @@
--- The scan of the body by the letters of its layout, and the row of the request.
+-- Each auth type is its case of the choice.
 use mathlib.Core.Path.{refl}
 use Rattle.xdr.proofs.Tests.{pick-if, pick-else, eqb-yes, eqb-no}
 use Rattle.wire_decoding.proofs.messages.auth.Statement.{statement}
@@ -7,10 +7,13 @@ use Rattle.wire_decoding.proofs.messages.auth.Reads as reads
 use Rattle.wire_decoding.proofs.messages.auth.Lts as lts
 
 returns : tie.Need-returns
-returns c = pick-else _ (eqb-no (c .if1 .taken)) refl
+returns c = pick-if _ (eqb-yes (c .if1 .taken)) refl
 
 returns-2 : tie.Need-returns-2
-returns-2 c = pick-if _ (eqb-yes (c .if1 .left)) refl
+returns-2 c = pick-else _ (eqb-no (c .before .if1 .left)) (pick-if _ (eqb-yes (c .if2 .taken)) refl)
+
+returns-3 : tie.Need-returns-3
+returns-3 c = pick-else _ (eqb-no (c .before .if1 .left)) (pick-else _ (eqb-no (c .if2 .left)) refl)
 
 pub auth-spec : {M : Type 1} → statement M
-auth-spec = tie.close (tie.spec returns returns-2)
+auth-spec = tie.close (tie.spec returns returns-2 returns-3)

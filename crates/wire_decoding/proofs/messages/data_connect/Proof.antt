@@ -11,19 +11,19 @@ use Rattle.wire_decoding.proofs.messages.data_connect.Reads as reads
 use Rattle.wire_decoding.proofs.messages.data_connect.Lts as lts
 use Rattle.wire_scanning.proofs.is_tcp.Reads as is-tcp-reads
 use Rattle.wire_decoding.proofs.fields.judged.Reads as judged-reads
-use Rattle.wire_decoding.proofs.messages.scan_address.Reads as scan-address-reads
+use Rattle.wire_decoding.proofs.messages.scan_by_type.Reads as scan-by-type-reads
 
-slice-aggregate-scan-address : tie.Need-slice-aggregate-scan-address
-slice-aggregate-scan-address c = search needs
+slice-aggregate-scan-by-type : tie.Need-slice-aggregate-scan-by-type
+slice-aggregate-scan-by-type c = search needs
 
-slice-aggregate-scan-address-2 : tie.Need-slice-aggregate-scan-address-2
-slice-aggregate-scan-address-2 c = search needs
+slice-aggregate-scan-by-type-2 : tie.Need-slice-aggregate-scan-by-type-2
+slice-aggregate-scan-by-type-2 c = search needs
 
 is-tcp-requires : tie.Need-is-tcp-requires
 is-tcp-requires c κs = search needs
 
-scan-address-requires : tie.Need-scan-address-requires
-scan-address-requires c κs = search needs
+scan-by-type-requires : tie.Need-scan-by-type-requires
+scan-by-type-requires c κs = search needs
 
 element-copy-out-t13 : tie.Need-element-copy-out-t13
 element-copy-out-t13 c = search needs
@@ -38,17 +38,17 @@ returns : tie.Need-returns
 unfolding jointBody
 returns c =
     let k = c .before .before .before in
-    let e = by-type connectFields _ _ refl refl _ (k .before .is-tcp .ensures) (k .scan-address .ensures) in
+    let e = by-type connectFields _ _ refl refl _ (k .before .is-tcp .ensures) (k .scan-by-type .ensures) in
     of-scan (requestOf (Message.Joint JointKind.DataConnect)) e (c .judged .ensures)
 
 pub data-connect-spec : {M : Type 1} → statement M
 data-connect-spec =
     tie.close
     (tie.spec
-    slice-aggregate-scan-address
-    slice-aggregate-scan-address-2
+    slice-aggregate-scan-by-type
+    slice-aggregate-scan-by-type-2
     is-tcp-requires
-    scan-address-requires
+    scan-by-type-requires
     element-copy-out-t13
     element-copy-out-t16
     judged-requires
