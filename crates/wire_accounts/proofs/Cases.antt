@@ -8,7 +8,8 @@ use Rattle.md5.specs.Md5.{auxiliaryOf, rotated, leWord}
 use Rattle.md5.specs.Login.{loginString, loginDigest}
 use Rattle.wire_accounts.specs.Accounts.{isKind, withPassword, withId, accountAt, withAccount, andThen, accountsFrom, accountsIn}
 use Rattle.wire_accounts.specs.Accounts.{entriesOf, textMatches, isDigestible, isDigest, md5Matches, anyOf}
-use Rattle.wire_accounts.specs.Cases.{LaidCases, BrokenCases, TextLogins, Md5Logins, AccountCases, ndmp, givenChallenge, sentDigest}
+use Rattle.wire_accounts.specs.Cases.{LaidCases, BrokenCases, TextLogins, Md5Logins, AccountCases}
+use Rattle.wire_accounts.specs.Cases.{ndmp, givenChallenge, sentDigest, shortest, shortestDigest, longest, longestDigest}
 
 laid : LaidCases
 unfolding choose word allZero opaqueAt isKind withPassword withId accountAt withAccount andThen accountsFrom accountsIn
@@ -60,6 +61,14 @@ ndmp-digest : loginDigest ndmp givenChallenge ≡ sentDigest
 unfolding loginString loginDigest choose indexOf shiftOf md5 le32 md5Registers processed padding compressed operations stepped auxiliaryOf rotated leWord
 ndmp-digest = refl
 
+shortest-digest : loginDigest shortest givenChallenge ≡ shortestDigest
+unfolding loginString loginDigest choose indexOf shiftOf md5 le32 md5Registers processed padding compressed operations stepped auxiliaryOf rotated leWord
+shortest-digest = refl
+
+longest-digest : loginDigest longest givenChallenge ≡ longestDigest
+unfolding loginString loginDigest choose indexOf shiftOf md5 le32 md5Registers processed padding compressed operations stepped auxiliaryOf rotated leWord
+longest-digest = refl
+
 by-md5 : Md5Logins
 unfolding choose word allZero opaqueAt isKind withPassword withId accountAt withAccount andThen accountsFrom accountsIn entriesOf sameBytes isDigestible isDigest md5Matches anyOf
 by-md5 =
@@ -70,6 +79,9 @@ by-md5 =
       second-of-two = rw ndmp-digest;
       other-kind = refl;
       password = rw ndmp-digest;
+      one-byte = rw shortest-digest;
+      all-bytes = rw longest-digest;
+      byte-more = refl;
       empty = λ c d. refl;
       long = λ c d. refl;
     }

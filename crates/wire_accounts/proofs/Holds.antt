@@ -7,13 +7,14 @@ use native.Mathlib.Omega.{arith}
 use lib.Dec.{eqb, leb}
 use lib.ListN.{length}
 use borrow.Author.Tests.{leb-true, le-leb, eqb-true, eq-eqb}
-use Rattle.codes.specs.Codes.{textAuth}
+use Rattle.codes.specs.Codes.{textAuth, md5Auth, longestPassword}
 use Rattle.xdr.specs.Choose.{choose}
 use Rattle.xdr.specs.Xdr.{sameBytes}
 use Rattle.xdr.proofs.Comparing.{same-is, is-same}
 use Rattle.md5.specs.Login.{loginDigest}
-use Rattle.wire_accounts.specs.Accounts.{AccountEntry, broken, accountsIn, entriesOf, entriesIn, md5Auth, longestPassword}
+use Rattle.wire_accounts.specs.Accounts.{AccountEntry, broken, accountsIn, entriesOf, entriesIn}
 use Rattle.wire_accounts.specs.Accounts.{textMatches, isDigestible, isDigest, md5Matches, anyOf}
+use Rattle.wire_accounts.proofs.Written.{back}
 use Rattle.wire_accounts.specs.Holds.{Among, here, later, ByText, ByMd5, AccountsHold}
 
 both : (a b : Bool) → choose a b false ≡ true → (a ≡ true) × (b ≡ true)
@@ -100,5 +101,6 @@ accounts-hold =
       text-enters = λ id password e. text-enters id e password;
       md5 = λ id challenge digest e. md5 id e challenge digest;
       md5-enters = λ id challenge digest e. md5-enters id e challenge digest;
+      back = back;
       shut = shut;
     }

@@ -7,6 +7,7 @@ use native.Mathlib.Omega.{arith}
 use lib.Dec.{eqb, leb}
 use lib.ListN.{length, take, drop, length-take, length-drop}
 use borrow.Author.Tests.{le-leb, lt-leb, leb-true, eq-eqb, ne-eqb}
+use Rattle.codes.specs.Codes.{mostAccounts, longestPassword}
 use Rattle.xdr.specs.Choose.{choose}
 use Rattle.xdr.specs.Xdr.{word, sameBytes}
 use Rattle.xdr_opaque.specs.Opaque.{opaqueAt}
@@ -14,7 +15,7 @@ use Rattle.xdr_opaque.specs.declared.Opaque.the-variants.{At, Bad}
 use Rattle.xdr_opaque.proofs.Laws.{opaque-read, opaque-within}
 use Rattle.md5.specs.Login.{loginDigest}
 use Rattle.wire_accounts.specs.Accounts.{AccountEntry, Accounts, none, these, broken}
-use Rattle.wire_accounts.specs.Accounts.{mostAccounts, longestPassword, areLaid, entriesOf, entriesIn}
+use Rattle.wire_accounts.specs.Accounts.{areLaid, entriesOf, entriesIn}
 use Rattle.wire_accounts.specs.Accounts.{isKind, withPassword, withId, accountAt, withAccount, andThen, accountsFrom}
 use Rattle.wire_accounts.specs.Accounts.{accountsIn, isDigestible, isDigest, anyOf}
 use Rattle.wire_accounts.specs.Place.{bytesOf, entryOf, placed, noAccount, StretchIn, AccountAt}

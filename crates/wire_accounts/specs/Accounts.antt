@@ -6,24 +6,13 @@ use mathlib.Core.Bool.{Bool, true, false}
 use mathlib.Core.List.{List, [], _∷_}
 use lib.Dec.{eqb, leb}
 use lib.ListN.{length, take, drop}
-use Rattle.codes.specs.Codes.{textAuth}
+use Rattle.codes.specs.Codes.{textAuth, md5Auth, mostAccounts, longestPassword}
 use Rattle.xdr.specs.Choose.{choose}
 use Rattle.xdr.specs.Xdr.{word, sameBytes}
 use Rattle.xdr_opaque.specs.Opaque.{opaqueAt}
 use Rattle.xdr_opaque.specs.declared.Opaque.{Opaque}
 use Rattle.xdr_opaque.specs.declared.Opaque.the-variants.{At, Bad}
 use Rattle.md5.specs.Login.{loginDigest}
-
--- NDMP_AUTH_MD5
-abbrev pub md5Auth : ℕ
-md5Auth = 2
-
-abbrev pub mostAccounts : ℕ
-mostAccounts = 8
-
--- "an MD5 password above 32 bytes never does"
-abbrev pub longestPassword : ℕ
-longestPassword = 32
 
 pub record AccountEntry : Type 0 where
   pub kind : ℕ
@@ -73,7 +62,7 @@ accountsIn b =
     (choose (leb (word b 0) mostAccounts) (accountsFrom b (word b 0) 4) broken)
     broken
 
--- "one that is not laid out so has no entries": nobody gets in
+-- one that is not laid out so has no entries: nobody gets in
 unfoldable pub entriesOf : Accounts → List AccountEntry
 entriesOf (these es) = es
 entriesOf broken = []

@@ -125,6 +125,19 @@ sentDigest = 0x5d ∷ 0xa7 ∷ 0xac ∷ 0x73 ∷ 0x24 ∷ 0xb9 ∷ 0x7c ∷ 0xaf
 abbrev pub otherDigest : List ℕ
 otherDigest = 0x5d ∷ 0xa7 ∷ 0xac ∷ 0x73 ∷ 0x24 ∷ 0xb9 ∷ 0x7c ∷ 0xaf ∷ 0x77 ∷ 0x4d ∷ 0x6e ∷ 0xa4 ∷ 0x92 ∷ 0x7f ∷ 0x57 ∷ 0xd1 ∷ []
 
+-- the shortest password and the longest, with that challenge: `a`, and 32 times `a`
+abbrev pub shortest : List ℕ
+shortest = 97 ∷ []
+
+abbrev pub shortestDigest : List ℕ
+shortestDigest = 0x5a ∷ 0x40 ∷ 0xa9 ∷ 0xd0 ∷ 0xe5 ∷ 0x82 ∷ 0x70 ∷ 0xdb ∷ 0xd1 ∷ 0x5a ∷ 0xbc ∷ 0x5f ∷ 0xf6 ∷ 0x5c ∷ 0x25 ∷ 0x2c ∷ []
+
+abbrev pub longest : List ℕ
+longest = replicate 32 97
+
+abbrev pub longestDigest : List ℕ
+longestDigest = 0xc1 ∷ 0xd8 ∷ 0xc5 ∷ 0x54 ∷ 0x01 ∷ 0xfe ∷ 0x09 ∷ 0xb1 ∷ 0x3f ∷ 0x86 ∷ 0xa9 ∷ 0xf4 ∷ 0x68 ∷ 0x32 ∷ 0xbb ∷ 0x51 ∷ []
+
 abbrev pub ndmpMd5 : List ℕ
 ndmpMd5 = small 1 ++ small 2 ++ small 4 ++ ndmp ++ small 4 ++ ndmp
 
@@ -140,6 +153,10 @@ pub record Md5Logins : Type 0 where
   pub other-kind : anyOf (md5Matches ndmp givenChallenge sentDigest) (entriesIn ndmpText) ≡ false
   -- the password itself is no digest
   pub password : anyOf (md5Matches ndmp givenChallenge ndmp) (entriesIn ndmpMd5) ≡ false
+  -- a password has 1 to 32 bytes
+  pub one-byte : anyOf (md5Matches moss givenChallenge shortestDigest) (account 2 moss shortest ∷ []) ≡ true
+  pub all-bytes : anyOf (md5Matches moss givenChallenge longestDigest) (account 2 moss longest ∷ []) ≡ true
+  pub byte-more : anyOf (md5Matches moss givenChallenge longestDigest) (account 2 moss (replicate 33 97) ∷ []) ≡ false
   -- an empty password never lets in, nor one of 33 bytes
   pub empty : (c d : List ℕ) → anyOf (md5Matches [] c d) (entriesIn (small 1 ++ bareMd5)) ≡ false
   pub long : (c d : List ℕ) → anyOf (md5Matches moss c d) (account 2 moss (replicate 33 97) ∷ []) ≡ false

@@ -4,10 +4,11 @@ use mathlib.Core.Bool.{Bool, true, false}
 use mathlib.Core.List.{List, _∷_}
 use mathlib.Core.Path.{_≡_}
 use lib.ListN.{length}
-use Rattle.codes.specs.Codes.{textAuth}
+use Rattle.codes.specs.Codes.{textAuth, md5Auth, mostAccounts, longestPassword}
+use Rattle.xdr_opaque.specs.Put.{Each}
 use Rattle.md5.specs.Login.{loginDigest}
-use Rattle.wire_accounts.specs.Accounts.{AccountEntry, broken, accountsIn, entriesIn, textMatches, md5Matches, anyOf}
-use Rattle.wire_accounts.specs.Accounts.{md5Auth, longestPassword}
+use Rattle.wire_accounts.specs.Accounts.{AccountEntry, these, broken, accountsIn, entriesIn, textMatches, md5Matches, anyOf}
+use Rattle.wire_accounts.specs.Written.{accountsBytes, Writable}
 
 -- an entry of a list has it
 pub data Among (p : AccountEntry → Bool) : List AccountEntry → Type 0 where
@@ -35,5 +36,7 @@ pub record AccountsHold : Type 0 where
   pub text-enters : (id password : List ℕ) (e : AccountEntry) → ByText id password e → textMatches id password e ≡ true
   pub md5 : (id challenge digest : List ℕ) (e : AccountEntry) → md5Matches id challenge digest e ≡ true → ByMd5 id challenge digest e
   pub md5-enters : (id challenge digest : List ℕ) (e : AccountEntry) → ByMd5 id challenge digest e → md5Matches id challenge digest e ≡ true
+  -- accounts that were written are read back, whatever they are
+  pub back : (es : List AccountEntry) → length es ≤ mostAccounts → Each Writable es → accountsIn (accountsBytes es) ≡ these es
   -- a buffer that is not laid out so lets nobody in
   pub shut : (b : List ℕ) → accountsIn b ≡ broken → (p : AccountEntry → Bool) → anyOf p (entriesIn b) ≡ false

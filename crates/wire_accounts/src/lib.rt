@@ -11,13 +11,6 @@ ghost use Rattle.wire_accounts.specs.Holds.{AccountsHold};
 use xdr_opaque::Opaque;
 use xdr_opaque::opaque_at;
 
-// NDMP_AUTH_MD5
-const MD5_AUTH: u32 = 2;
-
-const MOST_ACCOUNTS: u32 = 8;
-
-const LONGEST_PASSWORD: usize = 32;
-
 // A part of the buffer.
 pub struct Stretch {
     pub start: usize,
@@ -38,7 +31,7 @@ fn is_kind(kind: u32) -> bool
     if kind == codes::TEXT_AUTH {
         return true;
     }
-    kind == MD5_AUTH
+    kind == codes::MD5_AUTH
 }
 
 fn no_account() -> AccountPlace
@@ -92,7 +85,7 @@ fn is_laid(accounts: &[u8]) -> bool
         return false;
     }
     let count = xdr::read_word(accounts, 0);
-    if MOST_ACCOUNTS < count {
+    if codes::MOST_ACCOUNTS < count {
         return false;
     }
     let mut at: usize = 4;
@@ -145,7 +138,7 @@ fn is_digest(accounts: &[u8], password: Stretch, challenge: &[u8; 64], digest: &
     if len < 1 {
         return false;
     }
-    if LONGEST_PASSWORD < len {
+    if codes::LONGEST_PASSWORD < len {
         return false;
     }
     let end = start + len;
@@ -164,7 +157,7 @@ fn md5_matches(
     requires { ⌜ StretchIn (now accounts) (account .id) × StretchIn (now accounts) (account .password) ⌝ }
     ensures { λ r. ⌜ r ≡ md5Matches (now (id .entry)) (now (challenge .entry)) (now (digest .entry)) (entryOf (now (accounts .entry)) account) ⌝ }
 {
-    if account.kind != MD5_AUTH {
+    if account.kind != codes::MD5_AUTH {
         return false;
     }
     let known = is_part(accounts, account.id, id);
