@@ -42,7 +42,7 @@ use Rattle.rules.specs.Judge.{Outcome, refuse, accept, judge, onto, Acce
 use Rattle.rules_parts.specs.Parts.{restMover, closedTape, dataPartnered, moverPartnered, addressWrong, dataJoined, moverJoined, afterMessage, shut}
 use Rattle.rules.specs.DataService.{pairsOf, dataState, dataListen, dataStart, dataEnvironment, dataStop, dataStep, variablesAfter}
 use Rattle.rules.specs.TapeService.{Loaded, tapeOpen, tapeClose, tapeState, tapeMtio, tapeWrite, tapeRead, deviceStep, withLoaded, withMover, tapeStep, moverPartStep}
-use Rattle.rules.specs.Connection.{matches, clientAuth, connectStep}
+use Rattle.rules.specs.Connection.{rightText, rightDigest, clientAuth, connectStep}
 use Rattle.rules.specs.Relation.{dataWrong, moverWrong, sameFlag, keeps}
 use Rattle.rules.specs.Promises.{Keeps, JointKeeps, dataSide, partWrong, partSide}
 use Rattle.rules.specs.Answer.{Kept, Lent, held, Answered, guarded, roomOf, answered, requested, judged, isClose, settled, verdict, needsLogin, isLocked, outcome, refusing, isUnread}
@@ -153,8 +153,8 @@ module _ (k : Kept) (l : Lent) (r : List ℕ) (h : Valid k) where
   unfolding outcome Stays Valid
   outcome-keeps Request.Unknown = refusal-says Stays _
   outcome-keeps Request.Bad = refusal-says Stays _
-  outcome-keeps (Request.Connect q) = aside (withLogin k) (λ _. same-ends (k .session) _ refl refl refl h) _
-  outcome-keeps (Request.Config q) = aside (withLogin k) (λ _. same-ends (k .session) _ refl refl refl h) _
+  outcome-keeps (Request.Connect q) = aside (withLogin k _) (λ _. same-ends (k .session) _ refl refl refl h) _
+  outcome-keeps (Request.Config q) = aside (withLogin k _) (λ _. same-ends (k .session) _ refl refl refl h) _
   outcome-keeps (Request.Scsi q) = aside (withChanger k) (λ _. same-ends (k .session) _ refl refl refl h) _
   outcome-keeps (Request.Tape q) =
       let f = kept-facts (k .session) h in
@@ -239,8 +239,8 @@ module _ (k : Kept) (l : Lent) (r : List ℕ) (h : isSound (k .image) ≡ true) 
   unfolding outcome Sounds tapeStep moverPartStep Loads
   outcome-sound Request.Unknown = refusal-says Sounds _
   outcome-sound Request.Bad = refusal-says Sounds _
-  outcome-sound (Request.Connect q) = unread (withLogin k) (λ _. h) _
-  outcome-sound (Request.Config q) = unread (withLogin k) (λ _. h) _
+  outcome-sound (Request.Connect q) = unread (withLogin k _) (λ _. h) _
+  outcome-sound (Request.Config q) = unread (withLogin k _) (λ _. h) _
   outcome-sound (Request.Scsi q) = unread (withChanger k) (λ _. h) _
   outcome-sound (Request.Tape q) =
       carried Sounds (withTape k) _ (carried (λ reply p. Sounds reply (withTape k p)) (withLoaded (tapePart k)) _
@@ -287,8 +287,8 @@ module _ (k : Kept) (l : Lent) (r : List ℕ) where
   unfolding outcome Followed tapeStep moverPartStep
   outcome-follows h Request.Unknown = refusal-says Followed _
   outcome-follows h Request.Bad = refusal-says Followed _
-  outcome-follows h (Request.Connect q) = unstored (withLogin k) (λ _. refl) _
-  outcome-follows h (Request.Config q) = unstored (withLogin k) (λ _. refl) _
+  outcome-follows h (Request.Connect q) = unstored (withLogin k _) (λ _. refl) _
+  outcome-follows h (Request.Config q) = unstored (withLogin k _) (λ _. refl) _
   outcome-follows h (Request.Scsi q) = unstored (withChanger k) (λ _. refl) _
   outcome-follows h (Request.Tape q) = unstored (withTape k) (λ _. refl) _
   outcome-follows h (Request.Data q) = carried Followed (withData k q _ _) _ (data-follows (k .session .source) q _ _ (k .variables) h)
@@ -403,6 +403,7 @@ close-is Request.Unknown e = clash false refl e
 close-is Request.Bad e = clash false refl e
 close-is (Request.Connect (ConnectRequest.Open version)) e = clash false refl e
 close-is (Request.Connect (ConnectRequest.Auth id password)) e = clash false refl e
+close-is (Request.Connect (ConnectRequest.Md5Auth id digest)) e = clash false refl e
 close-is (Request.Connect ConnectRequest.OtherAuth) e = clash false refl e
 close-is (Request.Connect ConnectRequest.Close) e = refl
 close-is (Request.Config q) e = clash false refl e
@@ -431,6 +432,7 @@ module _ (k : Kept) (l : Lent) (r : List ℕ) where
   close-accepted Request.Bad e v = refl
   close-accepted (Request.Connect (ConnectRequest.Open version)) e v = refl
   close-accepted (Request.Connect (ConnectRequest.Auth id password)) e v = refl
+  close-accepted (Request.Connect (ConnectRequest.Md5Auth id digest)) e v = refl
   close-accepted (Request.Connect ConnectRequest.OtherAuth) e v = refl
   close-accepted (Request.Connect ConnectRequest.Close) e v =
       absurd (let w = rw (open-to-all (k .session .login .authorized)) at v in let z : _≡_ {A = ℕ} 0 1 = cc in omega arith)
@@ -462,11 +464,23 @@ module _ (k : Kept) (l : Lent) (r : List ℕ) where
   unfolding needsLogin outcome refusing isUnread choose
   undecoded h b = known Request.Bad 18 b h (verdict-free Request.Bad refl)
 
-  unproven : (id password : Text) → Heard k l r → requestIn r ≡ Request.Connect (ConnectRequest.Auth id password)
-      → matches (bytesAt (bodyOf r) id) (bytesAt (bodyOf r) password) (l .account) ≡ false
+  pub unproven : (id password : Text) → Heard k l r → requestIn r ≡ Request.Connect (ConnectRequest.Auth id password)
+      → rightText (l .accounts) (bytesAt (bodyOf r) id) (bytesAt (bodyOf r) password) ≡ false
       → answered k l r ≡ replying r (l .time) (refusedIn r 4) [] k
   unfolding needsLogin outcome connectStep clientAuth judge onto refusing isUnread choose
   unproven id password h b w = known (Request.Connect (ConnectRequest.Auth id password)) 4 b h (verdict-free (Request.Connect (ConnectRequest.Auth id password)) refl ∙ rw w)
+
+  pub undigested : (id digest : Text) → Heard k l r → requestIn r ≡ Request.Connect (ConnectRequest.Md5Auth id digest)
+      → rightDigest (k .session .login) (l .accounts) (bytesAt (bodyOf r) id) (bytesAt (bodyOf r) digest) ≡ false
+      → answered k l r ≡ replying r (l .time) (refusedIn r 4) [] k
+  unfolding needsLogin outcome connectStep clientAuth judge onto refusing isUnread choose
+  undigested id digest h b w =
+      let q = Request.Connect (ConnectRequest.Md5Auth id digest) in
+      known q 4 b h (verdict-free q refl ∙ rw w)
+
+  untyped : Heard k l r → requestIn r ≡ Request.Connect ConnectRequest.OtherAuth → answered k l r ≡ replying r (l .time) (refusedIn r 9) [] k
+  unfolding needsLogin outcome connectStep onto refusing isUnread choose
+  untyped h b = known (Request.Connect ConnectRequest.OtherAuth) 9 b h (verdict-free (Request.Connect ConnectRequest.OtherAuth) refl)
 
 -- ---- how a request is judged, by what its code found
 -- what needs a login is neither a close nor unread
@@ -524,5 +538,7 @@ calls-keep =
         unhandled = unhandled;
         undecoded = undecoded;
         unproven = unproven;
+        undigested = undigested;
+        untyped = untyped;
       };
     }

@@ -182,8 +182,8 @@ module _ (k : Kept) (l : Lent) (r : List ℕ) where
   unfolding isLocked needsLogin outcome tapeStep moverPartStep StoredBy
   outcome-stores Request.Unknown h = refusal-says (StoredBy Request.Unknown) _
   outcome-stores Request.Bad h = refusal-says (StoredBy Request.Bad) _
-  outcome-stores (Request.Connect q) h = left (Request.Connect q) (withLogin k) (λ _. refl) _
-  outcome-stores (Request.Config q) h = left (Request.Config q) (withLogin k) (λ _. refl) _
+  outcome-stores (Request.Connect q) h = left (Request.Connect q) (withLogin k _) (λ _. refl) _
+  outcome-stores (Request.Config q) h = left (Request.Config q) (withLogin k _) (λ _. refl) _
   outcome-stores (Request.Scsi q) h = left (Request.Scsi q) (withChanger k) (λ _. refl) _
   outcome-stores (Request.Tape q) h = left (Request.Tape q) (withTape k) (λ _. refl) _
   outcome-stores (Request.Data q) h = carried (StoredBy (Request.Data q)) (withData k q _ _) _ (data-stores q (logged _ h))
@@ -353,15 +353,15 @@ module _ (k : Kept) (other : List ℕ) where
     request-same : (q : Request) → (q ≡ Request.Data DataRequest.Environment → ⊥) → Alike q
     unfolding Alike verdict outcome onto
     request-same Request.Unknown n =
-        settled-same (l .time) r Request.Unknown (withLogin k) (withLogin there) (λ p. record { session = refl; image = refl; shown = refl; dwhy = refl; mwhy = refl }) _ (refuse 1)
+        settled-same (l .time) r Request.Unknown (withLogin k []) (withLogin there []) (λ p. record { session = refl; image = refl; shown = refl; dwhy = refl; mwhy = refl }) _ (refuse 1)
     request-same Request.Bad n =
-        settled-same (l .time) r Request.Bad (withLogin k) (withLogin there) (λ p. record { session = refl; image = refl; shown = refl; dwhy = refl; mwhy = refl }) _ (refuse 18)
+        settled-same (l .time) r Request.Bad (withLogin k []) (withLogin there []) (λ p. record { session = refl; image = refl; shown = refl; dwhy = refl; mwhy = refl }) _ (refuse 18)
     request-same (Request.Connect q) n =
-        settled-same (l .time) r (Request.Connect q) (withLogin k) (withLogin there) (λ p. record { session = refl; image = refl; shown = refl; dwhy = refl; mwhy = refl }) _
-        (connectStep (k .session .first) (k .session .login) (l .account) q (bodyOf r))
+        settled-same (l .time) r (Request.Connect q) (withLogin k []) (withLogin there []) (λ p. record { session = refl; image = refl; shown = refl; dwhy = refl; mwhy = refl }) _
+        (connectStep (k .session .first) (k .session .login) (l .accounts) q (bodyOf r))
     request-same (Request.Config q) n =
-        settled-same (l .time) r (Request.Config q) (withLogin k) (withLogin there) (λ p. record { session = refl; image = refl; shown = refl; dwhy = refl; mwhy = refl }) _
-        (configStep (k .session .login) q)
+        settled-same (l .time) r (Request.Config q) (withLogin k (l .challenge)) (withLogin there (l .challenge)) (λ p. record { session = refl; image = refl; shown = refl; dwhy = refl; mwhy = refl }) _
+        (configStep (k .session .login) (l .challenge) q)
     request-same (Request.Scsi q) n =
         settled-same (l .time) r (Request.Scsi q) (withChanger k) (withChanger there) (λ p. record { session = refl; image = refl; shown = refl; dwhy = refl; mwhy = refl }) _
         (scsiStep (k .session .changer) q (bodyOf r))

@@ -1,4 +1,4 @@
--- What each number leaves, who becomes authorized, and what writes to the cartridge: from what every request comes to. Assumes nothing.
+-- What each number leaves, and what writes to the cartridge: from what every request comes to. Assumes nothing.
 use Prim.Native.Nat.{ℕ, _+_, _^_, _≤_, _<_}
 use mathlib.Core.Bool.{Bool, true, false, not}
 use mathlib.Core.List.{List, [], _∷_}
@@ -7,7 +7,7 @@ use native.Mathlib.Omega.{arith}
 use lib.ListN.{length}
 use lib.Dec.{eqb, ltb}
 use borrow.Author.Tests.{ne-eqb, eqb-true, le-ltb}
-use Rattle.codes.specs.Codes.{errors, longestRecord, notAuthorized, illegalArguments, illegalState}
+use Rattle.codes.specs.Codes.{errors, textAuth, md5Auth, longestRecord, notAuthorized, illegalArguments, illegalState}
 use Rattle.xdr.specs.Choose.{choose}
 use Rattle.xdr.specs.Xdr.{sameBytes}
 use Rattle.xdr.proofs.Tests.{by-test, yes}
@@ -41,17 +41,18 @@ use Rattle.wire_replies.specs.Numbers.{placeOf, numberIn, bodyIn}
 use Rattle.wire_replies.proofs.Numbers as numbers
 use Rattle.rules_parts.specs.declared.types.Tape.{Tape}
 use Rattle.rules.specs.Judge.{test, Outcome, refuse, accept, judge, onto, Accepts, Refuses}
-use Rattle.rules_parts.specs.Parts.{withParts, afterMessage, holdsTape}
+use Rattle.rules_parts.specs.Parts.{withParts, afterMessage, challengedBy, holdsTape}
 use Rattle.rules.specs.TapeService.{movedTo, isRefusal, protects, tapeOpen, tapeClose, tapeState, tapeMtio, tapeWrite, tapeRead}
 use Rattle.rules.specs.TapeService.{deviceStep, withLoaded, withMover, tapeStep, moverPartStep}
-use Rattle.rules.specs.Connection.{matches, connectOpen, clientAuth, connectStep, configStep}
+use Rattle.rules.specs.Connection.{connectOpen, clientAuth, connectStep, authAttributes, configStep}
 use Rattle.rules.specs.Answer.{Kept, Lent, held, Answered, answered, judged, isClose, settled, verdict, needsLogin, isLocked, outcome, refusing, isUnread}
 use Rattle.rules.specs.Answer.{noticed, halting, closing, replying, Done, tapePart, withData, withPart, withTape, withChanger, withLogin, withEnds, requestIn}
-use Rattle.rules.specs.Order.{isOneOf, Call, run}
+use Rattle.rules.specs.Order.{isOneOf}
 use Rattle.rules.specs.Calls.{Heard, isRun, isDone, isNumber}
 use Rattle.rules.specs.Leaving.{Leaving, AtMark, mark-read, mark-spaced, AtEnd, end-read, end-written, end-spaced, OtherFields}
 use Rattle.rules.specs.Leaving.{no-body, zero-words, residue-word, InHeader, unknown-message, bad-body, beforeLogin, Replied, Closes}
-use Rattle.rules.specs.Leaving.{LogsIn, Among, here, later, authorized, MayWrite, Touched, untouched, wrote, marked, CallsLeave}
+use Rattle.rules.specs.Leaving.{MayWrite, Touched, untouched, wrote, marked, CallsLeave}
+use Rattle.rules.proofs.Login.{login-holds, control, info, attributes-asked}
 use Rattle.rules.proofs.Environment.{stored, stores, environment-asked, unseen}
 use Rattle.rules.proofs.JudgeLaws.{judged-by, accepts, accepts-any, accepts-map, refusal-says, carried}
 use Rattle.rules.proofs.Numbers.{number-right, refusal-right, refusal-facts}
@@ -117,6 +118,8 @@ unheaded Reply.Plain h = refl
 unheaded Reply.Listening h = refl
 unheaded Reply.ListeningTcp h = refl
 unheaded Reply.ConnectionTypes h = refl
+unheaded Reply.TextAuth h = refl
+unheaded Reply.Challenge h = refl
 unheaded (Reply.ServerInfo known) h = refl
 unheaded Reply.ScsiState h = refl
 unheaded Reply.Cdb h = refl
@@ -304,8 +307,8 @@ module _ (k : Kept) (l : Lent) (r : List ℕ) where
   unfolding outcome Counted
   outcome-counted Request.Unknown = refusal-says Counted _
   outcome-counted Request.Bad = refusal-says Counted _
-  outcome-counted (Request.Connect q) = counted (withLogin k) (λ _. refl) _
-  outcome-counted (Request.Config q) = counted (withLogin k) (λ _. refl) _
+  outcome-counted (Request.Connect q) = counted (withLogin k _) (λ _. refl) _
+  outcome-counted (Request.Config q) = counted (withLogin k _) (λ _. refl) _
   outcome-counted (Request.Scsi q) = counted (withChanger k) (λ _. refl) _
   outcome-counted (Request.Tape q) = counted (withTape k) (λ _. refl) _
   outcome-counted (Request.Data q) = counted (withData k q _ _) (λ _. refl) _
@@ -354,14 +357,14 @@ module _ (k : Kept) (l : Lent) (r : List ℕ) where
   toldBy (accept reply d) = numberOf reply
 
   opens : (fresh four : Bool)
-      → toldBy (onto (withLogin k) (judge (test (not fresh) illegalState ∷ test (not four) illegalArguments ∷ []) (accept Reply.Plain (k .session .login))))
+      → toldBy (onto (withLogin k []) (judge (test (not fresh) illegalState ∷ test (not four) illegalArguments ∷ []) (accept Reply.Plain (k .session .login))))
       ≡ choose fresh (choose four 0 illegalArguments) illegalState
   unfolding onto judge numberOf choose
   opens true true = refl
   opens true false = refl
   opens false four = refl
 
-  proves : (right : Bool) → toldBy (onto (withLogin k) (clientAuth right)) ≡ choose right 0 notAuthorized
+  proves : (right : Bool) → toldBy (onto (withLogin k []) (clientAuth (k .session .login) right)) ≡ choose right 0 notAuthorized
   unfolding clientAuth onto judge numberOf choose
   proves true = refl
   proves false = refl
@@ -370,15 +373,32 @@ module _ (k : Kept) (l : Lent) (r : List ℕ) where
   unfolding verdict isLocked judge choose
   stranger-verdict q h = rw (verdict, isLocked, h)
 
+  types-told : (c : List ℕ) (m t : Bool)
+      → toldBy (onto (withLogin k c)
+      (choose m (accept Reply.Challenge (challengedBy c (k .session .login))) (choose t (accept Reply.TextAuth (k .session .login)) (refuse illegalArguments))))
+      ≡ choose (choose t true (choose m true false)) 0 illegalArguments
+  unfolding onto numberOf choose
+  types-told c true true = refl
+  types-told c true false = refl
+  types-told c false true = refl
+  types-told c false false = refl
+
+  attributes-told : (c : List ℕ) (type : ℕ) → toldBy (onto (withLogin k c) (authAttributes (k .session .login) c type))
+      ≡ choose (isOneOf (textAuth ∷ md5Auth ∷ []) type) 0 illegalArguments
+  unfolding authAttributes isOneOf
+  attributes-told c type = types-told c (eqb type md5Auth) (eqb type textAuth)
+
   unlocked-tells : (q : Request) → toldBy (choose (needsLogin q) (refuse notAuthorized) (outcome k l r q)) ≡ beforeLogin k l r q
   unfolding needsLogin outcome connectStep connectOpen configStep onto beforeLogin numberOf choose
   unlocked-tells Request.Unknown = refl
   unlocked-tells Request.Bad = refl
   unlocked-tells (Request.Connect (ConnectRequest.Open version)) = opens (k .session .first) (eqb version 4)
   unlocked-tells (Request.Connect (ConnectRequest.Auth id password)) = proves _
+  unlocked-tells (Request.Connect (ConnectRequest.Md5Auth id digest)) = proves _
   unlocked-tells (Request.Connect ConnectRequest.OtherAuth) = refl
   unlocked-tells (Request.Connect ConnectRequest.Close) = refl
   unlocked-tells (Request.Config ConfigRequest.ConnectionType) = refl
+  unlocked-tells (Request.Config (ConfigRequest.AuthAttributes type)) = attributes-told (l .challenge) type
   unlocked-tells (Request.Config ConfigRequest.ServerInfo) = refl
   unlocked-tells (Request.Scsi q) = refl
   unlocked-tells (Request.Tape q) = refl
@@ -518,6 +538,7 @@ module _ (k : Kept) (l : Lent) (r : List ℕ) where
   unclosed Request.Bad n = refl
   unclosed (Request.Connect (ConnectRequest.Open version)) n = refl
   unclosed (Request.Connect (ConnectRequest.Auth id password)) n = refl
+  unclosed (Request.Connect (ConnectRequest.Md5Auth id digest)) n = refl
   unclosed (Request.Connect ConnectRequest.OtherAuth) n = refl
   unclosed (Request.Connect ConnectRequest.Close) n = absurd (n refl)
   unclosed (Request.Config q) n = refl
@@ -550,94 +571,6 @@ module _ (k : Kept) (l : Lent) (r : List ℕ) where
   closes : Heard k l r → requestIn r ≡ Request.Connect ConnectRequest.Close → Closes k (answered k l r)
   unfolding judged isClose choose
   closes h e = rw (heard k l r h, e) closing-closes
-
--- ---- who becomes authorized
-module _ (k : Kept) (l : Lent) (r : List ℕ) where
-  abbrev this : Call
-  this = record { ask = record { request = r; addresses = l .addresses }; lent = l }
-
-  -- what holds of the login, where only CONNECT changes it
-  module _ (Q : Bool → Type 0) where
-    Stays : Reply → Done → Type 0
-    Stays _ d = Q (authorized (d .kept))
-
-    aside : {A : Type 0} (put : A → Done) → ((p : A) → Q (authorized (put p .kept))) → (o : Outcome A) → Accepts Stays (onto put o)
-    unfolding Stays
-    aside put f o = carried Stays put o (accepts-any (λ reply p. Stays reply (put p)) (λ _ p. f p) o)
-
-    config-stays : (q : ConfigRequest) → Q (authorized k) → Accepts Stays (onto (withLogin k) (configStep (k .session .login) q))
-    unfolding Stays configStep onto Accepts
-    config-stays ConfigRequest.ConnectionType h = h
-    config-stays ConfigRequest.ServerInfo h = h
-
-    outcome-stays : (q : Request) → Q (authorized k)
-        → ((c : ConnectRequest) → q ≡ Request.Connect c → Accepts Stays (onto (withLogin k) (connectStep (k .session .first) (k .session .login) (l .account) c (bodyOf r))))
-        → Accepts Stays (outcome k l r q)
-    unfolding outcome
-    outcome-stays Request.Unknown h f = refusal-says Stays _
-    outcome-stays Request.Bad h f = refusal-says Stays _
-    outcome-stays (Request.Connect q) h f = f q refl
-    outcome-stays (Request.Config q) h f = config-stays q h
-    outcome-stays (Request.Scsi q) h f = aside (withChanger k) (λ _. h) _
-    outcome-stays (Request.Tape q) h f = aside (withTape k) (λ _. h) _
-    outcome-stays (Request.Data q) h f = aside (withData k q _ _) (λ _. h) _
-    outcome-stays (Request.Mover q) h f = aside (withPart k _) (λ _. h) _
-    outcome-stays (Request.Joint q) h f = aside (withEnds k) (λ _. h) _
-
-  close-stays : (Q : Bool → Type 0) → Q (authorized k) → Accepts (Stays Q) (onto (withLogin k) (accept Reply.Plain (k .session .login)))
-  unfolding Stays onto Accepts
-  close-stays Q h = h
-
-  connect-stays : (Q : Bool → Type 0) → Q (authorized k) → (c : ConnectRequest)
-      → ((id password : Text) → c ≡ ConnectRequest.Auth id password → matches (bytesAt (bodyOf r) id) (bytesAt (bodyOf r) password) (l .account) ≡ true → Q true)
-      → Accepts (Stays Q) (onto (withLogin k) (connectStep (k .session .first) (k .session .login) (l .account) c (bodyOf r)))
-  unfolding Stays connectStep connectOpen clientAuth
-  connect-stays Q h (ConnectRequest.Open version) f = carried (Stays Q) (withLogin k) _ (accepts (λ reply p. Stays Q reply (withLogin k p)) _ _ _ (λ _. h))
-  connect-stays Q h (ConnectRequest.Auth id password) f =
-      carried (Stays Q) (withLogin k) _ (accepts (λ reply p. Stays Q reply (withLogin k p)) _ _ _ (λ g. f id password refl (yes (g 0))))
-  connect-stays Q h ConnectRequest.OtherAuth f = carried (Stays Q) (withLogin k) _ (refusal-says (λ reply p. Stays Q reply (withLogin k p)) _)
-  connect-stays Q h ConnectRequest.Close f = close-stays Q h
-
-  -- a matching auth is one of the account's
-  logs-in : (id password : Text) → requestIn r ≡ Request.Connect (ConnectRequest.Auth id password)
-      → matches (bytesAt (bodyOf r) id) (bytesAt (bodyOf r) password) (l .account) ≡ true → LogsIn this
-  unfolding matches
-  logs-in id password e m =
-      let w = both (sameBytes (bytesAt (bodyOf r) id) (l .account .id)) (sameBytes (bytesAt (bodyOf r) password) (l .account .password)) m in
-      record { id = id; password = password; request = e; same-id = same-is _ _ (w .0); same-password = same-is _ _ (w .1) }
-
-  call-stays : (Q : Bool → Type 0) → Q (authorized k) → (LogsIn this → Q true) → Q (authorized (answered k l r .next))
-  unfolding Stays
-  call-stays Q h f =
-      call-holds (λ (x : Kept). Q (authorized x)) (λ x _ z. z) (λ x z. z) k l r h
-      (outcome-stays Q (requestIn r) h (λ c e. connect-stays Q h c (λ id password s m. f (logs-in id password (e ∙ ap Request.Connect s) m))))
-
-call-only : (k : Kept) (c : Call) → authorized k ≡ false → authorized (answered k (c .lent) (c .ask .request) .next) ≡ true → LogsIn c
-call-only k c h = call-stays k (c .lent) (c .ask .request) (λ b. b ≡ true → LogsIn c) (λ t. absurd (let z : _≡_ {A = ℕ} 0 1 = cc in omega arith))
-    (λ i _. record { id = i .id; password = i .password; request = i .request; same-id = i .same-id; same-password = i .same-password })
-
-only-next : (P : Bool → Type 0) (b : Bool) → (b ≡ true → P b) → (b ≡ false → P b) → P b
-only-next P true f g = f refl
-only-next P false f g = g refl
-
-only : (k : Kept) (cs : List Call) → authorized k ≡ false → authorized (run k cs .last) ≡ true → Among LogsIn cs
-unfolding run
-only k [] h t = absurd (let z : _≡_ {A = ℕ} 0 1 = cc in omega arith)
-only k (c ∷ cs) h t =
-    only-next (λ _. Among LogsIn (c ∷ cs)) (authorized (answered k (c .lent) (c .ask .request) .next)) (λ e. here (call-only k c h e)) (λ e. later (only _ cs e t))
-
-stays : (k : Kept) (cs : List Call) → authorized k ≡ true → authorized (run k cs .last) ≡ true
-unfolding run
-stays k [] h = h
-stays k (c ∷ cs) h = stays _ cs (call-stays k (c .lent) (c .ask .request) (λ b. b ≡ true) h (λ _. refl))
-
-enters : (k : Kept) (c : Call) → Heard k (c .lent) (c .ask .request) → LogsIn c → authorized (answered k (c .lent) (c .ask .request) .next) ≡ true
-unfolding judged isClose settled outcome connectStep clientAuth judge onto needsLogin noticed matches choose
-enters k c h i =
-    let r = c .ask .request in
-    let l = c .lent in
-    let q = Request.Connect (ConnectRequest.Auth (i .id) (i .password)) in
-    rw (heard k l r h, i .request, judged, verdict-free k l r q refl, i .same-id, i .same-password, is-same (l .account .id), is-same (l .account .password))
 
 -- ---- what writes to the cartridge
 module _ (k : Kept) (l : Lent) (r : List ℕ) where
@@ -721,8 +654,8 @@ module _ (k : Kept) (l : Lent) (r : List ℕ) where
   unfolding isLocked needsLogin outcome tapeStep moverPartStep TouchedBy
   outcome-touches Request.Unknown h = refusal-says (TouchedBy Request.Unknown) _
   outcome-touches Request.Bad h = refusal-says (TouchedBy Request.Bad) _
-  outcome-touches (Request.Connect q) h = left (Request.Connect q) (withLogin k) (λ _. refl) _
-  outcome-touches (Request.Config q) h = left (Request.Config q) (withLogin k) (λ _. refl) _
+  outcome-touches (Request.Connect q) h = left (Request.Connect q) (withLogin k _) (λ _. refl) _
+  outcome-touches (Request.Config q) h = left (Request.Config q) (withLogin k _) (λ _. refl) _
   outcome-touches (Request.Scsi q) h = left (Request.Scsi q) (withChanger k) (λ _. refl) _
   outcome-touches (Request.Tape q) h =
       carried (TouchedBy (Request.Tape q)) (withTape k) _
@@ -798,7 +731,10 @@ calls-leave =
     record {
       replied = replied;
       closes = closes;
-      login = record { only = only; stays = stays; enters = enters };
+      login = login-holds;
+      control = control;
+      info = info;
+      attributes = attributes-asked;
       touched = touched;
       writes = record { write = λ k l r bytes h q m. writes k l r h m bytes q; marks = λ k l r times h q m. marks k l r h m times q };
       stored = stored;

@@ -2,7 +2,7 @@
 -- with no end, `Kept` those of the relation, `Keeping` that every request
 -- keeps it, `Tcp` the rules of ends by TCP, `Windows` the rules of windows, `Sending` that an answer can be sent, `Numbers` the numbers of replies and refusals, `Guarding` what comes
 -- before any call, `Calls` what holds of every call, `Owning` that a record's request is its service's, `Order` that the services commute,
--- `Services` which numbers are whose, `Environment` the rules of the environment and what changes its store, `Leaving` what each number leaves, who becomes authorized and what writes to the cartridge, `Alike` that spacing
+-- `Services` which numbers are whose, `Environment` the rules of the environment and what changes its store, `Login` who becomes authorized and by which challenge, `Leaving` what each number leaves and what writes to the cartridge, `Alike` that spacing
 -- hangs on the kinds of the entries passed.
 pub mod JudgeLaws
 pub mod Serving
@@ -19,5 +19,6 @@ pub mod Owning
 pub mod Order
 pub mod Services
 pub mod Environment
+pub mod Login
 pub mod Leaving
 pub mod Alike

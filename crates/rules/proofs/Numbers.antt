@@ -43,7 +43,7 @@ use Rattle.rules_parts.specs.declared.types.Mover.{Mover}
 use Rattle.rules_parts.specs.declared.types.Tape.{Tape}
 use Rattle.rules_parts.specs.declared.types.Changer.{Changer}
 use Rattle.rules_parts.specs.declared.types.Login.{Login}
-use Rattle.codes.specs.Codes.{longestRecord, deviceOpened, permissionDenied, notOpen, illegalArguments, badFile, noDevice, illegalState}
+use Rattle.codes.specs.Codes.{textAuth, md5Auth, longestRecord, deviceOpened, permissionDenied, notOpen, illegalArguments, badFile, noDevice, illegalState}
 use Rattle.rules.specs.Judge.{test, refuse, accept, judge, Accepts, Refuses}
 use Rattle.rules.specs.DataService.{dataState, dataListen, dataStart, dataEnvironment, dataStop, dataStep}
 use Rattle.rules.specs.MoverService.{moverState, moverListen, moverContinue, moverStop, setWindow, moverRead, setSize, moverStep}
@@ -51,7 +51,7 @@ use Rattle.rules.specs.TapeService.{Loaded, isRefusal, tapeOpen, tapeClo
 use Rattle.rules.specs.ScsiService.{scsiOpen, scsiClear, scsiState, runCdb, scsiCdb, scsiStep}
 use Rattle.rules.specs.Addresses.{listening}
 use Rattle.rules.specs.Joint.{dataConnect, moverConnect, dataAbort, moverAbort, moverClose, jointStep}
-use Rattle.rules.specs.Connection.{Account, connectOpen, clientAuth, connectStep, configStep}
+use Rattle.rules.specs.Connection.{connectOpen, clientAuth, connectStep, authAttributes, configStep}
 use Rattle.rules.specs.Answer.{Kept, Lent, Done, outcome, verdict, tapePart, withData, withPart, withTape, withChanger, withLogin, withEnds}
 use Rattle.rules.specs.Order.{isOneOf}
 use Rattle.rules.specs.Calls.{isRun, isDone, isNumber}
@@ -104,17 +104,20 @@ scsi-zero c ScsiRequest.State body = accepts Zero _ _ _ (λ _. refl)
 scsi-zero c ScsiRequest.Reset body = accepts Zero _ _ _ (λ _. refl)
 scsi-zero c (ScsiRequest.Cdb cdb room) body = judged-by Zero _ _ (λ _. run-zero c (bytesAt body cdb) room)
 
-connect-zero : (fresh : Bool) (g : Login) (a : Account) (q : ConnectRequest) (body : List ℕ) → Accepts Zero (connectStep fresh g a q body)
+connect-zero : (fresh : Bool) (g : Login) (a : List ℕ) (q : ConnectRequest) (body : List ℕ) → Accepts Zero (connectStep fresh g a q body)
 unfolding connectStep connectOpen clientAuth numberOf Accepts
 connect-zero fresh g a (ConnectRequest.Open version) body = accepts Zero _ _ _ (λ _. refl)
 connect-zero fresh g a (ConnectRequest.Auth id password) body = accepts Zero _ _ _ (λ _. refl)
+connect-zero fresh g a (ConnectRequest.Md5Auth id digest) body = accepts Zero _ _ _ (λ _. refl)
 connect-zero fresh g a ConnectRequest.OtherAuth body = tt
 connect-zero fresh g a ConnectRequest.Close body = refl
 
-config-zero : (g : Login) (q : ConfigRequest) → Accepts Zero (configStep g q)
-unfolding configStep numberOf Accepts
-config-zero g ConfigRequest.ConnectionType = refl
-config-zero g ConfigRequest.ServerInfo = refl
+config-zero : (g : Login) (c : List ℕ) (q : ConfigRequest) → Accepts Zero (configStep g c q)
+unfolding configStep authAttributes numberOf Accepts
+config-zero g c ConfigRequest.ConnectionType = refl
+config-zero g c (ConfigRequest.AuthAttributes type) =
+    by-test (Accepts Zero) (eqb type md5Auth) _ _ (λ _. refl) (λ _. by-test (Accepts Zero) (eqb type textAuth) _ _ (λ _. refl) (λ _. tt))
+config-zero g c ConfigRequest.ServerInfo = refl
 
 -- of the tape: 0, or what the last test lets pass
 abbrev Ran : TapeRequest → {A : Type 0} → Reply → A → Type 0
@@ -137,8 +140,8 @@ module _ (k : Kept) (l : Lent) (r : List ℕ) where
   unfolding outcome Right isDone tapeStep moverPartStep
   outcome-number Request.Unknown = refusal-says (Right Request.Unknown) _
   outcome-number Request.Bad = refusal-says (Right Request.Bad) _
-  outcome-number (Request.Connect q) = carried Zero (withLogin k) _ (connect-zero _ _ _ q _)
-  outcome-number (Request.Config q) = carried Zero (withLogin k) _ (config-zero _ q)
+  outcome-number (Request.Connect q) = carried Zero (withLogin k _) _ (connect-zero _ _ _ q _)
+  outcome-number (Request.Config q) = carried Zero (withLogin k _) _ (config-zero _ _ q)
   outcome-number (Request.Scsi q) = carried Zero (withChanger k) _ (scsi-zero _ q _)
   outcome-number (Request.Tape q) = carried (Ran q) (withTape k) _ (carried (Ran q) (withLoaded (tapePart k)) _ (tape-ran _ _ _ q _))
   outcome-number (Request.Data q) = carried Zero (withData k q _ _) _ (data-zero _ q _ _ _)
@@ -193,17 +196,20 @@ scsi-refuses c ScsiRequest.State body = accepts-all isNumber _ _ _ refl
 scsi-refuses c ScsiRequest.Reset body = accepts-all isNumber _ _ _ refl
 scsi-refuses c (ScsiRequest.Cdb cdb room) body = refuses-behind isNumber _ (run-refuses c (bytesAt body cdb) room) _ refl
 
-connect-refuses : (fresh : Bool) (g : Login) (a : Account) (q : ConnectRequest) (body : List ℕ) → Refuses Refusal (connectStep fresh g a q body)
+connect-refuses : (fresh : Bool) (g : Login) (a : List ℕ) (q : ConnectRequest) (body : List ℕ) → Refuses Refusal (connectStep fresh g a q body)
 unfolding connectStep connectOpen clientAuth isNumber isOneOf isRefusal Refuses choose
 connect-refuses fresh g a (ConnectRequest.Open version) body = accepts-all isNumber _ _ _ refl
 connect-refuses fresh g a (ConnectRequest.Auth id password) body = accepts-all isNumber _ _ _ refl
+connect-refuses fresh g a (ConnectRequest.Md5Auth id digest) body = accepts-all isNumber _ _ _ refl
 connect-refuses fresh g a ConnectRequest.OtherAuth body = refl
 connect-refuses fresh g a ConnectRequest.Close body = tt
 
-config-refuses : (g : Login) (q : ConfigRequest) → Refuses Refusal (configStep g q)
-unfolding configStep Refuses
-config-refuses g ConfigRequest.ConnectionType = tt
-config-refuses g ConfigRequest.ServerInfo = tt
+config-refuses : (g : Login) (c : List ℕ) (q : ConfigRequest) → Refuses Refusal (configStep g c q)
+unfolding configStep authAttributes isNumber isOneOf isRefusal Refuses choose
+config-refuses g c ConfigRequest.ConnectionType = tt
+config-refuses g c (ConfigRequest.AuthAttributes type) =
+    by-test (Refuses Refusal) (eqb type md5Auth) _ _ (λ _. tt) (λ _. by-test (Refuses Refusal) (eqb type textAuth) _ _ (λ _. tt) (λ _. refl))
+config-refuses g c ConfigRequest.ServerInfo = tt
 
 -- ---- the tape's: its own number is given only where it is a refusal
 pub refusal-facts : (e : ℕ) → isRefusal e ≡ true → Refused e
@@ -311,8 +317,8 @@ module _ (k : Kept) (l : Lent) (r : List ℕ) where
   unfolding outcome tapeStep moverPartStep isNumber isOneOf isRefusal choose
   outcome-refuses Request.Unknown = unread-right 1 refl
   outcome-refuses Request.Bad = unread-right 18 refl
-  outcome-refuses (Request.Connect q) = refuses-onto Refusal (withLogin k) _ (connect-refuses _ _ _ q _)
-  outcome-refuses (Request.Config q) = refuses-onto Refusal (withLogin k) _ (config-refuses _ q)
+  outcome-refuses (Request.Connect q) = refuses-onto Refusal (withLogin k _) _ (connect-refuses _ _ _ q _)
+  outcome-refuses (Request.Config q) = refuses-onto Refusal (withLogin k _) _ (config-refuses _ _ q)
   outcome-refuses (Request.Scsi q) = refuses-onto Refusal (withChanger k) _ (scsi-refuses _ q _)
   outcome-refuses (Request.Tape q) = refuses-onto Refusal (withTape k) _ (refuses-onto Refusal (withLoaded (tapePart k)) _ (tape-refuses _ _ _ q _))
   outcome-refuses (Request.Data q) = refuses-onto Refusal (withData k q _ _) _ (data-refuses _ q _ _ _)

@@ -82,7 +82,7 @@ aloneOn g d p c =
     }
 
 abbrev lentAlone : List ℕ → Lent
-lentAlone list = record { account = record { id = []; password = [] }; time = 0; room = 0; addresses = list; made = false }
+lentAlone list = record { accounts = []; challenge = []; time = 0; room = 0; addresses = list; made = false }
 
 abbrev dataStepped : Login → DataPart → Request → Ask → Step DataPart
 dataStepped g d q a = let b = judged (aloneOn g d restPart closedChanger) (lentAlone (a .addresses)) (a .request) q in record { sent = unstamped (b .reply); part = dataPart (b .next) }

@@ -7,7 +7,7 @@ use mathlib.Core.List.{List, []}
 use lib.ListN.{length, getD}
 use lib.Dec.{eqb}
 use borrow.Author.Tests.{eqb-true, ltb-false}
-use Rattle.codes.specs.Codes.{senseBytes, tcpAddress, mostLent, storeLength}
+use Rattle.codes.specs.Codes.{senseBytes, tcpAddress, textAuth, md5Auth, mostLent, storeLength, challengeLength}
 use Rattle.xdr.specs.Choose.{choose, least}
 use Rattle.xdr.proofs.Tests.{by-test, least-right, yes}
 use Rattle.wire_layouts.specs.AddressLists.{lendable}
@@ -35,14 +35,14 @@ use Rattle.rules_parts.specs.declared.types.Mover.{Mover}
 use Rattle.rules_parts.specs.declared.types.Tape.{Tape}
 use Rattle.rules_parts.specs.declared.types.Changer.{Changer}
 use Rattle.rules_parts.specs.declared.types.Login.{Login}
-use Rattle.rules.specs.Judge.{Accepts}
+use Rattle.rules.specs.Judge.{Outcome, Accepts}
 use Rattle.rules.specs.DataService.{hasRun, dataState, dataListen, dataStart, dataEnvironment, dataStop, dataStep, dataShown}
 use Rattle.rules.specs.MoverService.{moverState, moverListen, moverContinue, moverStop, setWindow, moverRead, setSize, moverStep}
 use Rattle.rules.specs.TapeService.{Loaded, tapeOpen, tapeClose, tapeState, tapeMtio, tapeWrite, tapeRead, deviceStep}
 use Rattle.rules.specs.ScsiService.{scsiOpen, scsiClear, scsiState, senseLength, runCdb, scsiCdb, scsiStep}
 use Rattle.rules.specs.Addresses.{listenWrong, listening}
 use Rattle.rules.specs.Joint.{dataConnect, moverConnect, dataAbort, moverAbort, moverClose, jointStep}
-use Rattle.rules.specs.Connection.{Account, connectOpen, clientAuth, connectStep, configStep}
+use Rattle.rules.specs.Connection.{connectOpen, clientAuth, connectStep, authAttributes, configStep}
 use Rattle.rules.proofs.JudgeLaws.{judged-by, accepts}
 
 sense-length : (cdb : List ℕ) (room : ℕ) → senseLength cdb room ≤ senseBytes
@@ -102,17 +102,22 @@ scsi-sends c ScsiRequest.State body = accepts Sends _ _ _ (λ _. tt)
 scsi-sends c ScsiRequest.Reset body = accepts Sends _ _ _ (λ _. tt)
 scsi-sends c (ScsiRequest.Cdb cdb room) body = judged-by Sends _ _ (λ _. run-sends c (bytesAt body cdb) room)
 
-pub connect-sends : (fresh : Bool) (g : Login) (a : Account) (q : ConnectRequest) (body : List ℕ) → Accepts Sends (connectStep fresh g a q body)
+pub connect-sends : (fresh : Bool) (g : Login) (a : List ℕ) (q : ConnectRequest) (body : List ℕ) → Accepts Sends (connectStep fresh g a q body)
 unfolding connectStep connectOpen clientAuth Sendable Accepts
 connect-sends fresh g a (ConnectRequest.Open version) body = accepts Sends _ _ _ (λ _. tt)
 connect-sends fresh g a (ConnectRequest.Auth id password) body = accepts Sends _ _ _ (λ _. tt)
+connect-sends fresh g a (ConnectRequest.Md5Auth id digest) body = accepts Sends _ _ _ (λ _. tt)
 connect-sends fresh g a ConnectRequest.OtherAuth body = tt
 connect-sends fresh g a ConnectRequest.Close body = tt
 
-pub config-sends : (g : Login) (q : ConfigRequest) → Accepts Sends (configStep g q)
-unfolding configStep Sendable Accepts
-config-sends g ConfigRequest.ConnectionType = tt
-config-sends g ConfigRequest.ServerInfo = tt
+-- of CONFIG, with the challenge that it is lent
+pub config-sends : (g : Login) (c : List ℕ) (q : ConfigRequest) → length c ≤ challengeLength → Accepts (λ r _. Sendable r c) (configStep g c q)
+unfolding configStep authAttributes Sendable Accepts
+config-sends g c ConfigRequest.ConnectionType h = tt
+config-sends g c (ConfigRequest.AuthAttributes type) h =
+    let P : Outcome Login → Type 0 = Accepts (λ r _. Sendable r c) in
+    by-test P (eqb type md5Auth) _ _ (λ _. h) (λ _. by-test P (eqb type textAuth) _ _ (λ _. tt) (λ _. tt))
+config-sends g c ConfigRequest.ServerInfo h = tt
 
 -- of the mover, with the list that it is lent
 pub mover-sends : (m : Mover) (t : Tape) (q : MoverRequest) (list : List ℕ) → Accepts (λ r _. Sendable r list) (moverStep m t q list)

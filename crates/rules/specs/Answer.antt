@@ -34,7 +34,7 @@ use Rattle.rules.specs.TapeService.{TapePart, tapeStep, moverPartStep}
 use Rattle.rules.specs.ScsiService.{scsiStep}
 use Rattle.rules.specs.declared.Ends.{Ends}
 use Rattle.rules.specs.Joint.{jointStep}
-use Rattle.rules.specs.Connection.{Account, connectStep, configStep}
+use Rattle.rules.specs.Connection.{connectStep, configStep}
 use Rattle.rules.specs.Relation.{keeps}
 
 -- what calls pass on: the session, the cartridge, and the store of the data end's environment
@@ -43,10 +43,11 @@ pub record Kept : Type 0 where
   pub image : List ℕ
   pub variables : List ℕ
 
--- what is lent with one call: the account, the time stamp, and the length of the output; the list that a listen by TCP answers; and whether the
--- connection of a connect by TCP was made
+-- what is lent with one call: the accounts, and the challenge that 0x103 gives; the time stamp, and the length of the output; the list that a listen by
+-- TCP answers; and whether the connection of a connect by TCP was made
 pub record Lent : Type 0 where
-  pub account : Account
+  pub accounts : List ℕ
+  pub challenge : List ℕ
   pub time : ℕ
   pub room : ℕ
   pub addresses : List ℕ
@@ -82,7 +83,7 @@ guarded s room idle x =
 unfoldable pub roomOf : Kept → Lent → ℕ
 roomOf k l = choose (eqb (length (k .variables)) storeLength) (l .room) 0
 
--- a reply to the record r, whose lent bytes, those of a read, a list of addresses or a store, lie in `shown`; k has the session with its next parts
+-- a reply to the record r, whose lent bytes, those of a read, a list of addresses, a challenge or a store, lie in `shown`; k has the session with its next parts
 abbrev pub replying : List ℕ → ℕ → Reply → List ℕ → Kept → Answered
 replying r time reply shown k =
     record {
@@ -137,8 +138,8 @@ withTape k p = withPart k (p .image) p
 abbrev pub withChanger : Kept → Changer → Done
 withChanger k c = let s = k .session in quietly (held (withParts s (s .login) (s .source) (s .mover) (s .tape) c) (k .image) (k .variables)) []
 
-abbrev pub withLogin : Kept → Login → Done
-withLogin k g = let s = k .session in quietly (held (withParts s g (s .source) (s .mover) (s .tape) (s .changer)) (k .image) (k .variables)) []
+abbrev pub withLogin : Kept → List ℕ → Login → Done
+withLogin k shown g = let s = k .session in quietly (held (withParts s g (s .source) (s .mover) (s .tape) (s .changer)) (k .image) (k .variables)) shown
 
 abbrev pub withEnds : Kept → Ends → Done
 withEnds k e =
@@ -157,8 +158,8 @@ requestIn r = decoded (messageIn r) (bodyOf r)
 unfoldable pub outcome : Kept → Lent → List ℕ → Request → Outcome Done
 outcome k l r Request.Unknown = refuse notSupported
 outcome k l r Request.Bad = refuse undecodable
-outcome k l r (Request.Connect q) = onto (withLogin k) (connectStep (k .session .first) (k .session .login) (l .account) q (bodyOf r))
-outcome k l r (Request.Config q) = onto (withLogin k) (configStep (k .session .login) q)
+outcome k l r (Request.Connect q) = onto (withLogin k []) (connectStep (k .session .first) (k .session .login) (l .accounts) q (bodyOf r))
+outcome k l r (Request.Config q) = onto (withLogin k (l .challenge)) (configStep (k .session .login) (l .challenge) q)
 outcome k l r (Request.Scsi q) = onto (withChanger k) (scsiStep (k .session .changer) q (bodyOf r))
 outcome k l r (Request.Tape q) = onto (withTape k) (tapeStep (tapePart k) q (bodyOf r))
 outcome k l r (Request.Data q) =
@@ -166,12 +167,13 @@ outcome k l r (Request.Data q) =
 outcome k l r (Request.Mover q) = onto (withPart k (l .addresses)) (moverPartStep (tapePart k) q (l .addresses))
 outcome k l r (Request.Joint q) = onto (withEnds k) (jointStep (k .session .source) (k .session .mover) (k .session .tape) q (l .made))
 
--- "4: before auth, all but CONNECT and 0x108"
+-- "4: before auth, all but CONNECT and 0x108"; 02 No. 2: "0x103 is answered before auth too"
 unfoldable pub needsLogin : Request → Bool
 needsLogin Request.Unknown = false
 needsLogin Request.Bad = false
 needsLogin (Request.Connect q) = false
 needsLogin (Request.Config ConfigRequest.ConnectionType) = true
+needsLogin (Request.Config (ConfigRequest.AuthAttributes type)) = false
 needsLogin (Request.Config ConfigRequest.ServerInfo) = false
 needsLogin (Request.Scsi q) = true
 needsLogin (Request.Tape q) = true
@@ -215,6 +217,7 @@ isClose Request.Unknown = false
 isClose Request.Bad = false
 isClose (Request.Connect (ConnectRequest.Open version)) = false
 isClose (Request.Connect (ConnectRequest.Auth id password)) = false
+isClose (Request.Connect (ConnectRequest.Md5Auth id digest)) = false
 isClose (Request.Connect ConnectRequest.OtherAuth) = false
 isClose (Request.Connect ConnectRequest.Close) = true
 isClose (Request.Config q) = false

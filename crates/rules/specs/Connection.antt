@@ -1,47 +1,57 @@
--- The requests of CONNECT and CONFIG (paper 01, "Connection"). They see what the connection knows of its client, and whether a request was
--- answered before; only auth changes the former.
+-- The requests of CONNECT and CONFIG (paper 01, "Connection"; 02 No. 2). They see what the connection knows of its client, and whether a request was
+-- answered before; only auth and 0x103 change the former.
 use Prim.Native.Nat.{ℕ}
 use mathlib.Core.Bool.{Bool, true, false, not}
 use mathlib.Core.List.{List, [], _∷_}
 use lib.Dec.{eqb}
-use Rattle.codes.specs.Codes.{versionFour, notAuthorized, illegalArguments, illegalState}
+use Rattle.codes.specs.Codes.{versionFour, textAuth, md5Auth, notAuthorized, illegalArguments, illegalState}
 use Rattle.xdr.specs.Choose.{choose}
-use Rattle.xdr.specs.Xdr.{sameBytes}
+use Rattle.wire_accounts.specs.Accounts.{entriesIn, textMatches, md5Matches, anyOf}
 use Rattle.wire_requests.specs.Within.{bytesAt}
 use Rattle.wire_requests.specs.declared.ConnectRequest.{ConnectRequest}
-use Rattle.wire_requests.specs.declared.ConnectRequest.the-variants.{Open, Auth, OtherAuth, Close}
+use Rattle.wire_requests.specs.declared.ConnectRequest.the-variants.{Open, Auth, Md5Auth, OtherAuth, Close}
 use Rattle.wire_requests.specs.declared.ConfigRequest.{ConfigRequest}
-use Rattle.wire_requests.specs.declared.ConfigRequest.the-variants.{ConnectionType, ServerInfo}
+use Rattle.wire_requests.specs.declared.ConfigRequest.the-variants.{ConnectionType, AuthAttributes, ServerInfo}
 use Rattle.wire_replies.specs.declared.Reply.the-variants as Reply
 use Rattle.rules_parts.specs.declared.types.Login.{Login}
+use Rattle.rules_parts.specs.Parts.{loggedIn, challengedBy}
 use Rattle.rules.specs.Judge.{test, Outcome, refuse, accept, judge}
-
--- an account
-pub record Account : Type 0 where
-  pub id : List ℕ
-  pub password : List ℕ
 
 -- "Open is legal as the first answered request only (else 19) and with version 4 only (else 9)."
 unfoldable pub connectOpen : Bool → Login → ℕ → Outcome Login
 connectOpen fresh g version =
     judge (test (not fresh) illegalState ∷ test (not (eqb version versionFour)) illegalArguments ∷ []) (accept Reply.Plain g)
 
--- "Auth type 1 (text) is compared with one lent account"
-unfoldable pub matches : List ℕ → List ℕ → Account → Bool
-matches id password a = choose (sameBytes id (a .id)) (sameBytes password (a .password)) false
+-- "The accounts grow to eight, each marked text or MD5; login by the other kind is a wrong password; where an id stands twice any entry may match":
+-- the id and the password of a text login, with the accounts as they are lent
+unfoldable pub rightText : List ℕ → List ℕ → List ℕ → Bool
+rightText accounts id password = anyOf (textMatches id password) (entriesIn accounts)
+
+-- the id and the digest of an MD5 login. "The newest challenge is the one judged"; "4 if no challenge was given"
+unfoldable pub rightDigest : Login → List ℕ → List ℕ → List ℕ → Bool
+rightDigest g accounts id digest = choose (g .challenged) (anyOf (md5Matches id (g .challenge) digest) (entriesIn accounts)) false
 
 -- "4: .. also a wrong id or password". A refusal leaves the session as it was, authorized or not.
-unfoldable pub clientAuth : Bool → Outcome Login
-clientAuth right = judge (test (not right) notAuthorized ∷ []) (accept Reply.Plain (record { authorized = true }))
+unfoldable pub clientAuth : Login → Bool → Outcome Login
+clientAuth g right = judge (test (not right) notAuthorized ∷ []) (accept Reply.Plain (loggedIn g))
 
--- the CONNECT step. "other types are 9". A close is accepted, and is not answered
-unfoldable pub connectStep : Bool → Login → Account → ConnectRequest → List ℕ → Outcome Login
-connectStep fresh g a (Open version) body = connectOpen fresh g version
-connectStep fresh g a (Auth id password) body = clientAuth (matches (bytesAt body id) (bytesAt body password) a)
-connectStep fresh g a OtherAuth body = refuse illegalArguments
-connectStep fresh g a Close body = accept Reply.Plain g
+-- the CONNECT step. "9 for a type other than 1 and 2". A close is accepted, and is not answered
+unfoldable pub connectStep : Bool → Login → List ℕ → ConnectRequest → List ℕ → Outcome Login
+connectStep fresh g accounts (Open version) body = connectOpen fresh g version
+connectStep fresh g accounts (Auth id password) body = clientAuth g (rightText accounts (bytesAt body id) (bytesAt body password))
+connectStep fresh g accounts (Md5Auth id digest) body = clientAuth g (rightDigest g accounts (bytesAt body id) (bytesAt body digest))
+connectStep fresh g accounts OtherAuth body = refuse illegalArguments
+connectStep fresh g accounts Close body = accept Reply.Plain g
 
--- the CONFIG step. "Server info gives empty strings before auth"
-unfoldable pub configStep : Login → ConfigRequest → Outcome Login
-configStep g ConnectionType = accept Reply.ConnectionTypes g
-configStep g ServerInfo = accept (Reply.ServerInfo (g .authorized)) g
+-- "the auth attribute request (0x103), which gives a 64-byte challenge that the host lends"; "9 for a type other than 1 and 2"
+unfoldable pub authAttributes : Login → List ℕ → ℕ → Outcome Login
+authAttributes g challenge type =
+    choose (eqb type md5Auth) (accept Reply.Challenge (challengedBy challenge g))
+    (choose (eqb type textAuth) (accept Reply.TextAuth g)
+    (refuse illegalArguments))
+
+-- the CONFIG step, with the challenge that is lent. "Server info gives empty strings before auth"
+unfoldable pub configStep : Login → List ℕ → ConfigRequest → Outcome Login
+configStep g challenge ConnectionType = accept Reply.ConnectionTypes g
+configStep g challenge (AuthAttributes type) = authAttributes g challenge type
+configStep g challenge ServerInfo = accept (Reply.ServerInfo (g .authorized)) g

@@ -1,4 +1,4 @@
--- What each number of a reply leaves, what a client that is not logged in is told, who becomes authorized, and what writes to the cartridge and to the store. It is said by
+-- What each number of a reply leaves, what a client that is not logged in is told, and what writes to the cartridge and to the store. It is said by
 -- the fields of the session, by the image and by what is sent, and not by the definitions of a call, so that these are held against it.
 use Prim.Native.Nat.{ℕ, _+_, _%_, _^_, _≤_}
 use mathlib.Core.Bool.{Bool, true, false}
@@ -6,7 +6,7 @@ use mathlib.Core.List.{List, [], _∷_, _++_}
 use mathlib.Core.Path.{_≡_}
 use lib.ListN.{length}
 use lib.Dec.{eqb}
-use Rattle.codes.specs.Codes.{longestRecord, notSupported, notAuthorized, ioError, illegalArguments, illegalState, undecodable, versionFour, atMark, atEnd, writeMarks}
+use Rattle.codes.specs.Codes.{longestRecord, notSupported, notAuthorized, ioError, illegalArguments, illegalState, undecodable, versionFour, textAuth, md5Auth, atMark, atEnd, writeMarks}
 use Rattle.xdr.specs.Choose.{choose}
 use Rattle.xdr.specs.Xdr.{be32}
 use Rattle.tape_image.specs.Image.{capacity, count, entryLen, faulty}
@@ -27,15 +27,17 @@ use Rattle.wire_requests.specs.declared.TapeRequest.the-variants as TapeRequest
 use Rattle.wire_requests.specs.declared.Request.{Request}
 use Rattle.wire_requests.specs.declared.Request.the-variants as Request
 use Rattle.wire_replies.specs.declared.Reply.{Reply}
-use Rattle.wire_replies.specs.Replies.{numberOf, headerError, replyBytes}
+use Rattle.wire_replies.specs.declared.Reply.the-variants.{ServerInfo}
+use Rattle.wire_replies.specs.Replies.{numberOf, headerError, bodyBytes, shapeOf, replyBytes}
 use Rattle.wire_replies.specs.Numbers.{placeOf, numberIn, bodyIn, bare}
 use Rattle.rules_parts.specs.declared.types.Session.{Session}
 use Rattle.rules_parts.specs.Names.{dataHalted, dataConnected, moverListening, moverActive}
-use Rattle.rules.specs.Connection.{matches}
+use Rattle.rules.specs.Connection.{rightText, rightDigest}
 use Rattle.rules.specs.Environment.{dumpBytes, Starts, Answering}
 use Rattle.rules.specs.Answer.{Kept, Lent, held, Answered, answered, requestIn}
-use Rattle.rules.specs.Order.{Call, run}
+use Rattle.rules.specs.Order.{isOneOf}
 use Rattle.rules.specs.Calls.{Heard}
+use Rattle.rules.specs.Login.{LoginHolds, OfControl, ControlLeaves, AttributesAsked}
 
 -- ---- what a number leaves
 -- n is k after one message more, with the "first request" mark gone and the tape at a position of which P holds, and nothing else changed
@@ -75,17 +77,20 @@ pub data InHeader : Request → ℕ → Type 0 where
   unknown-message : InHeader Request.Unknown notSupported
   bad-body : InHeader Request.Bad undecodable
 
--- "4: before auth, all but CONNECT and 0x108": the number of each request before login, 1 and 18 first
+-- "4: before auth, all but CONNECT and 0x108", and 0x103 of 02 No. 2: the number of each request before login, 1 and 18 first
 unfoldable pub beforeLogin : Kept → Lent → List ℕ → Request → ℕ
 beforeLogin k l r Request.Unknown = notSupported
 beforeLogin k l r Request.Bad = undecodable
 beforeLogin k l r (Request.Connect (ConnectRequest.Open version)) =
     choose (k .session .first) (choose (eqb version versionFour) 0 illegalArguments) illegalState
 beforeLogin k l r (Request.Connect (ConnectRequest.Auth id password)) =
-    choose (matches (bytesAt (bodyOf r) id) (bytesAt (bodyOf r) password) (l .account)) 0 notAuthorized
+    choose (rightText (l .accounts) (bytesAt (bodyOf r) id) (bytesAt (bodyOf r) password)) 0 notAuthorized
+beforeLogin k l r (Request.Connect (ConnectRequest.Md5Auth id digest)) =
+    choose (rightDigest (k .session .login) (l .accounts) (bytesAt (bodyOf r) id) (bytesAt (bodyOf r) digest)) 0 notAuthorized
 beforeLogin k l r (Request.Connect ConnectRequest.OtherAuth) = illegalArguments
 beforeLogin k l r (Request.Connect ConnectRequest.Close) = 0
 beforeLogin k l r (Request.Config ConfigRequest.ConnectionType) = notAuthorized
+beforeLogin k l r (Request.Config (ConfigRequest.AuthAttributes type)) = choose (isOneOf (textAuth ∷ md5Auth ∷ []) type) 0 illegalArguments
 beforeLogin k l r (Request.Config ConfigRequest.ServerInfo) = 0
 beforeLogin k l r (Request.Scsi q) = notAuthorized
 beforeLogin k l r (Request.Tape q) = notAuthorized
@@ -123,27 +128,6 @@ pub record Closes (k : Kept) (a : Answered) : Type 0 where
   pub changer : a .next .session .changer ≡ k .session .changer
   pub image : a .next .image ≡ k .image
   pub variables : a .next .variables ≡ k .variables
-
--- ---- who becomes authorized
--- a CONNECT auth of type 1 with the id and the password of the account that is lent with it
-pub record LogsIn (c : Call) : Type 0 where
-  pub id : Text
-  pub password : Text
-  pub request : requestIn (c .ask .request) ≡ Request.Connect (ConnectRequest.Auth id password)
-  pub same-id : bytesAt (bodyOf (c .ask .request)) id ≡ c .lent .account .id
-  pub same-password : bytesAt (bodyOf (c .ask .request)) password ≡ c .lent .account .password
-
-pub data Among (P : Call → Type 0) : List Call → Type 0 where
-  here : {c : Call} {cs : List Call} → P c → Among P (c ∷ cs)
-  later : {c : Call} {cs : List Call} → Among P cs → Among P (c ∷ cs)
-
-abbrev pub authorized : Kept → Bool
-authorized k = k .session .login .authorized
-
-pub record LoginHolds : Type 0 where
-  pub only : (k : Kept) (cs : List Call) → authorized k ≡ false → authorized (run k cs .last) ≡ true → Among LogsIn cs
-  pub stays : (k : Kept) (cs : List Call) → authorized k ≡ true → authorized (run k cs .last) ≡ true
-  pub enters : (k : Kept) (c : Call) → Heard k (c .lent) (c .ask .request) → LogsIn c → authorized (answered k (c .lent) (c .ask .request) .next) ≡ true
 
 -- ---- what writes to the cartridge
 -- a client that is logged in, with the tape open for writing and the mover neither in LISTEN nor ACTIVE
@@ -213,6 +197,13 @@ pub record CallsLeave : Type 0 where
       → Replied k l r (requestIn r) (answered k l r)
   pub closes : (k : Kept) (l : Lent) (r : List ℕ) → Heard k l r → requestIn r ≡ Request.Connect ConnectRequest.Close → Closes k (answered k l r)
   pub login : LoginHolds
+  -- CONNECT and CONFIG, accepted or refused, change the login at most, the counter and the mark, and send no notice
+  pub control : (k : Kept) (l : Lent) (r : List ℕ) → Heard k l r → OfControl (requestIn r) → ControlLeaves k (answered k l r)
+  -- 0x108, of any client: "Server info gives empty strings before auth"
+  pub info : (k : Kept) (l : Lent) (r : List ℕ) → Heard k l r → messageWord r ≡ 0x108 → length (bodyOf r) ≡ 0
+      → bodyIn (answered k l r .reply) ≡ bodyBytes (shapeOf (ServerInfo (k .session .login .authorized)) [])
+  -- 0x103, of any client, by its bytes
+  pub attributes : (k : Kept) (l : Lent) (r : List ℕ) → Heard k l r → messageWord r ≡ 0x103 → AttributesAsked k l r
   -- no request but TAPE write and MTIO 5 changes the image
   pub touched : (k : Kept) (l : Lent) (r : List ℕ) → Touched k (requestIn r) (bodyOf r) (answered k l r .next .image)
   pub writes : Writes

@@ -14,5 +14,6 @@ pub mod Promises
 pub mod Answer
 pub mod Order
 pub mod Calls
+pub mod Login
 pub mod Leaving
 pub mod Alike

@@ -94,7 +94,7 @@ pub record Call : Type 0 where
 
 -- "In demand 3 each listen is lent the same list in every order": what is lent with a call, and the list that its request has
 abbrev pub withList : Ask → Lent → Lent
-withList a l = record { account = l .account; time = l .time; room = l .room; addresses = a .addresses; made = l .made }
+withList a l = record { accounts = l .accounts; challenge = l .challenge; time = l .time; room = l .room; addresses = a .addresses; made = l .made }
 
 -- ws is made of the requests of xs, ys and zs, each list in its own order; each call is lent something of its own, but for the list of addresses
 pub data Merge : List Ask → List Ask → List Ask → List Call → Type 0 where

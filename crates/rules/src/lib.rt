@@ -43,7 +43,7 @@ pub fn calls_keep()
     ensures { λ r. ⌜ CallsKeep ⌝ }
 {}
 
-// No work: its contract is what every number of a reply leaves, who becomes authorized, and what writes to the cartridge and to the store.
+// No work: its contract is what every number of a reply leaves, who becomes authorized and by which challenge, and what writes to the cartridge and to the store.
 pub fn calls_leave()
     ensures { λ r. ⌜ CallsLeave ⌝ }
 {}

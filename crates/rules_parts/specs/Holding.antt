@@ -1,12 +1,14 @@
 -- What a change of a part leaves of it. The promises of requests (`Promises` of rules) are over these.
 use Prim.Native.Nat.{ℕ, _+_, _-_, _≤_, _<_}
 use mathlib.Core.Bool.{Bool, true, false}
+use mathlib.Core.List.{List}
 use mathlib.Core.Path.{_≡_}
 use Rattle.codes.specs.Codes.{localAddress, tcpAddress}
 use Rattle.rules_parts.specs.declared.types.Data.{Data}
 use Rattle.rules_parts.specs.declared.types.Mover.{Mover}
+use Rattle.rules_parts.specs.declared.types.Login.{Login}
 use Rattle.rules_parts.specs.Names.{top, endless}
-use Rattle.rules_parts.specs.Parts.{restData, dataTo, dataStarts, dataHalts, dataFed, restMover, moverListens, moverRuns, moverPauses, moverHalts, moverWindow}
+use Rattle.rules_parts.specs.Parts.{newSession, loggedIn, challengedBy, restData, dataTo, dataStarts, dataHalts, dataFed, restMover, moverListens, moverRuns, moverPauses, moverHalts, moverWindow}
 use Rattle.rules_parts.specs.Parts.{moverSize, moverSeeks, moverRecords, moverHands, windowEnd, lengthWrong, dataJoined, moverJoined, dataPartnered, moverPartnered, addressWrong}
 
 -- what has a type of address, and what keeps it
@@ -56,5 +58,10 @@ pub record PartsHold : Type 0 where
   -- 02 No. 1: "a window from the offset up to stream position 2^64 - 1, itself outside, whatever the record size"; every other as before
   pub ends : (offset : ℕ) → windowEnd offset endless ≡ top
   pub others : (offset length : ℕ) → (length ≡ endless → ⊥) → windowEnd offset length ≡ offset + length
+  -- 02 No. 2: "4 if no challenge was given": a new session is nobody's, and holds none; a login keeps the challenge, and a challenge the login
+  pub begun : (closed : Bool) (n : ℕ) → (newSession closed n .login .authorized ≡ false) × (newSession closed n .login .challenged ≡ false)
+  pub entered : (g : Login) → (loggedIn g .authorized ≡ true) × (loggedIn g .challenged ≡ g .challenged) × (loggedIn g .challenge ≡ g .challenge)
+  pub given : (c : List ℕ) (g : Login)
+      → (challengedBy c g .authorized ≡ g .authorized) × (challengedBy c g .challenged ≡ true) × (challengedBy c g .challenge ≡ c)
   -- "9 no longer tests this length or its sum"
   pub untested : (size offset : ℕ) → offset ≤ top → lengthWrong size offset endless ≡ false

@@ -1,8 +1,10 @@
 -- The states and codes of the session's parts, and the states that they begin with.
 use Prim.Native.Nat.{ℕ, _+_, _-_, _%_}
 use mathlib.Core.Bool.{Bool, true, false, not}
+use mathlib.Core.List.{List}
 use lib.Dec.{eqb, ltb}
-use Rattle.codes.specs.Codes.{localAddress, tcpAddress}
+use lib.ListN.{replicate}
+use Rattle.codes.specs.Codes.{localAddress, tcpAddress, challengeLength}
 use Rattle.xdr.specs.Choose.{choose}
 use Rattle.rules_parts.specs.declared.types.Data.{Data}
 use Rattle.rules_parts.specs.declared.types.Mover.{Mover}
@@ -27,9 +29,9 @@ closedTape = record { opened = false; writable = false; position = 0 }
 abbrev pub closedChanger : Changer
 closedChanger = record { opened = false; pending = false }
 
--- nobody has logged in
+-- nobody has logged in, and no challenge was given
 abbrev pub noLogin : Login
-noLogin = record { authorized = false }
+noLogin = record { authorized = false; challenged = false; challenge = replicate challengeLength 0 }
 
 -- a session with nothing in it yet but the first record size
 abbrev pub newSession : Bool → ℕ → Session
@@ -47,6 +49,15 @@ afterMessage s first =
 -- "Closing changes nothing else"
 abbrev pub shut : Session → Session
 shut s = record { closed = true; first = s .first; login = s .login; sequence = s .sequence; source = s .source; mover = s .mover; tape = s .tape; changer = s .changer }
+
+-- ---- changes of the login
+-- a login does not use the challenge up
+abbrev pub loggedIn : Login → Login
+loggedIn g = record { authorized = true; challenged = g .challenged; challenge = g .challenge }
+
+-- "The newest challenge is the one judged."
+abbrev pub challengedBy : List ℕ → Login → Login
+challengedBy challenge g = record { authorized = g .authorized; challenged = true; challenge = challenge }
 
 -- ---- changes of the data end
 -- it listens or is joined, by an address of a type

@@ -2,7 +2,7 @@
 // that takes the part and hands back the next. Below the definitions of requests, so that an edit of those does not prove this code again.
 ghost use mathlib.Core.Path.{_≡_};
 ghost use Prim.Native.Nat.{_+_, _≤_};
-ghost use Rattle.rules_parts.specs.Parts.{restData, dataTo, dataStarts, dataHalts, restMover, moverListens, moverRuns, moverPauses, moverHalts, moverWindow, moverSize, moverSeeks, dataFed, moverRecords, moverHands, newSession, withParts, afterMessage, shut, windowEnd, pastTop, lengthWrong, toldIn, dataJoined, moverJoined, dataPartnered, moverPartnered, addressWrong, holdsTape, unwritable};
+ghost use Rattle.rules_parts.specs.Parts.{loggedIn, challengedBy, restData, dataTo, dataStarts, dataHalts, restMover, moverListens, moverRuns, moverPauses, moverHalts, moverWindow, moverSize, moverSeeks, dataFed, moverRecords, moverHands, newSession, withParts, afterMessage, shut, windowEnd, pastTop, lengthWrong, toldIn, dataJoined, moverJoined, dataPartnered, moverPartnered, addressWrong, holdsTape, unwritable};
 ghost use Rattle.rules_parts.specs.Names.{NamesAre, top};
 ghost use Rattle.rules_parts.specs.Holding.{PartsHold};
 
@@ -476,6 +476,31 @@ impl Mover {
     }
 }
 
+impl Login {
+    // Has logged in; a login does not use the challenge up.
+    pub fn logged_in(self) -> Login
+        ensures { λ r. ⌜ r ≡ loggedIn self ⌝ }
+    {
+        let challenge = self.challenge;
+        Login {
+            authorized: true,
+            challenged: self.challenged,
+            challenge,
+        }
+    }
+
+    // Was given a challenge, which takes the place of the one before.
+    pub fn challenged_by(self, challenge: &[u8; 64]) -> Login
+        ensures { λ r. ⌜ r ≡ challengedBy (now (challenge .entry)) self ⌝ }
+    {
+        Login {
+            authorized: self.authorized,
+            challenged: true,
+            challenge: *challenge,
+        }
+    }
+}
+
 impl Session {
     // A session with nothing in it yet but the first record size.
     pub fn begins(closed: bool, sequence: u32) -> Session
@@ -484,7 +509,11 @@ impl Session {
         Session {
             closed,
             first: true,
-            login: Login { authorized: false },
+            login: Login {
+                authorized: false,
+                challenged: false,
+                challenge: [0; 64],
+            },
             sequence,
             source: Data::rests(),
             mover: Mover::at_rest(Mover::FIRST_SIZE),

@@ -44,10 +44,12 @@ pub struct Changer {
     pub pending: bool,
 }
 
-// What the connection knows of its client.
+// What the connection knows of its client: whether it has logged in; and the newest challenge that it was given, if one was.
 #[repr(C)]
 pub struct Login {
     pub authorized: bool,
+    pub challenged: bool,
+    pub challenge: [u8; 64],
 }
 
 // A session. First is set until a request has been answered; sequence is the number of the next message; source is the data end.

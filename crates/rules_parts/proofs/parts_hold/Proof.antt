@@ -38,6 +38,9 @@ returns c =
       mover-joined = mover-joined;
       ends = λ offset. end-endless offset endless refl;
       others = end-other;
+      begun = λ closed n. (refl, refl);
+      entered = λ g. (refl, refl, refl);
+      given = λ c g. (refl, refl, refl);
       untested = λ size offset h. right-length size offset endless (record { whole = λ n. absurd (n refl); starts = rw (end-endless offset endless refl) h; fits = rw (end-endless offset endless refl) (omega arith) });
     }
 
