@@ -1,7 +1,7 @@
 -- Where a recover stands, in all states of the mover, and that every call beside its moves keeps it there. Assumes nothing.
 use Prim.Native.Nat.{ℕ, _+_, _*_, _/_, _%_, _≤_, _<_}
 use mathlib.Core.Bool.{Bool, true, false}
-use mathlib.Core.List.{List}
+use mathlib.Core.List.{List, []}
 use mathlib.Core.Path.{_≡_, refl, sym, ap, _∙_}
 use native.Mathlib.Omega.{arith}
 use native.Mathlib.Nat.{mul-le-mul-right}
@@ -237,8 +237,8 @@ module _ (size asked end given : ℕ) (w : Kept) (a : Along size asked end given
     unfolding outcome note tapeStep moverPartStep Left DoneLeft Goes MoverGoes EndsGo askedAfter endAfter
     outcome-along Request.Unknown = refusal-says (DoneLeft Other) _
     outcome-along Request.Bad = refusal-says (DoneLeft Other) _
-    outcome-along (Request.Connect q) = off-mover (withLogin w) (λ _ _. a) _
-    outcome-along (Request.Config q) = off-mover (withLogin w) (λ _ _. a) _
+    outcome-along (Request.Connect q) = off-mover (withLogin w []) (λ _ _. a) _
+    outcome-along (Request.Config q) = off-mover (withLogin w (l .challenge)) (λ _ _. a) _
     outcome-along (Request.Scsi q) = off-mover (withChanger w) (λ _ _. a) _
     outcome-along (Request.Data q) = off-mover (withData w q _ _) (λ _ _. a) _
     outcome-along (Request.Tape q) =

@@ -1,7 +1,7 @@
 -- What a call does to the tape and the image: those beside the moves leave both, and a move to tape writes nothing or one record. Assumes nothing.
 use Prim.Native.Nat.{ℕ, _+_, _≤_}
 use mathlib.Core.Bool.{Bool, true, false}
-use mathlib.Core.List.{List}
+use mathlib.Core.List.{List, []}
 use mathlib.Core.Path.{_≡_, refl, ap, _∙_}
 use native.Mathlib.Omega.{arith}
 use lib.ListN.{length, take}
@@ -59,8 +59,8 @@ module _ (w : Kept) (l : Lent) (r : List ℕ) where
   request-stays : (q : Request) → requestIn r ≡ q → AsideRequest q w (answered w l r .next) → Untouched w (answered w l r .next)
   unfolding outcome moverPartStep Staying
   request-stays (Request.Tape q) e a = a
-  request-stays (Request.Connect q) e a = call-stays (rw e (off-tape (withLogin w) (λ _. record { position = refl; image = refl }) _))
-  request-stays (Request.Config q) e a = call-stays (rw e (off-tape (withLogin w) (λ _. record { position = refl; image = refl }) _))
+  request-stays (Request.Connect q) e a = call-stays (rw e (off-tape (withLogin w []) (λ _. record { position = refl; image = refl }) _))
+  request-stays (Request.Config q) e a = call-stays (rw e (off-tape (withLogin w (l .challenge)) (λ _. record { position = refl; image = refl }) _))
   request-stays (Request.Scsi q) e a = call-stays (rw e (off-tape (withChanger w) (λ _. record { position = refl; image = refl }) _))
   request-stays (Request.Data q) e a = call-stays (rw e (off-tape (withData w q _ _) (λ _. record { position = refl; image = refl }) _))
   request-stays (Request.Mover q) e a =

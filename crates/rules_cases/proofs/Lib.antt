@@ -1,2 +1,3 @@
--- `Cases` has the computed cases.
+-- `Cases` has the computed cases, `LoginCases` those of logins.
 pub mod Cases
+pub mod LoginCases

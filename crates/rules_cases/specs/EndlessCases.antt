@@ -6,7 +6,7 @@ use mathlib.Core.List.{List, [], _∷_, _++_}
 use mathlib.Core.Path.{_≡_}
 use lib.ListN.{take, replicate}
 use Rattle.rules_parts.specs.declared.types.Session.{Session}
-use Rattle.rules_parts.specs.Parts.{closedChanger}
+use Rattle.rules_parts.specs.Parts.{noLogin, loggedIn, closedChanger}
 use Rattle.rules.specs.Relation.{keeps}
 use Rattle.rules.specs.Answer.{held}
 use Rattle.rules_moves.specs.Cases.{CaseLine, Feed, Fetch, Case, Final, runCase, expect, allPlayed, allWanted, toTapeMode, fromTapeMode, noMode, eom, eof, seek, eow}
@@ -110,7 +110,7 @@ nearTop moved =
     record {
       closed = false;
       first = false;
-      login = record { authorized = true };
+      login = loggedIn noLogin;
       sequence = 9;
       source = record { state = 1; operation = backupRuns; reason = 0; address = 0; processed = moved };
       mover = record {

@@ -2,3 +2,4 @@ pub mod Examples
 pub mod EndlessCases
 pub mod FirstSizeCases
 pub mod EnvironmentCases
+pub mod LoginCases

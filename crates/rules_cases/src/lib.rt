@@ -1,9 +1,10 @@
-// Cases of whole sessions, computed: the examples of paper 01 and three more lists. They keep the definitions of requests and moves to the papers; what holds of
+// Cases of whole sessions, computed: the examples of paper 01 and four more lists. They keep the definitions of requests and moves to the papers; what holds of
 // moves, and the cases that try each wrong definition of one, are in `rules_moves`.
 ghost use Rattle.rules_cases.specs.Examples.{ExamplesHold};
 ghost use Rattle.rules_cases.specs.EndlessCases.{EndlessCasesHold};
 ghost use Rattle.rules_cases.specs.EnvironmentCases.{EnvironmentCasesHold};
 ghost use Rattle.rules_cases.specs.FirstSizeCases.{FirstSizeCasesHold};
+ghost use Rattle.rules_cases.specs.LoginCases.{LoginCasesHold};
 
 // No work: its contract is the examples of paper 01, cases a to j in one statement.
 pub fn examples_hold()
@@ -23,4 +24,9 @@ pub fn first_size_cases_hold()
 // No work: its contract is a list of cases of the environment, in one statement.
 pub fn environment_cases_hold()
     ensures { λ r. ⌜ EnvironmentCasesHold ⌝ }
+{}
+
+// No work: its contract is a list of cases of logins, by text and by MD5, in one statement.
+pub fn login_cases_hold()
+    ensures { λ r. ⌜ LoginCasesHold ⌝ }
 {}

@@ -363,8 +363,8 @@ module _ (w : Kept) (l : Lent) (r : List ℕ) where
   unfolding outcome Count
   outcome-counted Request.Unknown = refusal-says (λ _ (d : Done). Count (d .kept)) _
   outcome-counted Request.Bad = refusal-says (λ _ (d : Done). Count (d .kept)) _
-  outcome-counted (Request.Connect q) = off-source (withLogin w) (λ _ _. refl) _
-  outcome-counted (Request.Config q) = off-source (withLogin w) (λ _ _. refl) _
+  outcome-counted (Request.Connect q) = off-source (withLogin w []) (λ _ _. refl) _
+  outcome-counted (Request.Config q) = off-source (withLogin w (l .challenge)) (λ _ _. refl) _
   outcome-counted (Request.Scsi q) = off-source (withChanger w) (λ _ _. refl) _
   outcome-counted (Request.Tape q) = off-source (withTape w) (λ _ _. refl) _
   outcome-counted (Request.Mover q) = off-source (withPart w (l .addresses)) (λ _ _. refl) _
@@ -571,8 +571,8 @@ module _ (w : Kept) (l : Lent) (r : List ℕ) (z : Zero (w .session .source)) wh
   unfolding outcome ZeroKept ZeroEnds
   outcome-zero Request.Unknown = refusal-says (λ _ (d : Done). ZeroKept (d .kept)) _
   outcome-zero Request.Bad = refusal-says (λ _ (d : Done). ZeroKept (d .kept)) _
-  outcome-zero (Request.Connect q) = off-zero (withLogin w) (λ _. z) _
-  outcome-zero (Request.Config q) = off-zero (withLogin w) (λ _. z) _
+  outcome-zero (Request.Connect q) = off-zero (withLogin w []) (λ _. z) _
+  outcome-zero (Request.Config q) = off-zero (withLogin w (l .challenge)) (λ _. z) _
   outcome-zero (Request.Scsi q) = off-zero (withChanger w) (λ _. z) _
   outcome-zero (Request.Tape q) = off-zero (withTape w) (λ _. z) _
   outcome-zero (Request.Mover q) = off-zero (withPart w (l .addresses)) (λ _. z) _

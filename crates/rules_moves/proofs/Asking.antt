@@ -1,7 +1,7 @@
 -- What an accepted request leaves of the register is what it shows, which is no move, service by service; so of a call. Assumes nothing.
 use Prim.Native.Nat.{ℕ}
 use mathlib.Core.Bool.{Bool, true, false, not}
-use mathlib.Core.List.{List}
+use mathlib.Core.List.{List, []}
 use mathlib.Core.Path.{_≡_, refl, sym, ap}
 use lib.Dec.{eqb, ltb}
 use borrow.Author.Tests.{eqb-true}
@@ -194,8 +194,8 @@ module _ (k : Kept) (l : Lent) (r : List ℕ) where
   unfolding outcome asked tapeStep moverPartStep Left DoneLeft MoverShown DataShown EndsShown Shown after
   outcome-left Request.Unknown = refusal-says (DoneLeft Nothing) _
   outcome-left Request.Bad = refusal-says (DoneLeft Nothing) _
-  outcome-left (Request.Connect q) = aside (withLogin k) (λ _. (refl, tt)) _
-  outcome-left (Request.Config q) = aside (withLogin k) (λ _. (refl, tt)) _
+  outcome-left (Request.Connect q) = aside (withLogin k []) (λ _. (refl, tt)) _
+  outcome-left (Request.Config q) = aside (withLogin k (l .challenge)) (λ _. (refl, tt)) _
   outcome-left (Request.Scsi q) = aside (withChanger k) (λ _. (refl, tt)) _
   outcome-left (Request.Tape q) =
       carried (DoneLeft Nothing) (withTape k) _ (carried (λ reply p. DoneLeft Nothing reply (withTape k p)) (withLoaded (tapePart k)) _

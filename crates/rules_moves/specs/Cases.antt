@@ -76,12 +76,16 @@ pub record Ran : Type 0 where
   pub shown : Shown
   pub world : World
 
--- what is lent: the account `v`, `pw`; the time stamp; an output of 36,864 bytes
+-- what is lent: one text account, `v` and `pw`; no challenge; the time stamp; an output of 36,864 bytes
+abbrev pub oneAccount : List ℕ
+oneAccount =
+    0 ∷ 0 ∷ 0 ∷ 1 ∷ 0 ∷ 0 ∷ 0 ∷ 1 ∷ 0 ∷ 0 ∷ 0 ∷ 1 ∷ 0x76 ∷ 0 ∷ 0 ∷ 0 ∷ 0 ∷ 0 ∷ 0 ∷ 2 ∷ 0x70 ∷ 0x77 ∷ 0 ∷ 0 ∷ []
+
 abbrev pub stamp : ℕ
 stamp = 33
 
 abbrev pub lentWith : List ℕ → Bool → Lent
-lentWith list made = record { account = record { id = 0x76 ∷ []; password = 0x70 ∷ 0x77 ∷ [] }; time = stamp; room = 36864; addresses = list; made = made }
+lentWith list made = record { accounts = oneAccount; challenge = []; time = stamp; room = 36864; addresses = list; made = made }
 
 abbrev pub lending : Lent
 lending = lentWith [] false

@@ -9,10 +9,10 @@ use Rattle.rules.specs.Answer.{Kept, Lent, held, Answered, silent, guarded, hal
 use Rattle.rules_moves.specs.declared.Move.{Move}
 use Rattle.rules_moves.specs.Moves.{toTape, fromTape, methodEnd, madeAt, lostAt}
 
--- what is lent with these calls: a time stamp and the length of the output. No account, list or store is lent with a move, and none is looked at: the
--- store stays
+-- what is lent with these calls: a time stamp and the length of the output. No accounts, challenge, list or store is lent with a move, and none is looked
+-- at: the store stays
 abbrev pub stamped : ℕ → ℕ → Lent
-stamped time room = record { account = record { id = []; password = [] }; time = time; room = room; addresses = []; made = false }
+stamped time room = record { accounts = []; challenge = []; time = time; room = room; addresses = []; made = false }
 
 -- the code, the notices and what is passed on; the bytes taken or handed over; the destination
 pub record Moving : Type 0 where

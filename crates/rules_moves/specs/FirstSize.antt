@@ -21,7 +21,7 @@ use Rattle.rules.specs.Relation.{keeps}
 use Rattle.rules.specs.Answer.{Kept, Lent, held, Answered, answered, replying, requestIn, refusedIn}
 use Rattle.rules.specs.Order.{isOneOf}
 use Rattle.rules.specs.Calls.{opening, Heard}
-use Rattle.rules.specs.Leaving.{authorized}
+use Rattle.rules.specs.Login.{authorized}
 use Rattle.rules_moves.specs.Sequence.{Event, runs}
 
 -- ---- from a fresh session

@@ -12,3 +12,4 @@ pub mod TcpMoves
 pub mod FirstSize
 pub mod TcpCases
 pub mod StoreLeft
+pub mod SessionLeft

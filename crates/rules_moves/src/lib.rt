@@ -10,6 +10,7 @@ ghost use Rattle.rules_moves.specs.TcpCases.{TcpCasesHold};
 ghost use Rattle.rules_moves.specs.Apart.{TcpApart};
 ghost use Rattle.rules_moves.specs.TcpMoves.{TcpMoves};
 ghost use Rattle.rules_moves.specs.StoreLeft.{StoreLeft};
+ghost use Rattle.rules_moves.specs.SessionLeft.{SessionLeft};
 use rules_parts::types::Data;
 use rules_parts::types::Mover;
 use rules_parts::types::Tape;
@@ -87,4 +88,9 @@ pub fn tcp_moves()
 // No work: its contract is that calls that are not lent the store leave it.
 pub fn store_left()
     ensures { λ r. ⌜ StoreLeft ⌝ }
+{}
+
+// No work: its contract is that calls without a request leave the login, the marks of the session and the changer.
+pub fn session_left()
+    ensures { λ r. ⌜ SessionLeft ⌝ }
 {}

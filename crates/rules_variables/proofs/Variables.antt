@@ -46,7 +46,7 @@ use Rattle.rules.specs.Answer.{Kept, Lent, Answered, Done, silent, guarded, ans
 use Rattle.rules.specs.Answer.{withData, withPart, withTape, withChanger, withLogin, withEnds}
 use Rattle.rules.specs.Order.{Call, run}
 use Rattle.rules.specs.Calls.{Heard}
-use Rattle.rules.specs.Leaving.{authorized}
+use Rattle.rules.specs.Login.{authorized}
 use Rattle.rules.proofs.JudgeLaws.{judged-by, accepts, accepts-any, accepts-map, refusal-says, carried}
 use Rattle.rules.proofs.Guarding.{by-guard}
 use Rattle.rules.proofs.Calls.{noticed-holds, call-stored, heard}
@@ -222,8 +222,8 @@ module _ (Holds : List ℕ → Type 0) (D : Data → Type 0) where
     unfolding outcome Keeping KeepingDone tapeStep moverPartStep
     outcome-keeps k l r h e Request.Unknown o = refusal-says KeepingDone _
     outcome-keeps k l r h e Request.Bad o = refusal-says KeepingDone _
-    outcome-keeps k l r h e (Request.Connect q) o = off k (withLogin k) (λ _. h) _
-    outcome-keeps k l r h e (Request.Config q) o = off k (withLogin k) (λ _. h) _
+    outcome-keeps k l r h e (Request.Connect q) o = off k (withLogin k []) (λ _. h) _
+    outcome-keeps k l r h e (Request.Config q) o = off k (withLogin k (l .challenge)) (λ _. h) _
     outcome-keeps k l r h e (Request.Scsi q) o = off k (withChanger k) (λ _. h) _
     outcome-keeps k l r h e (Request.Tape q) o = off k (withTape k) (λ _. h) _
     outcome-keeps k l r h e (Request.Mover q) o = off k (withPart k (l .addresses)) (λ _. h) _
