@@ -2,8 +2,9 @@
  * functions of the static library `capi` (`tools/library`).
  *
  * No call asks anything of its caller but that each pointer leads to as many bytes as the length beside it says (a length of 0 may have any
- * pointer), and that no two buffers of a call overlap where one of them is written: image, variables, out and dest are written. Whatever the bytes
- * are, there is an answer. A call keeps nothing: the session goes in and comes back by value, and the buffers are the caller's again when it returns.
+ * pointer), the challenge, which has none beside it, to MOSSGOBLIN_CHALLENGE bytes, and that no two buffers of a call overlap where one of them is
+ * written: image, variables, out and dest are written. Whatever the bytes are, there is an answer. A call keeps nothing: the session goes in and
+ * comes back by value, and the buffers are the caller's again when it returns.
  * It needs no heap, and less than 4,096 bytes of stack beside arguments and answer (measured: README.md, Sizes).
  *
  * The code of every call is 0, 1001 or 1002, and comes before all else:
@@ -75,9 +76,15 @@ struct mossgoblin_changer {
     bool pending;
 };
 
-/* What the connection knows of its client; authorized is set by an accepted login, and stays. */
+/* The bytes of a challenge. */
+#define MOSSGOBLIN_CHALLENGE 64
+
+/* What the connection knows of its client: authorized is set by an accepted login, and stays; challenged is whether it was given a challenge, and challenge
+ * the newest one, by which a login by MD5 is judged. It is all zeros until then. No login, right or wrong, uses it up. */
 struct mossgoblin_login {
     bool authorized;
+    bool challenged;
+    uint8_t challenge[MOSSGOBLIN_CHALLENGE];
 };
 
 /* A session. Its fields may be read; a session is to be made by mossgoblin_open, and each call is to be handed what the last one gave. Between two calls
@@ -153,10 +160,29 @@ struct mossgoblin_addresses {
  * it lies. So a host that lends one store to several sessions in turn fills it with zeros before each, or a client is given what another left. */
 #define MOSSGOBLIN_STORE_LENGTH 16384
 
+/* The most accounts that mossgoblin_request may be lent. They are one buffer, in XDR (RFC 4506) and to its end:
+ *
+ *   count        a word: how many accounts follow, 0 to 8
+ *   and of each:
+ *     kind       a word: 1 text, 2 MD5
+ *     id         a string: a word with its length, its bytes, zeros up to a multiple of four
+ *     password   a string
+ *
+ * A login by text (CONNECT client auth of type 1) is compared with the accounts of kind 1 alone, one by MD5 (type 2) with those of kind 2 alone; an id may stand
+ * more than once, and then any of its accounts may match. A password of kind 2 that is empty or above 32 bytes never lets in. A buffer that is not laid out
+ * so (a ninth account, another kind, a fill byte that is not zero, bytes behind the last account or missing) has no accounts: nobody gets in, and that is no
+ * refusal of the call. */
+#define MOSSGOBLIN_MOST_ACCOUNTS 8
+
 /* A new session. The notice of the connection status is written to the output, as message number 1. With 1001 the session that comes back is closed. */
 struct mossgoblin_answer mossgoblin_open(uint32_t time, uint8_t *out, size_t out_len);
 
-/* One request: `input` is one whole record, the mark with it, of any bytes. `id` and `password` are the account that a text login is compared with.
+/* One request: `input` is one whole record, the mark with it, of any bytes. `accounts` is whom a login may let in, as above.
+ *
+ * `challenge` leads to MOSSGOBLIN_CHALLENGE bytes that a client which asks for the auth attributes of MD5 (0x103 of type 2) is given. That request alone looks
+ * at them, and where it is accepted the session keeps them, as the newest challenge. They are to come from the system's randomness, fresh with each call, and
+ * are never to be lent again: whoever has seen a login by MD5 can repeat it wherever the same challenge is given. A login by MD5 before any challenge is
+ * refused with 4, as one with a wrong id or digest is.
  *
  * `addresses` is what a listen by TCP answers: an XDR list, without the word of the type before it: a count, and of each address host, port, a count of pairs
  * and the pairs. The host has a port open at each of them. One that does not decode, has no address, more than 16, a port above 65,535 or more than 64 pairs,
@@ -172,8 +198,8 @@ struct mossgoblin_answer mossgoblin_open(uint32_t time, uint8_t *out, size_t out
  * mover, at the tape's position, and only after login, with the tape open for writing and the mover neither in LISTEN nor ACTIVE. A refused request leaves all
  * but the message counter and the "first request" mark, also at a login. A badly framed record closes the session without a reply, and so does an accepted
  * CONNECT close; a message that is no request is ignored. Everything else is answered: one reply, then its notices. */
-struct mossgoblin_answer mossgoblin_request(struct mossgoblin_session session, const uint8_t *id, size_t id_len, const uint8_t *password,
-                                            size_t password_len, const uint8_t *addresses, size_t addresses_len, bool made,
+struct mossgoblin_answer mossgoblin_request(struct mossgoblin_session session, const uint8_t *accounts, size_t accounts_len,
+                                            const uint8_t *challenge, const uint8_t *addresses, size_t addresses_len, bool made,
                                             uint8_t *image, size_t image_len, uint8_t *variables, size_t variables_len,
                                             const uint8_t *input, size_t input_len, uint32_t time, uint8_t *out, size_t out_len);
 

@@ -1,6 +1,6 @@
-/* A backup of 3,000 bytes in records of 1,024, from C: the examples g, h and i of the rules, with a variable that is given back. Then ends by TCP: a record
- * that comes to the mover from a peer, and a data end that connects to one, with more variables than fit. Each step is checked, and the first that is not as
- * the rules say ends the program with 1. */
+/* A login by MD5. Then a backup of 3,000 bytes in records of 1,024, from C: the examples g, h and i of the rules, with a login by text and with a variable that
+ * is given back. Then ends by TCP: a record that comes to the mover from a peer, and a data end that connects to one, with more variables than fit. Each step
+ * is checked, and the first that is not as the rules say ends the program with 1. */
 #include "../../include/mossgoblin.h"
 #include "wire.h"
 
@@ -35,8 +35,8 @@ static size_t ask_lent(const char *what, uint32_t error, const uint8_t *list, si
 {
     static uint8_t record[28 + 4 * LONG_BODY];
     size_t n = put_request(record, message, body, words);
-    struct mossgoblin_answer a = mossgoblin_request(session, (const uint8_t *)"v", 1, (const uint8_t *)"pw", 2, list, list_len, made, image,
-                                                    sizeof image, variables, sizeof variables, record, n, 0, out, sizeof out);
+    struct mossgoblin_answer a = mossgoblin_request(session, accounts, sizeof accounts, given_challenge, list, list_len, made, image, sizeof image,
+                                                    variables, sizeof variables, record, n, 0, out, sizeof out);
     check(a.code == 0 && a.len >= 32 && word(out + 24) == 0 && word(out + 28) == error, what);
     session = a.session;
     return a.len;
@@ -53,6 +53,30 @@ static size_t ask(const char *what, uint32_t message, const uint32_t *body, size
         const uint32_t body[] = {__VA_ARGS__};                                      \
         ask(what, message, body, sizeof body / sizeof *body);                       \
     } while (0)
+
+/* The bytes of a login by MD5 that a real client sent, in a session of its own: refused before a challenge, and right with the one that it was given. */
+static void by_md5(void)
+{
+    const uint32_t login[] = {MD5_LOGIN}, by_md5[] = {2}, by_text[] = {1}, by_three[] = {3}, text_of_md5[] = {1, 4, 0x6E646D70, 4, 0x6E646D70};
+    uint32_t wrong[] = {MD5_LOGIN};
+    session = mossgoblin_open(0, out, sizeof out).session;
+    check(!session.login.authorized && !session.login.challenged, "a new session has no login, and no challenge");
+    ask_lent("client auth by MD5 before a challenge is 4", 4, NULL, 0, false, 0x901, login, 7);
+    size_t n = ask("auth attributes of type 1", 0x103, by_text, 1);
+    check(n == 36 && word(out + 32) == 1 && !session.login.challenged, "they are the type alone");
+    n = ask_lent("auth attributes of type 3 are 9", 9, NULL, 0, false, 0x103, by_three, 1);
+    check(n == 36 && word(out + 32) == 0, "with no type");
+    n = ask("auth attributes of type 2", 0x103, by_md5, 1);
+    check(n == 36 + MOSSGOBLIN_CHALLENGE && word(out + 32) == 2 && memcmp(out + 36, given_challenge, MOSSGOBLIN_CHALLENGE) == 0,
+          "they are the type, and the challenge that was lent");
+    check(session.login.challenged && memcmp(session.login.challenge, given_challenge, MOSSGOBLIN_CHALLENGE) == 0, "the session keeps it");
+    wrong[6] ^= 1;
+    ask_lent("client auth by MD5 with another digest is 4", 4, NULL, 0, false, 0x901, wrong, 7);
+    ask_lent("client auth by text of an account by MD5 is 4", 4, NULL, 0, false, 0x901, text_of_md5, 5);
+    check(!session.login.authorized && session.login.challenged, "nobody has logged in, and the challenge stays");
+    ask("client auth by MD5", 0x901, login, 7);
+    check(session.login.authorized, "the client has logged in");
+}
 
 static struct mossgoblin_moved feed(const uint8_t *stream, size_t n, bool last)
 {
@@ -187,6 +211,7 @@ int main(void)
         stream[i] = i % 251;
     put_word(image, 1);
     put_word(image + 4, 4);
+    by_md5();
 
     struct mossgoblin_answer a = mossgoblin_open(0, out, sizeof out - 1);
     check(a.code == 1001 && a.len == 0 && a.session.closed, "open: a short output is refused");
@@ -238,7 +263,7 @@ int main(void)
     data_by_tcp();
     a = mossgoblin_made(session, true, 0, out, sizeof out - 1);
     check(a.code == 1001 && a.len == 0 && a.session.source.state == 0, "made: a short output is refused");
-    a = mossgoblin_request(session, NULL, 0, NULL, 0, NULL, 0, false, image, sizeof image, variables, sizeof variables - 1, NULL, 0, 0, out, sizeof out);
+    a = mossgoblin_request(session, NULL, 0, given_challenge, NULL, 0, false, image, sizeof image, variables, sizeof variables - 1, NULL, 0, 0, out, sizeof out);
     check(a.code == 1001 && a.len == 0 && !a.session.closed, "request: a store of another length is refused, before a record that would close the session");
     session.mover.address = 1;
     a = mossgoblin_lost(session, true, 0, out, sizeof out);

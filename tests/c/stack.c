@@ -20,11 +20,10 @@ static struct mossgoblin_session session;
 
 /* ---- a call, or one of the same form that does nothing: what both use is the caller's */
 #pragma GCC diagnostic ignored "-Wunused-parameter"
-static struct mossgoblin_answer no_request(struct mossgoblin_session s, const uint8_t *id, size_t id_len,
-                                           const uint8_t *password, size_t password_len, const uint8_t *list,
-                                           size_t list_len, bool made, uint8_t *i, size_t i_len, uint8_t *v, size_t v_len,
-                                           const uint8_t *input, size_t input_len, uint32_t time, uint8_t *o,
-                                           size_t o_len)
+static struct mossgoblin_answer no_request(struct mossgoblin_session s, const uint8_t *a, size_t a_len,
+                                           const uint8_t *challenge, const uint8_t *list, size_t list_len, bool made,
+                                           uint8_t *i, size_t i_len, uint8_t *v, size_t v_len, const uint8_t *input,
+                                           size_t input_len, uint32_t time, uint8_t *o, size_t o_len)
 {
     return (struct mossgoblin_answer){0};
 }
@@ -70,8 +69,8 @@ static struct mossgoblin_addresses given;
 
 static void do_request(void)
 {
-    answer = request(session, (const uint8_t *)"v", 1, (const uint8_t *)"pw", 2, list, sizeof list, true, image,
-                     image_len, variables, sizeof variables, record, record_len, 0, out, sizeof out);
+    answer = request(session, accounts, sizeof accounts, given_challenge, list, sizeof list, true, image, image_len,
+                     variables, sizeof variables, record, record_len, 0, out, sizeof out);
 }
 
 static void do_event(void)
@@ -269,6 +268,8 @@ static void log_in(void)
     ASK(0x900, 4);
     ASK(0x108);
     ASK(0x901, 1, 1, 0x76000000, 2, 0x70770000);
+    ASK(0x103, 2);
+    ASK(0x901, MD5_LOGIN);
     ASK(0x102);
     ASK(0x108);
     make_table(4);

@@ -216,43 +216,53 @@ fn joint_call(
     }
 }
 
-// What CONNECT or CONFIG came to, answered.
-fn login_call(s: Session, done: LoginDone, input: &[u8], time: u32, out: &mut [u8]) -> Answer
-    requires { ⌜ Ready (now input) (now out) × Accepts Sends (outcomeOf done) ⌝ }
-    ensures { λ r. ⌜ ((image variables : List ℕ) (q : Request) → isUnread q ≡ false → CallTold (settled (held s image variables) time (now (input .entry)) q (onto (withLogin (held s image variables)) (outcomeOf done))) r image variables (now (out .entry)) (now (out .exit))) ⌝ }
+// What CONNECT or CONFIG came to, answered: the challenge is what a client may be given, and shown what the reply may show.
+fn login_call(
+    s: Session,
+    done: LoginDone,
+    challenge: &[u8; 64],
+    shown: &[u8],
+    input: &[u8],
+    time: u32,
+    out: &mut [u8],
+) -> Answer
+    requires { ⌜ Ready (now input) (now out) × Accepts (Sends (now shown)) (outcomeOf (s .login) (now challenge) done) ⌝ }
+    ensures { λ r. ⌜ ((image variables : List ℕ) (q : Request) → isUnread q ≡ false → CallTold (settled (held s image variables) time (now (input .entry)) q (onto (withLogin (held s image variables) (now (shown .entry))) (outcomeOf (s .login) (now (challenge .entry)) done))) r image variables (now (out .entry)) (now (out .exit))) ⌝ }
 {
     match done {
         LoginDone::Refuse(e) => call_sending::refuse(s, e, input, time, out),
-        LoginDone::Accept(reply, next) => {
+        LoginDone::Accept(reply, change) => {
+            let g = s.login;
+            let next = serve_connect::changed(g, challenge, change);
             let d = s.source;
             let m = s.mover;
             let t = s.tape;
             let c = s.changer;
             let session = s.with_parts(next, d, m, t, c);
-            call_sending::finish(session, input, time, reply, b"", out)
+            call_sending::finish(session, input, time, reply, shown, out)
         }
     }
 }
 
-// CONNECT; an accepted close has no reply.
+// CONNECT; an accepted close has no reply. It gives no challenge, so it may be handed any.
 fn connect_call(
     s: Session,
     q: ConnectRequest,
-    id: &[u8],
-    password: &[u8],
+    accounts: &[u8],
+    challenge: &[u8; 64],
     input: &[u8],
     time: u32,
     out: &mut [u8],
 ) -> Answer
     requires { ⌜ Ready (now input) (now out) × textsWithin (bodyOf (now input)) (Request.Connect q) ⌝ }
-    ensures { λ r. ⌜ ((image variables : List ℕ) → CallTold (choose (isClose (Request.Connect q)) (closing (held s image variables)) (settled (held s image variables) time (now (input .entry)) (Request.Connect q) (onto (withLogin (held s image variables)) (connectStep (s .first) (s .login) (record { id = now (id .entry); password = now (password .entry) }) q (bodyOf (now (input .entry))))))) r image variables (now (out .entry)) (now (out .exit))) ⌝ }
+    ensures { λ r. ⌜ ((image variables : List ℕ) → CallTold (choose (isClose (Request.Connect q)) (closing (held s image variables)) (settled (held s image variables) time (now (input .entry)) (Request.Connect q) (onto (withLogin (held s image variables) []) (connectStep (s .first) (s .login) (now (accounts .entry)) q (bodyOf (now (input .entry))))))) r image variables (now (out .entry)) (now (out .exit))) ⌝ }
 {
     if serve_connect::is_close(q) {
         return call_sending::shut(s);
     }
     let g = s.login;
-    let done = serve_connect::serve(s.first, g, q, &input[28..], id, password);
-    login_call(s, done, input, time, out)
+    let done = serve_connect::serve(s.first, g, q, &input[28..], accounts);
+    login_call(s, done, challenge, b"", input, time, out)
 }
 
 // A record that is no request of any service, refused in the header.
@@ -267,8 +277,8 @@ fn header_call(s: Session, error: u32, input: &[u8], time: u32, out: &mut [u8]) 
 fn serve_call(
     s: Session,
     q: Request,
-    id: &[u8],
-    password: &[u8],
+    accounts: &[u8],
+    challenge: &[u8; 64],
     addresses: &[u8],
     made: bool,
     image: &mut [u8],
@@ -278,14 +288,14 @@ fn serve_call(
     out: &mut [u8],
 ) -> Answer
     requires { ⌜ Ready (now input) (now out) × textsWithin (bodyOf (now input)) q × (length (now variables) ≡ storeLength) ⌝ }
-    ensures { λ r. ⌜ CallTold (choose (isClose q) (closing (held s (now (image .entry)) (now (variables .entry)))) (settled (held s (now (image .entry)) (now (variables .entry))) time (now (input .entry)) q (outcome (held s (now (image .entry)) (now (variables .entry))) (lent (now (id .entry)) (now (password .entry)) (now (addresses .entry)) made time (now (out .entry))) (now (input .entry)) q))) r (now (image .exit)) (now (variables .exit)) (now (out .entry)) (now (out .exit)) ⌝ }
+    ensures { λ r. ⌜ CallTold (choose (isClose q) (closing (held s (now (image .entry)) (now (variables .entry)))) (settled (held s (now (image .entry)) (now (variables .entry))) time (now (input .entry)) q (outcome (held s (now (image .entry)) (now (variables .entry))) (lent (now (accounts .entry)) (now (challenge .entry)) (now (addresses .entry)) made time (now (out .entry))) (now (input .entry)) q))) r (now (image .exit)) (now (variables .exit)) (now (out .entry)) (now (out .exit)) ⌝ }
 {
     match q {
-        Request::Connect(x) => connect_call(s, x, id, password, input, time, out),
+        Request::Connect(x) => connect_call(s, x, accounts, challenge, input, time, out),
         Request::Config(x) => {
             let g = s.login;
             let done = serve_connect::config(g, x);
-            login_call(s, done, input, time, out)
+            login_call(s, done, challenge, challenge, input, time, out)
         }
         Request::Scsi(x) => scsi_call(s, x, input, time, out),
         Request::Tape(x) => tape_call(s, x, image, input, time, out),
@@ -301,8 +311,8 @@ fn serve_call(
 fn framed_call(
     s: Session,
     message: u32,
-    id: &[u8],
-    password: &[u8],
+    accounts: &[u8],
+    challenge: &[u8; 64],
     addresses: &[u8],
     made: bool,
     image: &mut [u8],
@@ -312,7 +322,7 @@ fn framed_call(
     out: &mut [u8],
 ) -> Answer
     requires { ⌜ Ready (now input) (now out) × (message ≡ word (now input) 16) × (length (now variables) ≡ storeLength) ⌝ }
-    ensures { λ r. ⌜ CallTold (judged (held s (now (image .entry)) (now (variables .entry))) (lent (now (id .entry)) (now (password .entry)) (now (addresses .entry)) made time (now (out .entry))) (now (input .entry)) (requestIn (now (input .entry)))) r (now (image .exit)) (now (variables .exit)) (now (out .entry)) (now (out .exit)) ⌝ }
+    ensures { λ r. ⌜ CallTold (judged (held s (now (image .entry)) (now (variables .entry))) (lent (now (accounts .entry)) (now (challenge .entry)) (now (addresses .entry)) made time (now (out .entry))) (now (input .entry)) (requestIn (now (input .entry)))) r (now (image .exit)) (now (variables .exit)) (now (out .entry)) (now (out .exit)) ⌝ }
 {
     let row = wire_frame::row_of(message);
     let kind = row.kind;
@@ -324,8 +334,8 @@ fn framed_call(
     serve_call(
         s,
         q,
-        id,
-        password,
+        accounts,
+        challenge,
         addresses,
         made,
         image,
@@ -343,12 +353,12 @@ pub fn open(time: u32, out: &mut [u8]) -> Answer
     call_sending::begin(time, out)
 }
 
-// One request: the session, the account's id and password, the list that a listen by TCP answers, whether the connection of a connect by TCP
-// was made, the cartridge, the store of the environment, the record, the time stamp and the output.
+// One request: the session, the accounts, the challenge to give a client that asks for one, the list that a listen by TCP answers, whether the
+// connection of a connect by TCP was made, the cartridge, the store of the environment, the record, the time stamp and the output.
 pub fn request(
     s: Session,
-    id: &[u8],
-    password: &[u8],
+    accounts: &[u8],
+    challenge: &[u8; 64],
     addresses: &[u8],
     made: bool,
     image: &mut [u8],
@@ -357,7 +367,7 @@ pub fn request(
     time: u32,
     out: &mut [u8],
 ) -> Answer
-    ensures { λ r. ⌜ CallTold (answered (held s (now (image .entry)) (now (variables .entry))) (lent (now (id .entry)) (now (password .entry)) (now (addresses .entry)) made time (now (out .entry))) (now (input .entry))) r (now (image .exit)) (now (variables .exit)) (now (out .entry)) (now (out .exit)) ⌝ }
+    ensures { λ r. ⌜ CallTold (answered (held s (now (image .entry)) (now (variables .entry))) (lent (now (accounts .entry)) (now (challenge .entry)) (now (addresses .entry)) made time (now (out .entry))) (now (input .entry))) r (now (image .exit)) (now (variables .exit)) (now (out .entry)) (now (out .exit)) ⌝ }
 {
     let room = room_of(variables.len(), out.len());
     let guard = serve_relation::guard(s, room);
@@ -374,8 +384,8 @@ pub fn request(
             framed_call(
                 s,
                 message,
-                id,
-                password,
+                accounts,
+                challenge,
                 addresses,
                 made,
                 image,

@@ -26,13 +26,13 @@ pub extern "C" fn mossgoblin_open(time: u32, out: &mut [u8]) -> Answer
     call_request::open(time, out)
 }
 
-// One request: the session, the account's id and password, the list of addresses for a listen by TCP, whether the connection of a connect by TCP was
-// made, the cartridge, the store of the environment, the record, the time stamp and the output.
+// One request: the session, the accounts, the challenge for a client that asks for one, the list of addresses for a listen by TCP, whether the
+// connection of a connect by TCP was made, the cartridge, the store of the environment, the record, the time stamp and the output.
 #[no_mangle]
 pub extern "C" fn mossgoblin_request(
     s: Session,
-    id: &[u8],
-    password: &[u8],
+    accounts: &[u8],
+    challenge: &[u8; 64],
     addresses: &[u8],
     made: bool,
     image: &mut [u8],
@@ -41,12 +41,12 @@ pub extern "C" fn mossgoblin_request(
     time: u32,
     out: &mut [u8],
 ) -> Answer
-    ensures { λ r. ⌜ CallTold (answered (held s (now (image .entry)) (now (variables .entry))) (lent (now (id .entry)) (now (password .entry)) (now (addresses .entry)) made time (now (out .entry))) (now (input .entry))) r (now (image .exit)) (now (variables .exit)) (now (out .entry)) (now (out .exit)) ⌝ }
+    ensures { λ r. ⌜ CallTold (answered (held s (now (image .entry)) (now (variables .entry))) (lent (now (accounts .entry)) (now (challenge .entry)) (now (addresses .entry)) made time (now (out .entry))) (now (input .entry))) r (now (image .exit)) (now (variables .exit)) (now (out .entry)) (now (out .exit)) ⌝ }
 {
     call_request::request(
         s,
-        id,
-        password,
+        accounts,
+        challenge,
         addresses,
         made,
         image,

@@ -10,6 +10,14 @@ use rules_parts::types::Session;
 // 1,700,000,000 seconds
 const TIME: u32 = 0x6553F100;
 
+// The accounts that are lent: vault with the password noon by text, ndmp with the password ndmp by MD5.
+const ACCOUNTS: [u8; 48] =
+    *b"\x00\x00\x00\x02\x00\x00\x00\x01\x00\x00\x00\x05vault\x00\x00\x00\x00\x00\x00\x04noon\x00\x00\x00\x02\x00\x00\x00\x04ndmp\x00\x00\x00\x04ndmp";
+
+// The challenge that is lent: one that a real client was given.
+const CHALLENGE: [u8; 64] =
+    *b"\x2e\xed\x00\xe8\xd2\x95\x7f\x8e\xd9\x5a\xb2\x5e\xe6\x4e\xa7\x8a\x79\xa4\x17\x13\xde\x18\xe9\xf9\x6d\xeb\x0b\x69\x16\xd6\x02\x43\xa9\x6c\x5d\x5d\x70\xf8\xc0\x63\x72\x56\xa9\xa0\xab\x69\x72\x6e\x80\xe6\x64\x7e\x2f\x90\xaa\x14\xe7\x62\x10\x9a\x23\xce\x7e\xf2";
+
 // The code of an answer and the bytes sent.
 fn show(code: u32, len: usize, out: &[u8]) {
     put_number(b": ", code as u64);
@@ -34,8 +42,8 @@ fn ask(s: Session, image: &mut [u8], store: &mut [u8], input: &[u8]) -> Session 
     let mut out = [0u8; codes::LARGEST_MESSAGE];
     let a = call_request::request(
         s,
-        b"vault",
-        b"noon",
+        &ACCOUNTS,
+        &CHALLENGE,
         b"",
         false,
         image,

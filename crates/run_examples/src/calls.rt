@@ -35,14 +35,42 @@ pub fn ask(
     answer(s, image, store, &record[..end])
 }
 
-// A record, and the body of its reply. A list of one address is lent, 127.0.0.1 and port 10,000: only a listen by TCP looks at it.
+// A record, and the body of its reply. A list of one address is lent, 127.0.0.1 and port 10,000: only a listen by TCP looks at it; and one account, v with the
+// password pw by text. The challenge is zeros, since nothing here asks for it.
 fn answer(s: Session, image: &mut [u8], store: &mut [u8], record: &[u8]) -> Session {
     let mut out = [0u8; codes::LARGEST_MESSAGE];
     let list = [0, 0, 0, 1, 127, 0, 0, 1, 0, 0, 39, 16, 0, 0, 0, 0];
+    let accounts = [
+        0,
+        0,
+        0,
+        1,
+        0,
+        0,
+        0,
+        1,
+        0,
+        0,
+        0,
+        1,
+        118,
+        0,
+        0,
+        0,
+        0,
+        0,
+        0,
+        2,
+        112,
+        119,
+        0,
+        0,
+    ];
+    let challenge = [0u8; 64];
     let a = call_request::request(
         s,
-        b"v",
-        b"pw",
+        &accounts,
+        &challenge,
         &list,
         false,
         image,

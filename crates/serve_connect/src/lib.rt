@@ -1,11 +1,13 @@
 // The requests of CONNECT and CONFIG, and what asks for a login.
 ghost use mathlib.Core.Path.{_≡_};
-ghost use Rattle.xdr.specs.Xdr.{sameBytes};
+ghost use mathlib.Core.List.{List};
+ghost use Prim.Native.Nat.{ℕ};
 ghost use Rattle.wire_requests.specs.Within.{bytesAt, Within, textsWithin};
 ghost use Rattle.wire_requests.specs.declared.Request.the-variants as Request;
-ghost use Rattle.rules.specs.Connection.{Account, connectOpen, matches, clientAuth, connectStep, configStep};
+ghost use Rattle.rules_parts.specs.declared.types.Login.{Login};
+ghost use Rattle.rules.specs.Connection.{connectOpen, rightText, rightDigest, clientAuth, connectStep, authAttributes, configStep};
 ghost use Rattle.rules.specs.Answer.{needsLogin, isLocked, isClose};
-ghost use Rattle.serve_connect.specs.Done.{outcomeOf};
+ghost use Rattle.serve_connect.specs.Done.{changed, outcomeOf};
 use rules_parts::types::Login;
 use wire_layouts::Text;
 use wire_replies::Reply;
@@ -13,15 +15,33 @@ use wire_requests::ConfigRequest;
 use wire_requests::ConnectRequest;
 use wire_requests::Request;
 
-// A refusal, or a reply and what the connection knows after it.
+// What a request changes of what the connection knows. It stands for the login after it, since no enum holds an array.
+pub enum LoginChange {
+    Nothing,
+    LoggedIn,
+    Challenged,
+}
+
+// A refusal, or a reply and what changes with it.
 pub enum LoginDone {
     Refuse(u32),
-    Accept(Reply, Login),
+    Accept(Reply, LoginChange),
+}
+
+// What the connection knows after a change, with the challenge that was lent.
+pub fn changed(g: Login, challenge: &[u8; 64], change: LoginChange) -> Login
+    ensures { λ r. ⌜ r ≡ changed g (now (challenge .entry)) change ⌝ }
+{
+    match change {
+        LoginChange::Nothing => g,
+        LoginChange::LoggedIn => g.logged_in(),
+        LoginChange::Challenged => g.challenged_by(challenge),
+    }
 }
 
 // CONNECT open, in a session that has answered no request yet, or has.
-fn open(fresh: bool, g: Login, version: u32) -> LoginDone
-    ensures { λ r. ⌜ outcomeOf r ≡ connectOpen fresh g version ⌝ }
+fn open(fresh: bool, version: u32) -> LoginDone
+    ensures { λ r. ⌜ ((g : Login) (challenge : List ℕ) → outcomeOf g challenge r ≡ connectOpen fresh g version) ⌝ }
 {
     if !fresh {
         return LoginDone::Refuse(codes::ILLEGAL_STATE);
@@ -29,71 +49,93 @@ fn open(fresh: bool, g: Login, version: u32) -> LoginDone
     if version != codes::VERSION_FOUR {
         return LoginDone::Refuse(codes::ILLEGAL_ARGUMENTS);
     }
-    LoginDone::Accept(Reply::Plain, g)
+    LoginDone::Accept(Reply::Plain, LoginChange::Nothing)
 }
 
-// Whether a text of the body is a given one.
-fn is_text(body: &[u8], t: Text, wanted: &[u8]) -> bool
-    requires { ⌜ Within (now body) t ⌝ }
-    ensures { λ r. ⌜ r ≡ sameBytes (bytesAt (now (body .entry)) t) (now (wanted .entry)) ⌝ }
-{
-    let start = t.start;
-    let end = start + t.len;
-    xdr::same(&body[start..end], wanted)
-}
-
-// Whether the id and the password of a login are the account's. Both are compared whatever the first is, so that the time tells nothing of which failed.
-fn is_right(body: &[u8], id: Text, password: Text, name: &[u8], word: &[u8]) -> bool
+// Whether a text login is right.
+fn is_text_right(accounts: &[u8], body: &[u8], id: Text, password: Text) -> bool
     requires { ⌜ Within (now body) id × Within (now body) password ⌝ }
-    ensures { λ r. ⌜ r ≡ matches (bytesAt (now (body .entry)) id) (bytesAt (now (body .entry)) password) (record { id = now (name .entry); password = now (word .entry) }) ⌝ }
+    ensures { λ r. ⌜ r ≡ rightText (now (accounts .entry)) (bytesAt (now (body .entry)) id) (bytesAt (now (body .entry)) password) ⌝ }
 {
-    let known = is_text(body, id, name);
-    let right = is_text(body, password, word);
-    if known {
-        return right;
+    let id_at = id.start;
+    let id_end = id_at + id.len;
+    let at = password.start;
+    let end = at + password.len;
+    wire_accounts::lets_in_by_text(accounts, &body[id_at..id_end], &body[at..end])
+}
+
+// Whether an MD5 login is right, judged by the challenge that the client was given last.
+fn is_digest_right(g: Login, accounts: &[u8], body: &[u8], id: Text, digest: Text) -> bool
+    requires { ⌜ Within (now body) id × Within (now body) digest ⌝ }
+    ensures { λ r. ⌜ r ≡ rightDigest g (now (accounts .entry)) (bytesAt (now (body .entry)) id) (bytesAt (now (body .entry)) digest) ⌝ }
+{
+    if !g.challenged {
+        return false;
     }
-    false
+    let challenge = g.challenge;
+    let id_at = id.start;
+    let id_end = id_at + id.len;
+    let at = digest.start;
+    let end = at + digest.len;
+    wire_accounts::lets_in_by_md5(accounts, &body[id_at..id_end], &challenge, &body[at..end])
 }
 
-// A text login against an account.
-fn auth(body: &[u8], id: Text, password: Text, name: &[u8], word: &[u8]) -> LoginDone
-    requires { ⌜ Within (now body) id × Within (now body) password ⌝ }
-    ensures { λ r. ⌜ outcomeOf r ≡ clientAuth (matches (bytesAt (now (body .entry)) id) (bytesAt (now (body .entry)) password) (record { id = now (name .entry); password = now (word .entry) })) ⌝ }
+// A login, right or wrong.
+fn auth(right: bool) -> LoginDone
+    ensures { λ r. ⌜ ((g : Login) (challenge : List ℕ) → outcomeOf g challenge r ≡ clientAuth g right) ⌝ }
 {
-    if !is_right(body, id, password, name, word) {
+    if !right {
         return LoginDone::Refuse(codes::NOT_AUTHORIZED);
     }
-    let known = Login { authorized: true };
-    LoginDone::Accept(Reply::Plain, known)
+    LoginDone::Accept(Reply::Plain, LoginChange::LoggedIn)
 }
 
-// A request of CONNECT, with the account's id and password.
-pub fn serve(
-    fresh: bool,
-    g: Login,
-    q: ConnectRequest,
-    body: &[u8],
-    name: &[u8],
-    word: &[u8],
-) -> LoginDone
+// A request of CONNECT, with the accounts.
+pub fn serve(fresh: bool, g: Login, q: ConnectRequest, body: &[u8], accounts: &[u8]) -> LoginDone
     requires { ⌜ textsWithin (now body) (Request.Connect q) ⌝ }
-    ensures { λ r. ⌜ outcomeOf r ≡ connectStep fresh g (record { id = now (name .entry); password = now (word .entry) }) q (now (body .entry)) ⌝ }
+    ensures { λ r. ⌜ ((challenge : List ℕ) → outcomeOf g challenge r ≡ connectStep fresh g (now (accounts .entry)) q (now (body .entry))) ⌝ }
 {
     match q {
-        ConnectRequest::Open(version) => open(fresh, g, version),
-        ConnectRequest::Auth(id, password) => auth(body, id, password, name, word),
+        ConnectRequest::Open(version) => open(fresh, version),
+        ConnectRequest::Auth(id, password) => {
+            let right = is_text_right(accounts, body, id, password);
+            auth(right)
+        }
+        ConnectRequest::Md5Auth(id, digest) => {
+            let right = is_digest_right(g, accounts, body, id, digest);
+            auth(right)
+        }
         ConnectRequest::OtherAuth => LoginDone::Refuse(codes::ILLEGAL_ARGUMENTS),
-        ConnectRequest::Close => LoginDone::Accept(Reply::Plain, g),
+        ConnectRequest::Close => LoginDone::Accept(Reply::Plain, LoginChange::Nothing),
     }
 }
 
-// A request of CONFIG.
+// The attributes of an auth type: those of MD5 are the challenge.
+fn attributes(auth: u32) -> LoginDone
+    ensures { λ r. ⌜ ((g : Login) (challenge : List ℕ) → outcomeOf g challenge r ≡ authAttributes g challenge auth) ⌝ }
+{
+    if auth == codes::MD5_AUTH {
+        return LoginDone::Accept(Reply::Challenge, LoginChange::Challenged);
+    }
+    if auth == codes::TEXT_AUTH {
+        return LoginDone::Accept(Reply::TextAuth, LoginChange::Nothing);
+    }
+    LoginDone::Refuse(codes::ILLEGAL_ARGUMENTS)
+}
+
+// A request of CONFIG. It does not look at the challenge that it gives.
 pub fn config(g: Login, q: ConfigRequest) -> LoginDone
-    ensures { λ r. ⌜ outcomeOf r ≡ configStep g q ⌝ }
+    ensures { λ r. ⌜ ((challenge : List ℕ) → outcomeOf g challenge r ≡ configStep g challenge q) ⌝ }
 {
     match q {
-        ConfigRequest::ConnectionType => LoginDone::Accept(Reply::ConnectionTypes, g),
-        ConfigRequest::ServerInfo => LoginDone::Accept(Reply::ServerInfo(g.authorized), g),
+        ConfigRequest::ConnectionType => LoginDone::Accept(
+            Reply::ConnectionTypes,
+            LoginChange::Nothing,
+        ),
+        ConfigRequest::AuthAttributes(auth) => attributes(auth),
+        ConfigRequest::ServerInfo => {
+            LoginDone::Accept(Reply::ServerInfo(g.authorized), LoginChange::Nothing)
+        }
     }
 }
 
@@ -104,6 +146,7 @@ pub fn is_close(q: ConnectRequest) -> bool
     match q {
         ConnectRequest::Open(_) => false,
         ConnectRequest::Auth(_, _) => false,
+        ConnectRequest::Md5Auth(_, _) => false,
         ConnectRequest::OtherAuth => false,
         ConnectRequest::Close => true,
     }
@@ -117,6 +160,7 @@ fn needs_login(q: Request) -> bool
         Request::Connect(_) => false,
         Request::Config(c) => match c {
             ConfigRequest::ConnectionType => true,
+            ConfigRequest::AuthAttributes(_) => false,
             ConfigRequest::ServerInfo => false,
         },
         Request::Scsi(_) => true,

@@ -35,13 +35,16 @@ part-serve-end c = search needs
 
 serve-requires : tie.Need-serve-requires
 serve-requires c κs =
-    let c8 = c .before .before .before .before .before .before .before .before in
-    rw (body-is (now (c8 .args .input))) (c8 .pre .1)
+    let st = c .before .before .before .before .before .before .before in
+    rw (body-is (now (st .args .input))) (st .pre .1)
+
+slice-aggregate-login-call : tie.Need-slice-aggregate-login-call
+slice-aggregate-login-call c = search needs
 
 login-call-requires : tie.Need-login-call-requires
 login-call-requires c κs =
-    let c8 = c .before .before .before .before .before .before .before .before in
-    (c8 .before .before .pre .0, rw (c .before .serve .ensures) (connect-sends _ _ _ _ _))
+    let st = c .before .before .before .before .before .before .before .before .before .before in
+    (st .pre .0, rw (c .before .before .serve .ensures (now (st .args .challenge))) (connect-sends _ _ _ _ _))
 
 same-length : tie.Need-same-length
 same-length c = search needs
@@ -52,8 +55,8 @@ returns-2 c =
     let c8 = c .before .before .before .before .before .before .before .before in
     λ image variables.
     let a = c8 .before .before .before .before .before .args in
-    call-else _ (sym (c8 .is-close .ensures) ∙ c .before .before .before .before .before .before .before .if1 .left)
-    (rw (c .before .before .before .before .serve .ensures, body-is (now (a .input))) at
+    call-else _ (sym (c8 .before .is-close .ensures) ∙ c8 .if1 .left)
+    (rw (c .before .before .before .before .before .serve .ensures (now (a .challenge)), body-is (now (a .input))) at
     (c .before .before .login-call .ensures image variables (Request.Connect (a .q)) refl))
 
 pub connect-call-spec : {M : Type 1} → statement M
@@ -67,6 +70,7 @@ connect-call-spec =
     part-serve-start
     part-serve-end
     serve-requires
+    slice-aggregate-login-call
     login-call-requires
     same-length
     returns-2)

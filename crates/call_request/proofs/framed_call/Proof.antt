@@ -33,7 +33,7 @@ is-locked-requires c κs = search needs
 refuse-requires : tie.Need-refuse-requires
 refuse-requires c κs =
     let c8 = c .before .before .before .before .before .before .before .before in
-    c8 .before .before .before .before .before .before .pre .0
+    c8 .before .before .before .before .before .pre .0
 
 same-length : tie.Need-same-length
 same-length c = search needs
@@ -42,11 +42,11 @@ returns : tie.Need-returns
 returns c =
     let c8 = c .before .before .before .before .before .before .before .before in
     let c16 = c8 .before .before .before .before .before .before .before .before in
-    let a = c16 .before .args in
+    let a = c16 .args in
     let k = held (a .s) (now (a .image)) (now (a .variables)) in
-    let l = lent (now (a .id)) (now (a .password)) (now (a .addresses)) (a .made) (a .time) (now (a .out)) in
+    let l = lent (now (a .accounts)) (now (a .challenge)) (now (a .addresses)) (a .made) (a .time) (now (a .out)) in
     call-locked k l (now (a .input)) _
-    (request-is (now (a .input)) (body-is (now (a .input))) (c16 .before .pre .1) (c8 .before .row-of .ensures) refl
+    (request-is (now (a .input)) (body-is (now (a .input))) (c16 .pre .1) (c8 .before .row-of .ensures) refl
     (c .before .before .before .before .before .before .before .decode .ensures))
     (sym (c .before .before .before .before .before .is-locked .ensures) ∙
     c .before .before .before .before .if1 .taken) (c .before .before .refuse .ensures _ _)
@@ -54,9 +54,9 @@ returns c =
 serve-call-requires : tie.Need-serve-call-requires
 serve-call-requires c κs =
     let c8 = c .before .before .before .before .before .before .before .before in
-    let c16 = c8 .before .before .before .before .before .before .before .before in
-    let a = c16 .args in
-    let pre = c16 .pre in (
+    let st = c8 .before .before .before .before .before .before .before in
+    let a = st .args in
+    let pre = st .pre in (
       pre .0,
       texts-in (now (a .input)) (body-is (now (a .input)))
           (c .before .before .before .before .before .before .decode .ensures),
@@ -76,12 +76,12 @@ returns-2 : tie.Need-returns-2
 returns-2 c =
     let c8 = c .before .before .before .before .before .before .before .before in
     let c16 = c8 .before .before .before .before .before .before .before .before in
-    let a = c16 .before .before .before .before .before .before .before .args in
+    let a = c16 .before .before .before .before .before .before .args in
     let k = held (a .s) (now (a .image)) (now (a .variables)) in
-    let l = lent (now (a .id)) (now (a .password)) (now (a .addresses)) (a .made) (a .time) (now (a .out)) in
+    let l = lent (now (a .accounts)) (now (a .challenge)) (now (a .addresses)) (a .made) (a .time) (now (a .out)) in
     call-free k l (now (a .input)) _
     (request-is (now (a .input)) (body-is (now (a .input)))
-    (c16 .before .before .before .before .before .before .before .pre .1)
+    (c16 .before .before .before .before .before .before .pre .1)
     (c8 .before .before .before .before .before .before .before .row-of .ensures) refl
     (c8 .before .before .before .before .before .decode .ensures))
     (sym (c8 .before .before .before .is-locked .ensures) ∙ c8 .before .before .if1 .left)

@@ -16,33 +16,36 @@ enum-known-done : tie.Need-enum-known-done
 enum-known-done c = search needs
 
 refuse-requires : tie.Need-refuse-requires
-refuse-requires c κs = c .before .before .before .before .before .before .pre .0
+refuse-requires c κs = c .before .before .before .before .before .before .before .pre .0
 
 enum-known-done-2 : tie.Need-enum-known-done-2
 enum-known-done-2 c = search needs
 
+changed-requires : tie.Need-changed-requires
+changed-requires c κs = search needs
+
 with-parts-requires : tie.Need-with-parts-requires
 with-parts-requires c κs = search needs
 
-slice-aggregate-finish : tie.Need-slice-aggregate-finish
-slice-aggregate-finish c = search needs
-
 finish-requires : tie.Need-finish-requires
 finish-requires c κs =
-    let c8 = c .before .before .before .before .before .before .before .before in
-    let pre = c8 .before .before .before .before .pre .0 in
-    (record { long = pre .long; room = omega (arith, pre .room) }, accepted-says Sends _ _ _ (ap outcomeOf (sym (c8 .done2 .given .1))) (c8 .before .before .before .before .pre .1))
+    let c9 = c .before .before .before .before .before .before .before .before .before in
+    let st = c9 .before .before .before .before .before in
+    let a = st .args in
+    let pre = st .pre in
+    let outcome = outcomeOf (a .s .login) (now (a .challenge)) in
+    (record { long = pre .0 .long; room = omega (arith, pre .0 .room) }, accepted-says (Sends (now (a .shown))) _ _ _ (ap outcome (sym (c9 .done2 .given .1))) (pre .1))
 
 same-length : tie.Need-same-length
 same-length c = search needs
 
 returns : tie.Need-returns
 returns c =
-    let c8 = c .before .before .before .before .before .before .before .before in
+    let a = c .before .before .before .before .before .before .before .before .before .before .args in
+    let outcome = outcomeOf (a .s .login) (now (a .challenge)) in
     λ image variables q u.
-    let a = c8 .before .args in
     let k = held (a .s) image variables in
-    call-refused k (a .time) (now (a .input)) q (withLogin k) (outcomeOf (a .done)) _ u (ap outcomeOf (sym (c .before .before .before .before .before .done .given .1)))
+    call-refused k (a .time) (now (a .input)) q (withLogin k (now (a .shown))) (outcome (a .done)) _ u (ap outcome (sym (c .before .before .before .before .before .done .given .1)))
     (c .before .before .refuse .ensures image variables)
 
 same-length-2 : tie.Need-same-length-2
@@ -50,12 +53,13 @@ same-length-2 c = search needs
 
 returns-2 : tie.Need-returns-2
 returns-2 c =
-    let c8 = c .before .before .before .before .before .before .before .before in
+    let c9 = c .before .before .before .before .before .before .before .before .before in
+    let a = c9 .before .before .before .before .before .before .before .before .args in
+    let outcome = outcomeOf (a .s .login) (now (a .challenge)) in
     λ image variables q u.
-    let a = c8 .before .before .before .before .before .before .before .args in
     let k = held (a .s) image variables in
-    call-accepted k (a .time) (now (a .input)) q (withLogin k) (outcomeOf (a .done)) _ _ refl refl (ap outcomeOf (sym (c8 .before .before .before .done2 .given .1)))
-    (rw (c .before .before .before .before .before .with-parts .ensures) at (c .before .before .finish .ensures .1 image variables))
+    call-accepted k (a .time) (now (a .input)) q (withLogin k (now (a .shown))) (outcome (a .done)) _ _ refl refl (ap outcome (sym (c9 .before .before .before .done2 .given .1)))
+    (rw (c .before .before .before .before .with-parts .ensures, c9 .changed .ensures) at (c .before .before .finish .ensures .1 image variables))
 
 pub login-call-spec : {M : Type 1} → statement M
 login-call-spec =
@@ -64,8 +68,8 @@ login-call-spec =
     enum-known-done
     refuse-requires
     enum-known-done-2
+    changed-requires
     with-parts-requires
-    slice-aggregate-finish
     finish-requires
     same-length
     returns

@@ -30,9 +30,9 @@ quiet-requires c κs = search needs
 returns : tie.Need-returns
 returns c =
     let c8 = c .before .before .before .before .before .before .before .before in
-    let a = c8 .before .before .before .before .before .args in
+    let a = c8 .before .before .before .before .args in
     let k = held (a .s) (now (a .image)) (now (a .variables)) in
-    let l = lent (now (a .id)) (now (a .password)) (now (a .addresses)) (a .made) (a .time) (now (a .out)) in
+    let l = lent (now (a .accounts)) (now (a .challenge)) (now (a .addresses)) (a .made) (a .time) (now (a .out)) in
     call-stopped k l (now (a .input)) _ (room-is k l (c .before .before .before .before .before .room-of .ensures)) _
     (sym (c .before .before .guard2 .given .1) ∙ c .before .before .before .before .guard .ensures)
     (c .quiet .ensures _ _ _)
@@ -62,9 +62,9 @@ framed-call-requires : tie.Need-framed-call-requires
 framed-call-requires c κs =
     let c8 = c .before .before .before .before .before .before .before .before in
     let c16 = c8 .before .before .before .before .before .before .before .before in
-    let a = c16 .before .before .args in
+    let a = c16 .before .args in
     let k = held (a .s) (now (a .image)) (now (a .variables)) in
-    let l = lent (now (a .id)) (now (a .password)) (now (a .addresses)) (a .made) (a .time) (now (a .out)) in
+    let l = lent (now (a .accounts)) (now (a .challenge)) (now (a .addresses)) (a .made) (a .time) (now (a .out)) in
     let f = sym (c .before .before .before .before .message .given .1) ∙
     c .before .before .before .before .before .before .read-frame .ensures in
     let g = guard-goes _ _ (sym (c .before .before .before .before .before .before .before .enum-told .given .1) ∙
@@ -75,9 +75,9 @@ framed-call-requires c κs =
 returns-2 : tie.Need-returns-2
 returns-2 c =
     let c8 = c .before .before .before .before .before .before .before .before in
-    let a = c8 .before .before .before .before .before .before .before .args in
+    let a = c8 .before .before .before .before .before .before .args in
     let k = held (a .s) (now (a .image)) (now (a .variables)) in
-    let l = lent (now (a .id)) (now (a .password)) (now (a .addresses)) (a .made) (a .time) (now (a .out)) in
+    let l = lent (now (a .accounts)) (now (a .challenge)) (now (a .addresses)) (a .made) (a .time) (now (a .out)) in
     call-goes k l (now (a .input)) _ (room-is k l
     (c .before .before .before .before .before .before .before .room-of .ensures))
     (sym (c .before .before .before .before .enum-told .given .1) ∙
@@ -89,9 +89,9 @@ returns-3 : tie.Need-returns-3
 unfolding requested
 returns-3 c =
     let c8 = c .before .before .before .before .before .before .before .before in
-    let a = c8 .before .before .before .before .before .before .before .args in
+    let a = c8 .before .before .before .before .before .before .args in
     let k = held (a .s) (now (a .image)) (now (a .variables)) in
-    let l = lent (now (a .id)) (now (a .password)) (now (a .addresses)) (a .made) (a .time) (now (a .out)) in
+    let l = lent (now (a .accounts)) (now (a .challenge)) (now (a .addresses)) (a .made) (a .time) (now (a .out)) in
     let f = frame-other _ (sym (c .before .enum-told3 .given .1) ∙ c .before .before .before .read-frame .ensures) in
     call-goes k l (now (a .input)) _ (room-is k l
     (c .before .before .before .before .before .before .before .room-of .ensures))
@@ -113,9 +113,9 @@ unfolding requested
 returns-4 c =
     let c8 = c .before .before .before .before .before .before .before .before in
     let c16 = c8 .before .before .before .before .before .before .before .before in
-    let a = c16 .before .before .before .before .before .before .before .before .before .args in
+    let a = c16 .before .before .before .before .before .before .before .before .args in
     let k = held (a .s) (now (a .image)) (now (a .variables)) in
-    let l = lent (now (a .id)) (now (a .password)) (now (a .addresses)) (a .made) (a .time) (now (a .out)) in
+    let l = lent (now (a .accounts)) (now (a .challenge)) (now (a .addresses)) (a .made) (a .time) (now (a .out)) in
     let f = frame-request _ _ _ (sym (c8 .before .before .before .message .given .1) ∙
     c8 .before .before .before .before .before .read-frame .ensures) in
     call-goes k l (now (a .input)) _ (room-is k l (c16 .before .room-of .ensures))

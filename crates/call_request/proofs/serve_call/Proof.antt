@@ -1,6 +1,9 @@
 -- Each arm is its clause of `outcome`.
+use Prim.Native.Nat.{_≤_}
 use denote.Ref.{now}
+use lib.ListN.{length}
 use mathlib.Core.Path.{refl}
+use Rattle.codes.specs.Codes.{challengeLength}
 use Rattle.xdr.specs.Choose.{choose}
 use Rattle.wire_requests.specs.declared.Request.the-variants as Request
 use Rattle.rules.specs.Answer.{outcome, isClose, settled, refusing, isUnread}
@@ -17,7 +20,7 @@ enum-known-q c = search needs
 connect-call-requires : tie.Need-connect-call-requires
 connect-call-requires c κs =
     let c8 = c .before .before .before .before .before .before .before .before in
-    (c8 .before .before .before .pre .0, rw (c .before .before .q .given .1) at (c8 .before .before .before .pre .1))
+    (c8 .before .before .pre .0, rw (c .before .before .q .given .1) at (c8 .before .before .pre .1))
 
 enum-known-q-2 : tie.Need-enum-known-q-2
 enum-known-q-2 c = search needs
@@ -27,8 +30,10 @@ config-requires c κs = search needs
 
 login-call-requires : tie.Need-login-call-requires
 login-call-requires c κs =
-    let c8 = c .before .before .before .before .before .before .before .before in
-    (c8 .before .before .before .before .before .pre .0, rw (c .before .config .ensures) (config-sends _ _))
+    let st = c .before .before .before .before .before .before .before .before .before .before .before .before .before in
+    let challenge = now (st .args .challenge) in
+    let whole : length challenge ≤ challengeLength = search needs in
+    (st .pre .0, rw (c .before .before .config .ensures challenge) (config-sends _ challenge _ whole))
 
 enum-known-q-3 : tie.Need-enum-known-q-3
 enum-known-q-3 c = search needs
@@ -36,7 +41,7 @@ enum-known-q-3 c = search needs
 scsi-call-requires : tie.Need-scsi-call-requires
 scsi-call-requires c κs =
     let c8 = c .before .before .before .before .before .before .before .before in
-    (c8 .before .before .before .pre .0, rw (c .before .before .q3 .given .1) at (c8 .before .before .before .pre .1))
+    (c8 .before .before .pre .0, rw (c .before .before .q3 .given .1) at (c8 .before .before .pre .1))
 
 enum-known-q-4 : tie.Need-enum-known-q-4
 enum-known-q-4 c = search needs
@@ -44,9 +49,9 @@ enum-known-q-4 c = search needs
 tape-call-requires : tie.Need-tape-call-requires
 tape-call-requires c κs =
     let c8 = c .before .before .before .before .before .before .before .before in (
-      c8 .before .before .before .before .pre .0,
+      c8 .before .before .before .pre .0,
       rw (c .before .before .before .q4 .given .1) at
-          (c8 .before .before .before .before .pre .1),
+          (c8 .before .before .before .pre .1),
     )
 
 enum-known-q-5 : tie.Need-enum-known-q-5
@@ -55,10 +60,10 @@ enum-known-q-5 c = search needs
 data-call-requires : tie.Need-data-call-requires
 data-call-requires c κs =
     let c8 = c .before .before .before .before .before .before .before .before in (
-      c8 .before .before .before .before .pre .0,
+      c8 .before .before .before .pre .0,
       rw (c .before .before .before .q5 .given .1) at
-          (c8 .before .before .before .before .pre .1),
-      c8 .before .before .before .before .pre .2,
+          (c8 .before .before .before .pre .1),
+      c8 .before .before .before .pre .2,
     )
 
 enum-known-q-6 : tie.Need-enum-known-q-6
@@ -67,7 +72,7 @@ enum-known-q-6 c = search needs
 mover-call-requires : tie.Need-mover-call-requires
 mover-call-requires c κs =
     let c8 = c .before .before .before .before .before .before .before .before in
-    c8 .before .before .before .pre .0
+    c8 .before .before .pre .0
 
 enum-known-q-7 : tie.Need-enum-known-q-7
 enum-known-q-7 c = search needs
@@ -75,7 +80,7 @@ enum-known-q-7 c = search needs
 joint-call-requires : tie.Need-joint-call-requires
 joint-call-requires c κs =
     let c8 = c .before .before .before .before .before .before .before .before in
-    c8 .before .before .before .pre .0
+    c8 .before .before .pre .0
 
 enum-told : tie.Need-enum-told
 enum-told c = search needs
@@ -83,7 +88,7 @@ enum-told c = search needs
 header-call-requires : tie.Need-header-call-requires
 header-call-requires c κs =
     let c8 = c .before .before .before .before .before .before .before .before in
-    c8 .before .before .pre .0
+    c8 .before .pre .0
 
 enum-told-2 : tie.Need-enum-told-2
 enum-told-2 c = search needs
@@ -91,7 +96,7 @@ enum-told-2 c = search needs
 header-call-requires-2 : tie.Need-header-call-requires-2
 header-call-requires-2 c κs =
     let c8 = c .before .before .before .before .before .before .before .before in
-    c8 .before .before .pre .0
+    c8 .before .pre .0
 
 same-length : tie.Need-same-length
 same-length c = search needs
@@ -108,12 +113,10 @@ returns-2 : tie.Need-returns-2
 unfolding outcome isClose isUnread choose
 returns-2 c =
     let c8 = c .before .before .before .before .before .before .before .before in
-    let c16 = c8 .before .before .before .before .before .before .before .before in
-    let a = c16 .args in
-    rw (c .before .before .before .before .before .before .before .q2 .given .1)
-    (rw (c .before .before .before .before .config .ensures) at
-    (c .before .before .login-call .ensures (now (a .image)) (now (a .variables))
-    (Request.Config (c .before .before .before .before .before .before .before .q2 .given .0 .0)) refl))
+    let a = c8 .before .before .before .before .before .before .before .before .args in
+    rw (c8 .q2 .given .1)
+    (rw (c .before .before .before .before .before .config .ensures (now (a .challenge))) at
+    (c .before .before .login-call .ensures (now (a .image)) (now (a .variables)) (Request.Config (c8 .q2 .given .0 .0)) refl))
 
 same-length-3 : tie.Need-same-length-3
 same-length-3 c = search needs

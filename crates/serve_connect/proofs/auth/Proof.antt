@@ -1,15 +1,10 @@
 use Rattle.xdr.proofs.Tests.{picking}
 use Rattle.rules.specs.Judge.{judge}
 use Rattle.rules.specs.Connection.{clientAuth}
-use borrow.Author.Needs.{needs}
 use Rattle.serve_connect.proofs.auth.Statement.{statement}
 use Rattle.serve_connect.proofs.auth.Tie as tie
 use Rattle.serve_connect.proofs.auth.Reads as reads
 use Rattle.serve_connect.proofs.auth.Lts as lts
-use Rattle.serve_connect.proofs.is_right.Reads as is-right-reads
-
-is-right-requires : tie.Need-is-right-requires
-is-right-requires c κs = search needs
 
 returns : tie.Need-returns
 unfolding clientAuth judge
@@ -20,4 +15,4 @@ unfolding clientAuth judge
 returns-2 c = search picking depth 10
 
 pub auth-spec : {M : Type 1} → statement M
-auth-spec = tie.close (tie.spec is-right-requires returns returns-2)
+auth-spec = tie.close (tie.spec returns returns-2)

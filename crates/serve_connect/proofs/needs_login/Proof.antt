@@ -40,6 +40,9 @@ enum-told-9 c = search needs
 enum-told-10 : tie.Need-enum-told-10
 enum-told-10 c = search needs
 
+enum-told-11 : tie.Need-enum-told-11
+enum-told-11 c = search needs
+
 returns : tie.Need-returns
 unfolding needsLogin
 returns c = rw (c .enum-told .given .1) refl
@@ -54,7 +57,7 @@ returns-3 c = rw (c .before .before .before .q .given .1, c .enum-told3 .given .
 
 returns-4 : tie.Need-returns-4
 unfolding needsLogin
-returns-4 c = rw (c .enum-told4 .given .1) refl
+returns-4 c = rw (c .before .before .before .q .given .1, c .enum-told4 .given .1) refl
 
 returns-5 : tie.Need-returns-5
 unfolding needsLogin
@@ -80,6 +83,10 @@ returns-10 : tie.Need-returns-10
 unfolding needsLogin
 returns-10 c = rw (c .enum-told10 .given .1) refl
 
+returns-11 : tie.Need-returns-11
+unfolding needsLogin
+returns-11 c = rw (c .enum-told11 .given .1) refl
+
 pub needs-login-spec : {M : Type 1} → statement M
 needs-login-spec =
     tie.close
@@ -95,6 +102,7 @@ needs-login-spec =
     enum-told-8
     enum-told-9
     enum-told-10
+    enum-told-11
     returns
     returns-2
     returns-3
@@ -104,4 +112,5 @@ needs-login-spec =
     returns-7
     returns-8
     returns-9
-    returns-10)
+    returns-10
+    returns-11)
