@@ -43,8 +43,13 @@ numbers! {
     MOST_PORT: u32 = 65535;
     MOST_LENT: usize = 16384;
     STORE_LENGTH: usize = 16384;
+    MOST_ACCOUNTS: u32 = 8;
+    LONGEST_PASSWORD: usize = 32;
+    CHALLENGE_LENGTH: usize = 64;
+    DIGEST_LENGTH: usize = 16;
     LOCAL_ADDRESS: u32 = 0;
     TCP_ADDRESS: u32 = 1;
     TEXT_AUTH: u32 = 1;
+    MD5_AUTH: u32 = 2;
     VERSION_FOUR: u32 = 4;
 }

@@ -14,6 +14,9 @@ pub use types::{Answer, Changer, Data, Login, Moved, Mover, Session, Tape};
 /// The least output that the calls take.
 pub const OUTPUT: usize = codes::LARGEST_MESSAGE;
 
+/// What a login by MD5 answers.
+pub type Challenge = [u8; codes::CHALLENGE_LENGTH];
+
 /// The declarations hold nothing that Rust could derive from, so what is needed of them stands here, field by field.
 macro_rules! by_value {
     ($($t:ident { $($f:ident),* })*) => { $(
@@ -42,7 +45,7 @@ by_value! {
     Mover { state, mode, pause, halt, size, address, offset, length, moved, seek, left, origin }
     Tape { opened, writable, position }
     Changer { opened, pending }
-    Login { authorized }
+    Login { authorized, challenged, challenge }
     Session { closed, first, login, sequence, source, mover, tape, changer }
     Answer { code, len, session }
     Moved { code, count, len, session }
@@ -52,10 +55,9 @@ unsafe extern "C" {
     fn mossgoblin_open(time: u32, out: *mut u8, n: usize) -> Answer;
     fn mossgoblin_request(
         s: Session,
-        id: *const u8,
-        id_len: usize,
-        password: *const u8,
-        password_len: usize,
+        accounts: *const u8,
+        accounts_len: usize,
+        challenge: *const Challenge,
         addresses: *const u8,
         addresses_len: usize,
         made: bool,
@@ -123,14 +125,16 @@ pub fn open(time: u32, out: &mut [u8]) -> Answer {
     unsafe { mossgoblin_open(time, out.as_mut_ptr(), out.len()) }
 }
 
-/// The addresses are what a listen by TCP answers: an XDR list, without the type. Made is whether the connection of a connect by TCP was made. Other
-/// requests look at neither. The variables are the store of the environment, `codes::STORE_LENGTH` bytes, which an accepted start and an accepted stop of
-/// the data end write: one of another length is refused with 1001.
+/// The accounts are what a login is compared with: an XDR list of at most `codes::MOST_ACCOUNTS`, of each its kind (`codes::TEXT_AUTH` or
+/// `codes::MD5_AUTH`), its id and its password. The challenge is given to a client that asks for one, and has to be another with each call. The addresses
+/// are what a listen by TCP answers: an XDR list, without the type. Made is whether the connection of a connect by TCP was made. Other requests look at none
+/// of these. The variables are the store of the environment, `codes::STORE_LENGTH` bytes, which an accepted start and an accepted stop of the data end
+/// write: one of another length is refused with 1001.
 #[allow(clippy::too_many_arguments)]
 pub fn request(
     s: Session,
-    id: &[u8],
-    password: &[u8],
+    accounts: &[u8],
+    challenge: &Challenge,
     addresses: &[u8],
     made: bool,
     image: &mut [u8],
@@ -142,10 +146,9 @@ pub fn request(
     unsafe {
         mossgoblin_request(
             s,
-            id.as_ptr(),
-            id.len(),
-            password.as_ptr(),
-            password.len(),
+            accounts.as_ptr(),
+            accounts.len(),
+            challenge,
             addresses.as_ptr(),
             addresses.len(),
             made,

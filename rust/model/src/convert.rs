@@ -9,7 +9,7 @@ pub fn session(s: &State) -> Session {
     Session {
         closed: s.closed,
         first: s.fresh,
-        login: Login { authorized: s.authorized },
+        login: Login { authorized: s.authorized, challenged: s.challenged, challenge: s.challenge },
         sequence: s.number,
         source: Data {
             state: s.data.state,
@@ -42,6 +42,8 @@ pub fn state(s: &Session) -> State {
         closed: s.closed,
         fresh: s.first,
         authorized: s.login.authorized,
+        challenged: s.login.challenged,
+        challenge: s.login.challenge,
         number: s.sequence,
         data: state::Data {
             state: s.source.state,
@@ -68,17 +70,39 @@ pub fn state(s: &Session) -> State {
     }
 }
 
-/// Every field of a session by its name, for scripts, changes and differences.
+/// The challenge, eight bytes at a time.
+const CHALLENGE: [&str; 8] = [
+    "challenge.0",
+    "challenge.1",
+    "challenge.2",
+    "challenge.3",
+    "challenge.4",
+    "challenge.5",
+    "challenge.6",
+    "challenge.7",
+];
+
+/// Every field of a session by its name, for scripts and differences.
+pub fn fields(s: &Session) -> Vec<(&'static str, u64)> {
+    let challenge = s.login.challenge.chunks(8).map(|b| u64::from_be_bytes(b.try_into().unwrap()));
+    numbers(s).into_iter().chain(CHALLENGE.into_iter().zip(challenge)).collect()
+}
+
+/// Fields that are numbers.
 macro_rules! named {
     ($($name:literal $($path:ident).+ : $t:ident),* $(,)?) => {
-        pub fn fields(s: &Session) -> Vec<(&'static str, u64)> {
+        /// All but the challenge.
+        pub fn numbers(s: &Session) -> Vec<(&'static str, u64)> {
             vec![$(($name, s.$($path).+ as u64)),*]
         }
         /// None: no such field.
         pub fn set_field(s: &mut Session, name: &str, x: u64) -> Option<()> {
             match name {
                 $($name => s.$($path).+ = named!(@cast $t x),)*
-                _ => return None,
+                _ => {
+                    let i = CHALLENGE.iter().position(|n| *n == name)?;
+                    s.login.challenge[8 * i..8 * i + 8].copy_from_slice(&x.to_be_bytes());
+                }
             }
             Some(())
         }
@@ -91,6 +115,7 @@ named! {
     "closed" closed: bool,
     "first" first: bool,
     "authorized" login.authorized: bool,
+    "challenged" login.challenged: bool,
     "sequence" sequence: u32,
     "data.state" source.state: u32,
     "data.operation" source.operation: u32,

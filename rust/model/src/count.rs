@@ -4,6 +4,7 @@ use std::collections::BTreeMap;
 
 use crate::convert::state;
 use crate::lists;
+use crate::logins::{self, Met};
 use crate::model::record::framed;
 use crate::model::relation::broken;
 use crate::model::requests::HANDLED;
@@ -25,6 +26,7 @@ fn numbers(message: u32) -> &'static [u32] {
         0x902 => &[],
         0x108 => &[0],
         0x102 => &[0, 4],
+        0x103 => &[0, 9],
         0x200 => &[0, 3, 4, 16],
         0x201 | 0x202 | 0x204 => &[0, 4, 6],
         0x206 => &[0, 4, 6, 9],
@@ -217,6 +219,13 @@ fn wanted_stores() -> Vec<String> {
     all
 }
 
+/// What 02 No. 2 adds but for numbers by message.
+fn wanted_logins() -> Vec<String> {
+    let logins = logins::wanted().into_iter().map(|(case, number)| format!("login {case}: {number}"));
+    let attributes = logins::wanted_attributes().into_iter();
+    logins.chain(attributes.map(|(case, number)| format!("attributes {case}: {number}"))).collect()
+}
+
 /// An end by its state and address type; IDLE has one type only.
 fn data_end(end: &Data) -> String {
     by_type(end.state_name(), end.address)
@@ -247,7 +256,7 @@ fn call_name(step: &Step, before: &Session) -> Option<(&'static str, bool)> {
         Step::Made { mover: true, .. } => ("made of mover", false),
         Step::Lost { mover: false, .. } => ("lost of data", false),
         Step::Lost { mover: true, .. } => ("lost of mover", false),
-        Step::Account(..) | Step::Image(_) | Step::Store(_) | Step::Session(_) => return None,
+        Step::Accounts(_) | Step::Image(_) | Step::Store(_) | Step::Session(_) => return None,
     })
 }
 
@@ -296,6 +305,7 @@ pub fn wanted() -> Vec<String> {
     }
     all.extend(wanted_by_tcp());
     all.extend(wanted_stores());
+    all.extend(wanted_logins());
     all.extend(["badly framed", "ignored", "closing"].map(|r| format!("request {r}")));
     all.push("notice 502 0".into());
     all.extend([1, 2, 3, 4].map(|r| format!("notice 501 {r}")));
@@ -342,6 +352,7 @@ impl Counts {
             self.ends(step, call, given.count, before);
             self.addresses(step, &given.sent, before);
             self.environment(step, seen, before, world);
+            self.logins(step, &given.sent, before, world);
         }
         self.messages(step, &given.sent);
         self.sizes(&given.sent, before, world.natural);
@@ -414,6 +425,23 @@ impl Counts {
         }
         if matches!(step, Step::Request { input, .. } if framed(input).is_none()) {
             self.add("store of another length and badly framed: 1001".into());
+        }
+    }
+
+    /// Logins, and the requests for a challenge.
+    fn logins(&mut self, step: &Step, sent: &[u8], before: &Session, world: &World) {
+        let (Step::Request { challenge, input, .. }, Some(number)) = (step, number(sent)) else { return };
+        let body = &input[28..];
+        let (what, cases) = match word(input, 16) {
+            0x901 => {
+                let (accounts, older) = (&world.accounts[..], world.older);
+                ("login", logins::cases(body, &Met { session: before, accounts, lent: challenge, older }))
+            }
+            0x103 => ("attributes", logins::attribute_cases(body, before)),
+            _ => return,
+        };
+        for case in cases {
+            self.add(format!("{what} {case}: {number}"));
         }
     }
 
@@ -622,6 +650,8 @@ impl Counts {
             ("address types, message: number", "address "),
             ("environment, message case: number", "environment "),
             ("store of another length", "store of "),
+            ("logins, case: number", "login "),
+            ("auth attributes, type and case: number", "attributes "),
             ("request", "request "),
             ("open", "open "),
             ("notices, number reason", "notice "),

@@ -2,9 +2,12 @@
 //! that can both apply do, and each rule of a move meets each other. The sessions are handed in; those that break the
 //! relation are tried too.
 
+use crate::accounts::{self, Entry, digest};
 use crate::convert::session;
 use crate::lists;
+use crate::logins::{by_md5, by_text};
 use crate::model::State;
+use crate::model::accounts::{Challenge, MD5, TEXT};
 use crate::model::requests::{HANDLED, address_list, decode};
 use crate::script::Step;
 use crate::stores;
@@ -37,9 +40,13 @@ fn request(message: u32, body: &[u8]) -> Step {
     lent(message, body, true, vec![])
 }
 
+/// The challenge that every session has been given, and the one that every call is lent.
+const NEWEST: Challenge = [0x4e; 64];
+const LENT: Challenge = [0x1e; 64];
+
 fn lent(message: u32, body: &[u8], made: bool, list: Vec<u8>) -> Step {
     let input = Header { sequence: 77, time: 5, message, ..Header::default() }.record(body);
-    Step::Request { time: 9, room: ROOM, made, list, input }
+    Step::Request { time: 9, room: ROOM, challenge: LENT, made, list, input }
 }
 
 /// Made and lost, of each end.
@@ -53,11 +60,14 @@ fn bodies(message: u32) -> Vec<Vec<u8>> {
     let mut all: Vec<Vec<u8>> = match message {
         0x900 => vec![words(&[4]), words(&[5])],
         0x901 => vec![
-            [words(&[1]), text(b"id"), text(b"word")].concat(),
-            [words(&[1]), text(b"id"), text(b"ward")].concat(),
-            [words(&[1]), text(b"ib"), text(b"word")].concat(),
-            words(&[2]),
+            by_text(b"id", b"words"),
+            by_text(b"id", b"wards"),
+            by_text(b"ib", b"words"),
+            by_md5(b"id", &digest(b"five5", &NEWEST, true)),
+            by_md5(b"id", &digest(b"five5", &LENT, true)),
+            words(&[3]),
         ],
+        0x103 => [1, 2, 0, 3].map(|kind| words(&[kind])).to_vec(),
         0x200 => vec![text(b"changer0"), text(b"tape0")],
         0x206 => {
             let cdb = |cdb: &[u8], data_in| [words(&[0, 0, data_in]), text(cdb), text(b"")].concat();
@@ -160,10 +170,11 @@ enum Field {
 }
 
 /// The messages with texts: their fields, with an environment of one pair and a list of one name.
-const TEXTS: [(u32, &[Field]); 9] = {
+const TEXTS: [(u32, &[Field]); 10] = {
     use Field::{Text, Words};
     [
         (0x901, &[Words(&[1]), Text, Text]),
+        (0x901, &[Words(&[2]), Text, Words(&[1, 2, 3, 4])]),
         (0x200, &[Text]),
         (0x206, &[Words(&[0, 0, 18]), Text, Text]),
         (0x300, &[Text, Words(&[1])]),
@@ -223,6 +234,7 @@ fn images() -> [Vec<u8>; 3] {
 fn rest(authorized: bool) -> Session {
     let mut s = State::at_rest();
     s.authorized = authorized;
+    (s.challenged, s.challenge) = (true, NEWEST);
     s.number = 2;
     session(&s)
 }
@@ -247,20 +259,30 @@ fn with_ends(s: &mut Session, (data, mover): (End, End)) {
 /// What makes a call of a step, on an image and a session. False ends it all.
 type Each<'a> = &'a mut dyn FnMut(&[u8], &Session, &Step) -> bool;
 
-/// The same, on an image and a store.
-type EachOf<'a> = &'a mut dyn FnMut((&[u8], &[u8]), &Session, &Step) -> bool;
+/// What a call is lent beside the step.
+pub struct Lent<'a> {
+    pub image: &'a [u8],
+    pub store: &'a [u8],
+    pub accounts: &'a [u8],
+}
 
-/// Hands each script's steps over until it answers false: an image, a store and a session, then calls that are each made
-/// on them.
+/// The same, on all that is lent.
+type EachOf<'a> = &'a mut dyn FnMut(&Lent, &Session, &Step) -> bool;
+
+/// Hands each script's steps over until it answers false: an image, a store, accounts and a session, then calls that are
+/// each made on them.
 pub fn all(each: EachOf) -> bool {
     let images = images();
     let store = stores::of(&stores::of_kind("2 to 63 pairs"));
-    let plain: Each = &mut |image, session, step| each((image, &store), session, step);
+    let accounts = accounts::of(&accounts::both());
+    let plain: Each =
+        &mut |image, session, step| each(&Lent { image, store: &store, accounts: &accounts }, session, step);
     devices(plain, &images)
         && requests_by_pair(plain, &images)
         && types(plain, &images)
         && moves_by_pair(plain, &images)
         && environments(each, &images)
+        && logins(each, &store, &images)
 }
 
 /// A start's body, its environment as it is given; a recover's with no names.
@@ -292,7 +314,7 @@ fn environment_steps() -> Vec<Step> {
     // No request, and badly framed.
     let reply = Header { sequence: 77, kind: 1, message: 0x404, ..Header::default() }.record(&[]);
     for input in [reply, vec![]] {
-        all.push(Step::Request { time: 9, room: ROOM, made: true, list: vec![], input });
+        all.push(Step::Request { time: 9, room: ROOM, challenge: LENT, made: true, list: vec![], input });
     }
     all.extend(events());
     all
@@ -304,7 +326,7 @@ fn environments(each: EachOf, [sound, ..]: &[Vec<u8>; 3]) -> bool {
     let mut lent: Vec<Vec<u8>> = stores::kinds().into_iter().map(|(_, store, _)| store).collect();
     lent.extend(stores::OTHERS.map(|n| vec![0; n]));
     lent.extend(stores::named_kinds().into_iter().map(|(_, store)| store));
-    let steps = environment_steps();
+    let (steps, accounts) = (environment_steps(), accounts::of(&accounts::both()));
     let joined = [4, 1].map(|state| ((state, 0), (2, 0)));
     let apart = DATA_APART.into_iter().chain([(9, 0)]).map(|data| (data, (0, 0)));
     for (pair, (authorized, closed)) in
@@ -316,8 +338,83 @@ fn environments(each: EachOf, [sound, ..]: &[Vec<u8>; 3]) -> bool {
         (s.mover.mode, s.source.operation) = (0, 1);
         with_window(&mut s, WINDOWS[2]);
         for store in &lent {
-            if !steps.iter().all(|step| each((sound, store), &s, step)) {
+            if !steps.iter().all(|step| each(&Lent { image: sound, store, accounts: &accounts }, &s, step)) {
                 return false;
+            }
+        }
+    }
+    true
+}
+
+/// Accounts that are laid out right, beside those of `accounts::kinds`: an id twice by one kind and by both, each kind with
+/// the other's password, passwords at their limits, nothing at all.
+fn more_accounts() -> Vec<Vec<Entry>> {
+    let md5 = |password: &[u8]| Entry::of(MD5, b"id", password);
+    let text = |password: &[u8]| Entry::of(TEXT, b"id", password);
+    let long = [0x70; 65];
+    vec![
+        vec![md5(b"one"), md5(b"two"), text(b"one"), text(b"three"), md5(b"one")],
+        vec![text(b"two"), md5(b"two")],
+        [1, 31, 32, 33, 34, 64, 65].map(|n| md5(&long[..n])).to_vec(),
+        [1, 31, 32, 33, 34, 64, 65].map(|n| text(&long[..n])).to_vec(),
+        vec![md5(b""), md5(&[0]), md5(&[0, 0])],
+        vec![Entry::of(MD5, b"", b""), Entry::of(MD5, b"", b"x")],
+        vec![Entry::of(TEXT, b"", b"")],
+        vec![Entry::of(TEXT, &[0x69; 300], &[0x77; 300]), Entry::of(MD5, &[0x69; 300], b"w")],
+        // A password that no record has room for; what stands behind it counts.
+        vec![Entry::of(TEXT, &[0x69; 33_000], &[0x77; 70_000]), text(b"one"), md5(b"one")],
+    ]
+}
+
+/// 02 No. 2: every way to log in by an entry, and the ways that go wrong.
+fn login_bodies(Entry { id, password, .. }: &Entry) -> Vec<Vec<u8>> {
+    let mut all = vec![by_text(id, password), by_text(&[id, &[0][..]].concat(), password)];
+    for (challenge, cut) in [NEWEST, LENT, OLDER, [0; 64]].into_iter().flat_map(|c| [(c, true), (c, false)]) {
+        all.push(by_md5(id, &digest(password, &challenge, cut)));
+    }
+    let right = digest(password, &NEWEST, true);
+    all.push(by_md5(&[id, &[0][..]].concat(), &right));
+    all.extend((0..16).map(|i| {
+        let mut wrong = right;
+        wrong[i] ^= 0x80;
+        by_md5(id, &wrong)
+    }));
+    all.push(by_md5(id, &[&words(&[16])[..], &right].concat()));
+    all.extend([0, 4, 15].map(|n| by_md5(id, &right[..n])));
+    all.extend([1, 4].map(|n| by_md5(id, &[&right[..], &vec![0; n]].concat())));
+    all
+}
+
+/// A challenge that nobody was given.
+const OLDER: Challenge = [0x0d; 64];
+
+/// 02 No. 2: logins by every entry of accounts of every kind, and the requests for a challenge, on sessions before and
+/// after a login, with a challenge and without.
+fn logins(each: EachOf, store: &[u8], [sound, ..]: &[Vec<u8>; 3]) -> bool {
+    let mut all: Vec<Vec<u8>> = accounts::kinds().into_iter().map(|(_, accounts, _)| accounts).collect();
+    all.extend(more_accounts().iter().map(|entries| accounts::of(entries)));
+    let mut others: Vec<(u32, Vec<u8>)> =
+        vec![(0x901, vec![]), (0x901, words(&[2])), (0x108, vec![]), (0x900, words(&[4]))];
+    for kind in [0, 1, 2, 3, 0x0200_0000, u32::MAX] {
+        let with = |n: usize| [words(&[kind]), vec![0; n]].concat();
+        others.extend([0, 1, 4, 64].map(|n| (0x103, with(n))));
+        others.extend([0, 1, 4].map(|n| (0x901, with(n))));
+    }
+    others.extend([0, 1, 3].map(|n| (0x103, vec![0; n])));
+    for accounts in &all {
+        let by_entry = accounts::meant(accounts).into_iter().chain(accounts::both());
+        let bodies = by_entry.flat_map(|e| login_bodies(&e)).map(|body| (0x901, body));
+        let steps: Vec<Step> = bodies.chain(others.clone()).map(|(message, body)| request(message, &body)).collect();
+        for (authorized, first, closed) in
+            [(false, true, false), (false, false, false), (true, false, false), (false, true, true)]
+        {
+            for (challenged, challenge) in [(true, NEWEST), (false, NEWEST), (false, [0; 64]), (true, [0; 64])] {
+                let mut s = rest(authorized);
+                (s.first, s.closed) = (first, closed);
+                (s.login.challenged, s.login.challenge) = (challenged, challenge);
+                if !steps.iter().all(|step| each(&Lent { image: sound, store, accounts }, &s, step)) {
+                    return false;
+                }
             }
         }
     }

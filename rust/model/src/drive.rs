@@ -3,9 +3,12 @@
 
 use std::collections::VecDeque;
 
-use crate::convert::{fields, set_field};
+use crate::accounts::{self, Entry, digest};
+use crate::convert::{numbers, set_field};
 use crate::images;
 use crate::lists;
+use crate::logins::{by_md5, by_text};
+use crate::model::accounts::{Challenge, MD5, TEXT};
 use crate::model::requests::HANDLED;
 use crate::random::Random;
 use crate::script::Step;
@@ -30,10 +33,20 @@ pub struct Driver {
     stops: u64,
     /// How often a step is wild, in percent.
     wild: u64,
+    /// Whether most steps are logins.
+    logins: bool,
     /// A sound image to lend again after a damaged one.
     spare: Option<Vec<u8>>,
     queue: VecDeque<Step>,
     closed_calls: u32,
+}
+
+/// The request with this challenge lent.
+fn lending(mut step: Step, newest: Challenge) -> Step {
+    if let Step::Request { challenge, .. } = &mut step {
+        *challenge = newest;
+    }
+    step
 }
 
 impl Driver {
@@ -45,13 +58,14 @@ impl Driver {
             tcp: (false, false),
             stops: 0,
             wild: 0,
+            logins: false,
             spare: None,
             queue: VecDeque::new(),
             closed_calls: 0,
         }
     }
 
-    /// A fresh session, its account and its cartridge.
+    /// A fresh session, its accounts and its cartridge.
     pub fn begin(&mut self) -> Vec<Step> {
         let r = &mut self.r;
         self.mode = r.pick(&[0, 1]);
@@ -65,22 +79,15 @@ impl Driver {
         self.tcp = r.pick(&[(false, false), (false, false), (false, true), (true, false), (true, true)]);
         self.stops = r.pick(&[60, 60, 60, 6]);
         self.wild = r.pick(&[2, 8, 8, 20, 60]);
+        self.logins = r.percent(5);
         self.spare = None;
         self.queue.clear();
         self.closed_calls = 0;
-        let (id, password) = match r.below(8) {
-            0 => (vec![], vec![]),
-            1 => (b"a".to_vec(), vec![]),
-            2 => {
-                let (a, b) = (r.below(200) as usize, r.below(200) as usize);
-                (r.bytes(a), r.bytes(b))
-            }
-            _ => (b"admin".to_vec(), b"secret!".to_vec()),
-        };
+        let accounts = if r.percent(10) { accounts::any(r) } else { accounts::of(&accounts::right(r)) };
         let image = if r.percent(4) { images::damaged(r, self.size) } else { images::sound(r, self.size) };
         let store = if r.percent(70) { vec![0; stores::LENGTH] } else { stores::any(r) };
         let open = Step::Open { time: self.time(), room: self.room() };
-        vec![Step::Account(id, password), Step::Image(image), Step::Store(store), open]
+        vec![Step::Accounts(accounts), Step::Image(image), Step::Store(store), open]
     }
 
     /// None: the session has come to its end.
@@ -98,6 +105,9 @@ impl Driver {
                 return self.queue.pop_front();
             }
             return Some(self.anything(w));
+        }
+        if self.logins && self.r.percent(80) {
+            return Some(self.login_work(w));
         }
         let wild = self.wild;
         Some(if self.r.percent(wild) { self.anything(w) } else { self.sensible(w) })
@@ -123,8 +133,13 @@ impl Driver {
         // Reply sequence and error are not judged.
         let other = if self.r.percent(5) { self.r.next() as u32 } else { 0 };
         let input = Header { sequence, time, kind: 0, message, reply_to: other, error: other }.record(body);
-        let (made, list) = (self.r.percent(85), self.lent(message));
-        Step::Request { time: self.time(), room: self.room(), made, list, input }
+        let (challenge, made, list) = (self.challenge(), self.r.percent(85), self.lent(message));
+        Step::Request { time: self.time(), room: self.room(), challenge, made, list, input }
+    }
+
+    /// Another with each call.
+    fn challenge(&mut self) -> Challenge {
+        self.r.bytes(64).try_into().unwrap()
     }
 
     /// The list of addresses that goes with a request. Only a listen by TCP looks at it.
@@ -170,6 +185,9 @@ impl Driver {
         if self.r.percent(4) {
             let message = self.r.pick(&[0x400, 0xa00, 0x302, 0x108, 0x102, 0x202, 0x404]);
             return self.plain(message);
+        }
+        if self.r.percent(1) {
+            return if self.r.percent(50) { self.attributes() } else { self.auth(w, true) };
         }
         if self.r.percent(2) {
             return self.changer(s);
@@ -233,6 +251,7 @@ impl Driver {
         match self.r.below(20) {
             0 => self.some(w, 0x900),
             1 => self.auth(w, false),
+            4 => self.attributes(),
             2 | 3 => {
                 let message = self.r.pick(&HANDLED);
                 if message == 0x902 { self.plain(0x108) } else { self.some(w, message) }
@@ -538,29 +557,149 @@ impl Driver {
         self.r.bytes(n as usize)
     }
 
-    fn auth(&mut self, w: &World, right: bool) -> Step {
-        let (mut id, mut password) = (w.id.clone(), w.password.clone());
-        let mut kind = 1u32;
-        if !right {
-            match self.r.below(8) {
-                0 => id.push(0),
-                1 => password.push(0),
-                2 => std::mem::swap(&mut id, &mut password),
-                3 => drop(password.pop()),
-                4 => password = self.text(10),
-                5 | 6 => kind = self.r.pick(&[0, 2, 3, u32::MAX]),
-                _ => {}
+    // Logins.
+
+    /// Most of a session's steps, where it is after that.
+    fn login_work(&mut self, w: &World) -> Step {
+        match self.r.below(24) {
+            0..=2 => self.words(0x103, &[2]),
+            3 | 4 => self.attributes(),
+            5 => Step::Accounts(accounts::of(&accounts::right(&mut self.r))),
+            6 | 7 => self.lend_accounts(),
+            8 => {
+                let mut s = w.session;
+                self.other_login(&mut s);
+                for _ in 0..2 {
+                    let step = self.wrong_auth(w);
+                    self.queue.push_back(step);
+                }
+                Step::Session(s)
             }
+            9 => self.plain(0x108),
+            10..=13 => self.auth(w, true),
+            _ => self.auth(w, false),
         }
-        let mut body = kind.to_be_bytes().to_vec();
-        if kind == 1 {
-            self.opaque(&mut body, &id);
-            self.opaque(&mut body, &password);
-        } else {
-            let rest = self.text(40);
-            body.extend(rest);
+    }
+
+    /// Other accounts, which may be laid out wrong; and a login of each kind by what they were meant to have.
+    fn lend_accounts(&mut self) -> Step {
+        let buffer = accounts::any(&mut self.r);
+        let entries = accounts::meant(&buffer);
+        let newest = self.challenge();
+        for kind in [TEXT, MD5] {
+            let able: Vec<&Entry> = entries.iter().filter(|e| e.kind == kind && e.serves()).collect();
+            let Entry { id, password, .. } = match able.len() as u64 {
+                0 => &Entry::of(kind, b"id", b"five5"),
+                n => able[self.r.below(n) as usize],
+            };
+            if kind == MD5 {
+                let step = self.words(0x103, &[2]);
+                self.queue.push_back(lending(step, newest));
+            }
+            let body = match kind {
+                TEXT => by_text(id, password),
+                _ => by_md5(id, &digest(password, &newest, true)),
+            };
+            let step = self.request(0x901, &body);
+            self.queue.push_back(step);
         }
+        Step::Accounts(buffer)
+    }
+
+    /// A session that is as far with its login as another.
+    fn other_login(&mut self, s: &mut Session) {
+        match self.r.below(5) {
+            0 | 1 => s.login.authorized = false,
+            2 => s.login.challenged = !s.login.challenged,
+            3 => s.login.challenge = self.challenge(),
+            _ => (s.login.challenged, s.login.challenge) = (false, [0; 64]),
+        }
+    }
+
+    /// 0x103, with a type and now and then more, or less than one.
+    fn attributes(&mut self) -> Step {
+        let kind = self.r.pick(&[1, 1, 2, 2, 2, 2, 0, 3, u32::MAX]);
+        let mut body = wire::words(&[kind]);
+        match self.r.below(12) {
+            0 => body.truncate(self.r.below(4) as usize),
+            1 => {
+                let n = self.r.within(1, 8) as usize;
+                body.extend(self.r.bytes(n));
+            }
+            2..=4 if !matches!(kind, TEXT | MD5) => body.extend(self.text(20)),
+            _ => {}
+        }
+        self.request(0x103, &body)
+    }
+
+    /// A login by one of the accounts. One by MD5 begins with the challenge.
+    fn auth(&mut self, w: &World, right: bool) -> Step {
+        if !right {
+            return self.wrong_auth(w);
+        }
+        let mut entries = accounts::meant(&w.accounts);
+        entries.retain(|e| e.serves() && accounts::is_laid(accounts::kind(&w.accounts)));
+        if entries.is_empty() {
+            return Step::Accounts(accounts::of(&accounts::right(&mut self.r)));
+        }
+        let Entry { kind, id, password } = entries.swap_remove(self.r.below(entries.len() as u64) as usize);
+        let login = &w.session.login;
+        let body = match kind {
+            TEXT => by_text(&id, &password),
+            _ if !login.challenged => return self.words(0x103, &[2]),
+            _ => by_md5(&id, &digest(&password, &login.challenge, true)),
+        };
         self.request(0x901, &body)
+    }
+
+    /// A login that is mostly wrong, in one way.
+    fn wrong_auth(&mut self, w: &World) -> Step {
+        let mut entries = accounts::meant(&w.accounts);
+        if entries.is_empty() {
+            entries.extend(accounts::both());
+        }
+        let some = |r: &mut Random| entries[r.below(entries.len() as u64) as usize].clone();
+        let (Entry { mut id, mut password, .. }, other) = (some(&mut self.r), some(&mut self.r));
+        let (newest, lent) = (&w.session.login.challenge, self.challenge());
+        let right = digest(&password, newest, true).to_vec();
+        let way = self.r.below(24);
+        match way {
+            0 | 13 => id.push(0),
+            1 => password.push(0),
+            2 => std::mem::swap(&mut id, &mut password),
+            3 => drop(password.pop()),
+            4 => password = self.text(10),
+            5 => password.clone_from(&other.password),
+            _ => {}
+        }
+        let body = match way {
+            0..=6 => by_text(&id, &password),
+            7 => [by_text(&id, &password), vec![0]].concat(),
+            8 => by_md5(&id, &digest(&password, newest, false)),
+            9 => by_md5(&id, &digest(&password, &w.older.unwrap_or([7; 64]), true)),
+            10 => by_md5(&id, &digest(&password, &lent, true)),
+            11 => by_md5(&id, &digest(&password, &[0; 64], true)),
+            12 => by_md5(&id, &digest(&other.password, newest, true)),
+            14 if self.r.percent(50) => by_md5(&id, &self.r.bytes(16)),
+            14 => {
+                let mut near = right;
+                near[self.r.below(16) as usize] ^= 1 << self.r.below(8);
+                by_md5(&id, &near)
+            }
+            15 => by_md5(&id, &right[..15]),
+            16 => by_md5(&id, &[&right[..], &[0]].concat()),
+            17 => by_md5(&id, &[wire::words(&[16]), right].concat()),
+            18 => by_md5(&id, &[]),
+            19 => by_md5(&id, &[&right[..15], &[right[15] ^ 1 << self.r.below(8)]].concat()),
+            20 => by_md5(&id, &[&[right[0] ^ 1 << self.r.below(8)], &right[1..]].concat()),
+            21 | 22 => {
+                let rest = if self.r.percent(60) { self.text(40) } else { vec![] };
+                [wire::words(&[self.r.pick(&[0, 3, u32::MAX])]), rest].concat()
+            }
+            _ => by_md5(&id, &right),
+        };
+        let step = self.request(0x901, &body);
+        lending(step, lent)
     }
 
     fn tape_open(&mut self, name: &[u8], mode: u32) -> Step {
@@ -687,7 +826,7 @@ impl Driver {
                 let message = match self.r.below(6) {
                     0 => self.r.next() as u32,
                     1 => self.r.pick(&[0x501, 0x502, 0x503, 0x504, 0x505]),
-                    2 => self.r.pick(&[0x103, 0x406, 0x307, 0x40b, 0x903, 0x10a, 0x405, 0x408]),
+                    2 => self.r.pick(&[0x100, 0x104, 0x406, 0x307, 0x40b, 0x903, 0x10a, 0x405, 0x408]),
                     3 => self.r.pick(&HANDLED) ^ 1 << self.r.below(32),
                     _ => self.r.below(0xb00) as u32,
                 };
@@ -718,11 +857,8 @@ impl Driver {
             77..=78 => Step::End { time: self.time(), room: self.room(), ok: self.r.percent(50) },
             79 | 80 => self.swap(),
             81 => self.lend(w),
-            // Each call may be lent another account.
-            82 => {
-                let (id, password) = (self.text(12), self.text(12));
-                Step::Account(id, password)
-            }
+            // Each call may be lent other accounts.
+            82 => self.lend_accounts(),
             83..=93 => {
                 self.hand_in(w);
                 self.queue.pop_front().unwrap()
@@ -745,6 +881,7 @@ impl Driver {
                 let right = self.r.percent(30);
                 self.auth(w, right)
             }
+            0x103 => self.attributes(),
             0x200 => {
                 let name = if self.r.percent(50) { b"changer0" } else { self.r.pick(&names) };
                 self.opaque(&mut body, name);
@@ -816,7 +953,7 @@ impl Driver {
 
     /// A body that is too short or too long, or whose words are others; the record itself is whole.
     fn bent(&mut self, step: Step) -> Step {
-        let Step::Request { time, room, made, list, mut input } = step else { return step };
+        let Step::Request { time, room, challenge, made, list, mut input } = step else { return step };
         match self.r.below(4) {
             0 => {
                 let cut = self.r.within(1, 8) as usize;
@@ -836,11 +973,11 @@ impl Driver {
         }
         let mark = LAST | (input.len() - 4) as u32;
         put_word(&mut input, 0, mark);
-        Step::Request { time, room, made, list, input }
+        Step::Request { time, room, challenge, made, list, input }
     }
 
     fn badly_framed(&mut self, step: Step) -> Step {
-        let Step::Request { time, room, made, list, mut input } = step else { return step };
+        let Step::Request { time, room, challenge, made, list, mut input } = step else { return step };
         match self.r.below(6) {
             0 => input[0] &= 0x7f,
             1 => input.truncate(self.r.below(28) as usize),
@@ -854,7 +991,7 @@ impl Driver {
                 put_word(&mut input, 0, mark);
             }
         }
-        Step::Request { time, room, made, list, input }
+        Step::Request { time, room, challenge, made, list, input }
     }
 
     /// Hands in a changed session. One that breaks the relation is put back after a call or two.
@@ -862,7 +999,8 @@ impl Driver {
         let before = w.session;
         let mut s = before;
         let size = s.mover.size.max(1) as u64;
-        match self.r.below(14) {
+        match self.r.below(15) {
+            14 => self.other_login(&mut s),
             0 => s.sequence = u32::MAX - self.r.below(3) as u32,
             1 if s.mover.mode == 1 && s.mover.state > 1 => {
                 s.mover.moved = u64::MAX - self.r.below(2 * size);
@@ -902,7 +1040,7 @@ impl Driver {
     fn change_fields(&mut self, s: &mut Session) {
         let size = s.mover.size.max(1) as u64;
         for _ in 0..self.r.within(1, 3) {
-            let all = fields(s);
+            let all = numbers(s);
             let (name, now) = self.r.pick(&all);
             let (up, down) = (now.wrapping_add(1), now.wrapping_sub(1));
             let most = u32::MAX as u64;

@@ -1,11 +1,13 @@
 //! Drives the model and the proved core side by side.
 
+mod accounts;
 mod convert;
 mod count;
 mod cross;
 mod drive;
 mod images;
 mod lists;
+mod logins;
 mod model;
 mod random;
 mod script;
@@ -88,13 +90,14 @@ fn run(calls: u64, seed: u64) -> ExitCode {
     let (mut crossed, mut kept) = (0u64, 0u64);
     let mut found = None;
     let mut w = World::new();
-    (w.id, w.password) = (b"id".to_vec(), b"word".to_vec());
-    cross::all(&mut |(image, store), session, call| {
+    cross::all(&mut |lent, session, call| {
         w.session = *session;
         w.image.clear();
-        w.image.extend(image);
+        w.image.extend(lent.image);
         w.store.clear();
-        w.store.extend(store);
+        w.store.extend(lent.store);
+        w.accounts.clear();
+        w.accounts.extend(lent.accounts);
         crossed += 1;
         let what = match step(&mut w, call) {
             Ok(seen) => {
@@ -103,9 +106,14 @@ fn run(calls: u64, seed: u64) -> ExitCode {
             }
             Err(what) => what,
         };
-        let account = Step::Account(w.id.clone(), w.password.clone());
-        let lent = [Step::Image(image.to_vec()), Step::Store(store.to_vec())];
-        found = Some(([&[account][..], &lent, &[Step::Session(*session), call.clone()]].concat(), what));
+        let all = [
+            Step::Accounts(lent.accounts.to_vec()),
+            Step::Image(lent.image.to_vec()),
+            Step::Store(lent.store.to_vec()),
+            Step::Session(*session),
+            call.clone(),
+        ];
+        found = Some((all.to_vec(), what));
         false
     });
     if let Some((steps, what)) = found {
@@ -135,7 +143,7 @@ fn run(calls: u64, seed: u64) -> ExitCode {
 fn large() -> Vec<Vec<Step>> {
     let request = |message: u32, body: &[u8]| {
         let input = Header { sequence: 7, time: 7, message, ..Header::default() }.record(body);
-        Step::Request { time: 1, room: 36_864, made: false, list: vec![], input }
+        Step::Request { time: 1, room: 36_864, challenge: [0; 64], made: false, list: vec![], input }
     };
     [134_217_728, 134_217_729]
         .into_iter()
@@ -143,9 +151,10 @@ fn large() -> Vec<Vec<Step>> {
             let mut image = words(&[1, 2, 0, 0]);
             image.resize(16 + 16 + body, 0);
             vec![
+                Step::Accounts(accounts::of(&accounts::both())),
                 Step::Image(image),
                 Step::Open { time: 1, room: 36_864 },
-                request(0x901, &words(&[1, 0, 0])),
+                request(0x901, &logins::by_text(b"id", b"words")),
                 request(0x300, &[text("tape0"), words(&[1])].concat()),
                 request(0x302, &[]),
                 request(0x304, &text("abc")),

@@ -1,11 +1,13 @@
 //! Calls as lines of text, so that a difference can be replayed.
 //!
-//!     account ID PASSWORD              what auth is compared with from here on (hex, `-` is empty)
+//!     accounts HEX                     these are lent from here on (hex, `-` is empty)
 //!     image LENGTH HEX                 this image is lent from here on; zeros follow the bytes given
 //!     store LENGTH HEX                 this store of the environment is lent from here on; zeros follow the bytes given
 //!     session FIELD=VALUE ..           the session is replaced by this one
 //!     open TIME ROOM                   the calls; ROOM is the output's length
-//!     request TIME ROOM MADE LIST INPUT        whether a connection is made, and the list of addresses that is lent
+//!     request TIME ROOM CHALLENGE MADE LIST INPUT
+//!                                      the challenge that is lent (64 bytes; zeros follow those given), whether a
+//!                                      connection is made, and the list of addresses that is lent
 //!     to TIME ROOM LAST STREAM         move to tape
 //!     from TIME ROOM DESTINATION       move from tape; the destination's length
 //!     end TIME ROOM OK                 the method's end
@@ -13,16 +15,17 @@
 //!     lost TIME ROOM MOVER
 
 use crate::convert::{fields, set_field};
+use crate::model::accounts::Challenge;
 use proved::Session;
 
 #[derive(Clone)]
 pub enum Step {
-    Account(Vec<u8>, Vec<u8>),
+    Accounts(Vec<u8>),
     Image(Vec<u8>),
     Store(Vec<u8>),
     Session(Session),
     Open { time: u32, room: usize },
-    Request { time: u32, room: usize, made: bool, list: Vec<u8>, input: Vec<u8> },
+    Request { time: u32, room: usize, challenge: Challenge, made: bool, list: Vec<u8>, input: Vec<u8> },
     To { time: u32, room: usize, last: bool, stream: Vec<u8> },
     From { time: u32, room: usize, destination: usize },
     End { time: u32, room: usize, ok: bool },
@@ -38,7 +41,7 @@ impl Step {
     /// The output's length, of a call.
     pub fn room(&self) -> Option<usize> {
         match self {
-            Step::Account(..) | Step::Image(_) | Step::Store(_) | Step::Session(_) => None,
+            Step::Accounts(_) | Step::Image(_) | Step::Store(_) | Step::Session(_) => None,
             Step::Open { room, .. }
             | Step::Request { room, .. }
             | Step::To { room, .. }
@@ -51,7 +54,7 @@ impl Step {
 
     pub fn set_room(&mut self, length: usize) {
         match self {
-            Step::Account(..) | Step::Image(_) | Step::Store(_) | Step::Session(_) => {}
+            Step::Accounts(_) | Step::Image(_) | Step::Store(_) | Step::Session(_) => {}
             Step::Open { room, .. }
             | Step::Request { room, .. }
             | Step::To { room, .. }
@@ -64,7 +67,7 @@ impl Step {
 
     pub fn line(&self) -> String {
         match self {
-            Step::Account(id, password) => format!("account {} {}", hex(id), hex(password)),
+            Step::Accounts(accounts) => format!("accounts {}", hex(accounts)),
             Step::Image(image) => format!("image {}", shortened(image)),
             Step::Store(store) => format!("store {}", shortened(store)),
             Step::Session(s) => {
@@ -72,8 +75,9 @@ impl Step {
                 format!("session {}", all.join(" "))
             }
             Step::Open { time, room } => format!("open {time} {room}"),
-            Step::Request { time, room, made, list, input } => {
-                format!("request {time} {room} {} {} {}", *made as u8, hex(list), hex(input))
+            Step::Request { time, room, challenge, made, list, input } => {
+                let challenge = hex(without_zeros(challenge));
+                format!("request {time} {room} {challenge} {} {} {}", *made as u8, hex(list), hex(input))
             }
             Step::To { time, room, last, stream } => format!("to {time} {room} {} {}", *last as u8, hex(stream)),
             Step::From { time, room, destination } => format!("from {time} {room} {destination}"),
@@ -101,7 +105,7 @@ impl Step {
         let room = || whole(1);
         let yes = |i: usize| whole(i).map(|x| x != 0);
         Some(match kind {
-            "account" => Step::Account(bytes(0)?, bytes(1)?),
+            "accounts" => Step::Accounts(bytes(0)?),
             "image" | "store" => {
                 let mut all = bytes(1)?;
                 all.resize(whole(0)?, 0);
@@ -109,8 +113,10 @@ impl Step {
             }
             "open" => Step::Open { time: time()?, room: room()? },
             "request" => {
-                let (made, list, input) = (yes(2)?, bytes(3)?, bytes(4)?);
-                Step::Request { time: time()?, room: room()?, made, list, input }
+                let mut lent = bytes(2)?;
+                lent.resize(64, 0);
+                let (challenge, made, list, input) = (lent.try_into().ok()?, yes(3)?, bytes(4)?, bytes(5)?);
+                Step::Request { time: time()?, room: room()?, challenge, made, list, input }
             }
             "to" => Step::To { time: time()?, room: room()?, last: yes(2)?, stream: bytes(3)? },
             "from" => Step::From { time: time()?, room: room()?, destination: whole(2)? },
@@ -124,8 +130,11 @@ impl Step {
 
 /// Its length, and its bytes without the zeros at its end.
 fn shortened(bytes: &[u8]) -> String {
-    let end = bytes.iter().rposition(|b| *b != 0).map_or(0, |i| i + 1);
-    format!("{} {}", bytes.len(), hex(&bytes[..end]))
+    format!("{} {}", bytes.len(), hex(without_zeros(bytes)))
+}
+
+fn without_zeros(bytes: &[u8]) -> &[u8] {
+    &bytes[..bytes.iter().rposition(|b| *b != 0).map_or(0, |i| i + 1)]
 }
 
 pub fn hex(bytes: &[u8]) -> String {

@@ -2,6 +2,7 @@
 
 use crate::convert;
 use crate::model::State;
+use crate::model::accounts::Challenge;
 use crate::model::calls::{self, Given, Kept, Lent};
 use crate::script::Step;
 use crate::stores;
@@ -12,8 +13,9 @@ pub struct World {
     pub image: Vec<u8>,
     /// The store of the environment, which requests are lent.
     pub store: Vec<u8>,
-    pub id: Vec<u8>,
-    pub password: Vec<u8>,
+    pub accounts: Vec<u8>,
+    /// A challenge that was given before the newest.
+    pub older: Option<Challenge>,
     /// No session was handed in but by calls.
     pub natural: bool,
     /// The core's output and destination, and the model's.
@@ -43,8 +45,8 @@ impl World {
             session: convert::session(&State::at_rest()),
             image: vec![],
             store: vec![0; stores::LENGTH],
-            id: vec![],
-            password: vec![],
+            accounts: vec![],
+            older: None,
             natural: true,
             out: vec![],
             expected: vec![],
@@ -56,7 +58,7 @@ impl World {
     /// Makes the call. An error tells the first difference.
     pub fn step(&mut self, step: &Step) -> Result<Option<Seen>, String> {
         match step {
-            Step::Account(id, password) => (self.id, self.password) = (id.clone(), password.clone()),
+            Step::Accounts(accounts) => self.accounts.clone_from(accounts),
             Step::Image(image) => self.image.clone_from(image),
             Step::Store(store) => self.store.clone_from(store),
             Step::Session(session) => {
@@ -86,6 +88,9 @@ impl World {
         let gave = self.core(step);
         self.expected[..given.sent.len()].copy_from_slice(&given.sent);
         self.session = gave.session;
+        if before.login.challenged && self.session.login.challenge != before.login.challenge {
+            self.older = Some(before.login.challenge);
+        }
 
         let mut wrong = differences(&given, &convert::session(&s), &gave);
         bytes("output", &self.expected, &self.out, &mut wrong);
@@ -108,8 +113,8 @@ impl World {
                 *s = next;
                 given
             }
-            Step::Request { time, made, list, input, .. } => {
-                let lent = Lent { account: (&self.id, &self.password), addresses: list, made: *made };
+            Step::Request { time, challenge, made, list, input, .. } => {
+                let lent = Lent { accounts: &self.accounts, challenge, addresses: list, made: *made };
                 calls::request(s, &lent, kept, input, *time, room)
             }
             Step::To { time, last, stream, .. } => calls::move_to_tape(s, image, stream, *last, *time, room),
@@ -117,7 +122,7 @@ impl World {
             Step::End { time, ok, .. } => calls::end_method(s, *ok, *time, room),
             Step::Made { time, mover, .. } => calls::made(s, *mover, *time, room),
             Step::Lost { time, mover, .. } => calls::lost(s, *mover, *time, room),
-            Step::Account(..) | Step::Image(_) | Step::Store(_) | Step::Session(_) => unreachable!("is no call"),
+            Step::Accounts(_) | Step::Image(_) | Step::Store(_) | Step::Session(_) => unreachable!("is no call"),
         }
     }
 
@@ -126,8 +131,8 @@ impl World {
         let (s, image, store, out) = (self.session, &mut self.image, &mut self.store, &mut self.out);
         let answer = match step {
             Step::Open { time, .. } => proved::open(*time, out),
-            Step::Request { time, made, list, input, .. } => {
-                proved::request(s, &self.id, &self.password, list, *made, image, store, input, *time, out)
+            Step::Request { time, challenge, made, list, input, .. } => {
+                proved::request(s, &self.accounts, challenge, list, *made, image, store, input, *time, out)
             }
             Step::To { time, last, stream, .. } => {
                 return proved::move_to_tape(s, image, stream, *last, *time, out);
@@ -136,7 +141,7 @@ impl World {
             Step::End { time, ok, .. } => proved::end_method(s, *ok, *time, out),
             Step::Made { time, mover, .. } => proved::made(s, *mover, *time, out),
             Step::Lost { time, mover, .. } => proved::lost(s, *mover, *time, out),
-            Step::Account(..) | Step::Image(_) | Step::Store(_) | Step::Session(_) => unreachable!("is no call"),
+            Step::Accounts(_) | Step::Image(_) | Step::Store(_) | Step::Session(_) => unreachable!("is no call"),
         };
         let Answer { code, len, session } = answer;
         Moved { code, count: 0, len, session }

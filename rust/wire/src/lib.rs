@@ -1,5 +1,6 @@
 //! What goes over the wire: words, texts and records as RFC 4506 and the NDMP draft have them. No rule of the vault
 //! stands here.
+pub mod md5;
 pub mod message;
 
 /// Before the body of a record: the mark, and six words of header.

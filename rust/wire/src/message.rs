@@ -1,6 +1,7 @@
 //! The messages that the vault handles, by the names and numbers of the NDMP draft.
 
 pub const CONFIG_GET_CONNECTION_TYPE: u32 = 0x102;
+pub const CONFIG_GET_AUTH_ATTR: u32 = 0x103;
 pub const CONFIG_GET_SERVER_INFO: u32 = 0x108;
 pub const SCSI_OPEN: u32 = 0x200;
 pub const SCSI_CLOSE: u32 = 0x201;
@@ -43,6 +44,7 @@ pub const MOVER_CONNECT: u32 = 0xa09;
 pub fn name(message: u32) -> &'static str {
     match message {
         CONFIG_GET_CONNECTION_TYPE => "connection type",
+        CONFIG_GET_AUTH_ATTR => "auth attributes",
         CONFIG_GET_SERVER_INFO => "server info",
         SCSI_OPEN => "scsi open",
         SCSI_CLOSE => "scsi close",

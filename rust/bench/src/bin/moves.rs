@@ -107,7 +107,7 @@ fn random_session(random: &mut Random, size: usize, entries: usize) -> Session {
     let mut s = Session {
         closed: false,
         first: random.below(2) == 0,
-        login: Login { authorized: true },
+        login: Login { authorized: true, challenged: true, challenge: [0x5a; 64] },
         sequence: random.below(1 << 32) as u32,
         source: random_data(random, &mover),
         mover,

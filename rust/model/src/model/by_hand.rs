@@ -1,6 +1,7 @@
 //! Cases of 02 No. 14, worked out by hand from the papers.
 
 use super::State;
+use super::accounts::Challenge;
 use super::calls::{self, Given, Kept, Lent, ROOM};
 use super::environment::STORE;
 use super::relation::broken;
@@ -29,6 +30,8 @@ pub struct Desk {
     pub s: State,
     image: Vec<u8>,
     pub store: Vec<u8>,
+    pub accounts: Vec<u8>,
+    pub challenge: Challenge,
     list: Vec<u8>,
     made: bool,
 }
@@ -40,13 +43,19 @@ impl Desk {
         (s.tape.open, s.tape.writable) = (true, true);
         (s.mover.record_size, s.mover.window) = (4, (0, 8));
         let image = bytes(&[1, 3, 0, 0, 0, 0, 0, 0, 0, 0, 0, 0, 0]);
-        Desk { s, image, store: vec![0; STORE], list: bytes(&ONE), made: true }
+        Desk { s, image, store: vec![0; STORE], accounts: vec![], challenge: [0; 64], list: bytes(&ONE), made: true }
     }
 
     pub fn send(&mut self, message: u32, body: &[u8]) -> Vec<u8> {
-        let lent = Lent { account: (b"", b""), addresses: &self.list, made: self.made };
+        self.hand(&record(message, body))
+    }
+
+    /// Any record, whole.
+    pub fn hand(&mut self, record: &[u8]) -> Vec<u8> {
+        let (accounts, challenge) = (&self.accounts, &self.challenge);
+        let lent = Lent { accounts, challenge, addresses: &self.list, made: self.made };
         let mut kept = Kept { image: &mut self.image, store: &mut self.store };
-        let given = calls::request(&mut self.s, &lent, &mut kept, &record(message, body), 6, ROOM);
+        let given = calls::request(&mut self.s, &lent, &mut kept, record, 6, ROOM);
         assert_eq!((given.code, broken(&self.s)), (0, None));
         given.sent
     }

@@ -1,5 +1,6 @@
 //! The calls: what comes before all else, the counter, and what is written.
 
+use super::accounts::Challenge;
 use super::record::{Notice, framed, sent};
 use super::refusals::{Outcome, refuse, refused};
 use super::requests::{Address, HANDLED, Request, decode};
@@ -61,10 +62,11 @@ pub fn open(time: u32, room: usize) -> (State, Given) {
     (s, g)
 }
 
-/// What a request is lent to read: the account, the list that a listen by TCP answers, and whether the
-/// connection of a connect by TCP was made.
+/// What a request is lent to read: the accounts, a challenge to give, the list that a listen by TCP answers, and whether
+/// the connection of a connect by TCP was made.
 pub struct Lent<'a> {
-    pub account: (&'a [u8], &'a [u8]),
+    pub accounts: &'a [u8],
+    pub challenge: &'a Challenge,
     pub addresses: &'a [u8],
     pub made: bool,
 }
@@ -120,14 +122,15 @@ pub fn request(s: &mut State, lent: &Lent, kept: &mut Kept, input: &[u8], time: 
 fn answer(s: &mut State, lent: &Lent, kept: &mut Kept, r: &Request, notices: &mut Vec<Notice>) -> Outcome {
     use Request::*;
     let Kept { image, store } = kept;
-    // "4: before auth, all but CONNECT and 0x108"
-    let free = matches!(r, ConnectOpen { .. } | ClientAuth { .. } | ConnectClose | ServerInfo);
+    // "4: before auth, all but CONNECT and 0x108"; 02 No. 2: "0x103 is answered before auth too."
+    let free = matches!(r, ConnectOpen { .. } | ClientAuth { .. } | ConnectClose | AuthAttributes { .. } | ServerInfo);
     refuse(!s.authorized && !free, 4)?;
     match *r {
         ConnectOpen { version } => connection::open(s.fresh, version),
-        ClientAuth { text } => connection::auth(s, lent.account, text),
+        ClientAuth { ref auth } => connection::auth(s, lent.accounts, auth),
         ConnectClose => unreachable!("has no reply"),
         ConnectionType => connection::types(),
+        AuthAttributes { kind } => connection::auth_attributes(s, kind, lent.challenge),
         ServerInfo => connection::server_info(s),
         ScsiOpen { device } => changer::open(s, device),
         ScsiClose => changer::close(s),

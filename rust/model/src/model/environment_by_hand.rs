@@ -276,7 +276,7 @@ fn store_of_another_length() {
                 let mut d = connected();
                 (d.s.closed, d.s.data.state, d.store) = (closed, state, vec![0xee; length]);
                 let before = d.s.clone();
-                let lent = Lent { account: (b"", b""), addresses: &[], made: true };
+                let lent = Lent { accounts: &[], challenge: &[0; 64], addresses: &[], made: true };
                 let mut kept = Kept { image: &mut [], store: &mut d.store };
                 let given = calls::request(&mut d.s, &lent, &mut kept, &input, 6, ROOM);
                 assert_eq!(given.code, if code == 0 { other } else { code });

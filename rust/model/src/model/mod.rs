@@ -2,6 +2,7 @@
 //! exact rules"), and each rule stands under its sentence. "004" is the NDMP draft. Where a sentence can be read in two
 //! ways, "reading" says which way is taken.
 
+pub mod accounts;
 #[cfg(test)]
 mod by_hand;
 pub mod calls;
@@ -12,6 +13,9 @@ pub mod ends;
 pub mod environment;
 #[cfg(test)]
 mod environment_by_hand;
+#[cfg(test)]
+mod login_by_hand;
+pub mod md5;
 pub mod moves;
 pub mod record;
 pub mod refusals;

@@ -14,8 +14,8 @@ pub fn refuse(when: bool, number: u32) -> Result<(), u32> {
 /// words a body of zeros and empty lists has, and which of them is the error.
 pub fn refused(message: u32, number: u32) -> Vec<u8> {
     let (words, error) = match message {
-        // addr_types<>
-        0x102 => (2, 0),
+        // addr_types<>; server_attr of type NONE
+        0x102 | 0x103 => (2, 0),
         // controller, id, lun
         0x202 => (4, 0),
         // status, dataout_len, datain<>, ext_sense<>

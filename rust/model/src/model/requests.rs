@@ -1,5 +1,6 @@
 //! The requests and their bodies (004, Appendix C).
 
+use super::accounts::{MD5, TEXT};
 use super::state::{LOCAL, TCP};
 use super::xdr::Reader;
 
@@ -13,97 +14,69 @@ pub enum Address {
     Other,
 }
 
+/// 004's ndmp_auth_data.
+#[derive(Debug, PartialEq)]
+pub enum Auth<'a> {
+    Text {
+        id: &'a [u8],
+        password: &'a [u8],
+    },
+    Md5 {
+        id: &'a [u8],
+        digest: &'a [u8],
+    },
+    /// A type other than these; the rest is not read.
+    Other,
+}
+
 /// 004's ndmp_pval: name and value.
 pub type Pair<'a> = (&'a [u8], &'a [u8]);
 
 #[derive(Debug)]
 pub enum Request<'a> {
-    ConnectOpen {
-        version: u32,
-    },
-    /// None: a type other than 1.
-    ClientAuth {
-        text: Option<(&'a [u8], &'a [u8])>,
-    },
+    ConnectOpen { version: u32 },
+    ClientAuth { auth: Auth<'a> },
     ConnectClose,
     ConnectionType,
+    AuthAttributes { kind: u32 },
     ServerInfo,
-    ScsiOpen {
-        device: &'a [u8],
-    },
+    ScsiOpen { device: &'a [u8] },
     ScsiClose,
     ScsiState,
     ScsiReset,
-    ScsiCdb {
-        data_in: u32,
-        cdb: &'a [u8],
-    },
-    TapeOpen {
-        device: &'a [u8],
-        mode: u32,
-    },
+    ScsiCdb { data_in: u32, cdb: &'a [u8] },
+    TapeOpen { device: &'a [u8], mode: u32 },
     TapeClose,
     TapeState,
-    TapeMtio {
-        op: u32,
-        count: u32,
-    },
-    TapeWrite {
-        data: &'a [u8],
-    },
-    TapeRead {
-        count: u32,
-    },
+    TapeMtio { op: u32, count: u32 },
+    TapeWrite { data: &'a [u8] },
+    TapeRead { count: u32 },
     DataState,
-    StartBackup {
-        method: &'a [u8],
-        pairs: Vec<Pair<'a>>,
-    },
-    StartRecover {
-        method: &'a [u8],
-        pairs: Vec<Pair<'a>>,
-    },
+    StartBackup { method: &'a [u8], pairs: Vec<Pair<'a>> },
+    StartRecover { method: &'a [u8], pairs: Vec<Pair<'a>> },
     DataAbort,
     DataEnvironment,
     DataStop,
-    DataListen {
-        address: u32,
-    },
-    DataConnect {
-        to: Address,
-    },
+    DataListen { address: u32 },
+    DataConnect { to: Address },
     MoverState,
-    MoverListen {
-        mode: u32,
-        address: u32,
-    },
+    MoverListen { mode: u32, address: u32 },
     MoverContinue,
     MoverAbort,
     MoverStop,
-    SetWindow {
-        offset: u64,
-        length: u64,
-    },
-    MoverRead {
-        offset: u64,
-        length: u64,
-    },
+    SetWindow { offset: u64, length: u64 },
+    MoverRead { offset: u64, length: u64 },
     MoverClose,
-    SetRecordSize {
-        size: u32,
-    },
-    MoverConnect {
-        mode: u32,
-        to: Address,
-    },
+    SetRecordSize { size: u32 },
+    MoverConnect { mode: u32, to: Address },
 }
 
-/// "What the vault handles": the numbers of 004; with 02 No. 3 also 0x404. The notices' own numbers are sent, not handled
-/// (reading).
-pub const HANDLED: [u32; 34] = [
-    0x900, 0x901, 0x902, 0x102, 0x108, 0x200, 0x201, 0x202, 0x204, 0x206, 0x300, 0x301, 0x302, 0x303, 0x304, 0x305,
-    0x400, 0x401, 0x402, 0x403, 0x404, 0x407, 0x409, 0x40a, 0xa00, 0xa01, 0xa02, 0xa03, 0xa04, 0xa05, 0xa06, 0xa07,
-    0xa08, 0xa09,
+/// "What the vault handles": the numbers of 004; with 02 No. 2 also 0x103, with No. 3 also 0x404. The notices' own numbers are sent,
+/// not handled (reading).
+pub const HANDLED: [u32; 35] = [
+    0x900, 0x901, 0x902, 0x102, 0x103, 0x108, 0x200, 0x201, 0x202, 0x204, 0x206, 0x300, 0x301, 0x302, 0x303, 0x304,
+    0x305, 0x400, 0x401, 0x402, 0x403, 0x404, 0x407, 0x409, 0x40a, 0xa00, 0xa01, 0xa02, 0xa03, 0xa04, 0xa05, 0xa06,
+    0xa07, 0xa08, 0xa09,
 ];
 
 /// None: the body does not decode.
@@ -112,15 +85,17 @@ pub fn decode(message: u32, body: &[u8]) -> Option<Request<'_>> {
     let request = match message {
         0x900 => Request::ConnectOpen { version: r.word()? },
         0x901 => {
-            // "... or an auth type other than 1: there the rest is not read."
-            if r.word()? != 1 {
-                return Some(Request::ClientAuth { text: None });
-            }
-            let id = r.opaque()?;
-            Request::ClientAuth { text: Some((id, r.opaque()?)) }
+            let auth = match auth_type(&mut r)? {
+                TEXT => Auth::Text { id: r.opaque()?, password: r.opaque()? },
+                // opaque auth_digest[16]: no length before it
+                MD5 => Auth::Md5 { id: r.opaque()?, digest: r.take(16)? },
+                _ => Auth::Other,
+            };
+            Request::ClientAuth { auth }
         }
         0x902 => Request::ConnectClose,
         0x102 => Request::ConnectionType,
+        0x103 => Request::AuthAttributes { kind: auth_type(&mut r)? },
         0x108 => Request::ServerInfo,
         0x200 => Request::ScsiOpen { device: r.opaque()? },
         0x201 => Request::ScsiClose,
@@ -198,6 +173,16 @@ fn environment<'a>(r: &mut Reader<'a>) -> Option<Vec<Pair<'a>>> {
             Some((name, r.opaque()?))
         })
         .collect()
+}
+
+/// 01: "Bytes left over make error 18, except after ... an auth type other than 1: there the rest is not read." 02 No. 2: "9
+/// for a type other than 1 and 2, its rest unread".
+fn auth_type(r: &mut Reader) -> Option<u32> {
+    let kind = r.word()?;
+    if !matches!(kind, TEXT | MD5) {
+        r.skip();
+    }
+    Some(kind)
 }
 
 /// The address type of a listen. "Bytes left over make error 18, except after an address type other than 0 ...: there

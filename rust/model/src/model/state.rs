@@ -1,5 +1,7 @@
 //! What a session keeps.
 
+use super::accounts::Challenge;
+
 /// "Data: IDLE 0, ACTIVE 1, HALTED 2, LISTEN 3, CONNECTED 4."
 pub mod data {
     pub const IDLE: u32 = 0;
@@ -35,6 +37,9 @@ pub struct State {
     /// No request was answered yet.
     pub fresh: bool,
     pub authorized: bool,
+    /// 02 No. 2: whether a challenge was given, and the newest.
+    pub challenged: bool,
+    pub challenge: Challenge,
     /// The number of the next message sent.
     pub number: u32,
     pub data: Data,
@@ -142,6 +147,8 @@ impl State {
             closed: false,
             fresh: true,
             authorized: false,
+            challenged: false,
+            challenge: [0; 64],
             number: 1,
             data: Data::at_rest(),
             mover: Mover::at_rest(10_240),

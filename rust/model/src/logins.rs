@@ -1,0 +1,345 @@
+//! Logins, and what they are to the accounts and to the challenge.
+
+use crate::accounts::{self, Entry, digest};
+use crate::model::accounts::{Challenge, MD5, TEXT};
+use proved::Session;
+use wire::{text, word, words};
+
+/// The body of a login by text.
+pub fn by_text(id: &[u8], password: &[u8]) -> Vec<u8> {
+    [words(&[TEXT]), text(id), text(password)].concat()
+}
+
+/// The body of a login by MD5.
+pub fn by_md5(id: &[u8], digest: &[u8]) -> Vec<u8> {
+    [&words(&[MD5])[..], &text(id), digest].concat()
+}
+
+/// What a login meets.
+pub struct Met<'a> {
+    pub session: &'a Session,
+    pub accounts: &'a [u8],
+    /// The challenge that is lent with it, and one that was given before the newest.
+    pub lent: &'a Challenge,
+    pub older: Option<Challenge>,
+}
+
+/// Every case that has to be reached, with the number that answers it.
+pub fn wanted() -> Vec<(String, u32)> {
+    let mut all: Vec<(String, u32)> = RIGHT.iter().map(|case| (case.to_string(), 0)).collect();
+    all.extend(WRONG.iter().map(|case| (case.to_string(), 4)));
+    for (kind, buffer, laid) in accounts::kinds() {
+        if accounts::meant(&buffer).is_empty() {
+            all.extend(["text", "md5"].map(|how| (format!("{how}, accounts: {kind}"), 4)));
+        } else if laid {
+            all.extend(["text", "md5"].map(|how| (format!("{how}, right, {kind}"), 0)));
+        } else {
+            all.extend(["text", "md5"].map(|how| (format!("{how}, right but for accounts: {kind}"), 4)));
+        }
+    }
+    for after in ["", ", no challenge given"] {
+        all.extend(SHAPES.map(|case| (format!("md5{after}, {case}"), 18)));
+    }
+    all.push(("text, bytes left over".into(), 18));
+    for kind in ["0", "3", "all ones"] {
+        all.extend(["", " and a rest"].map(|rest| (format!("type {kind}{rest}"), 9)));
+    }
+    all
+}
+
+const RIGHT: [&str; 15] = [
+    "text, right",
+    "text, right, id stands before it",
+    "text, right, the eighth",
+    "text, right, both empty",
+    "text, right, password above 32 bytes",
+    "text, right, challenge given",
+    "text, right, logged in already",
+    "md5, right",
+    "md5, right, id stands before it",
+    "md5, right, the eighth",
+    "md5, right, empty id",
+    "md5, right, password of 1 byte",
+    "md5, right, password of 31 bytes",
+    "md5, right, password of 32 bytes",
+    "md5, right, logged in already",
+];
+
+const WRONG: [&str; 21] = [
+    "text, of an MD5 account",
+    "text, wrong password",
+    "text, another's password",
+    "text, unknown id",
+    "text, wrong, logged in already",
+    "md5, no challenge given, digest of zeros",
+    "md5, no challenge given, digest of the lent one",
+    "md5, no challenge given, digest of the one kept",
+    "md5, no challenge given, any digest",
+    "md5, of a text account",
+    "md5, an older challenge",
+    "md5, the lent challenge",
+    "md5, last byte wrong",
+    "md5, first byte wrong",
+    "md5, another's digest",
+    "md5, empty password",
+    "md5, password of 33 bytes, cut",
+    "md5, password of 33 bytes, whole",
+    "md5, wrong digest",
+    "md5, unknown id",
+    "md5, wrong, logged in already",
+];
+
+/// Ways of a body that do not decode.
+const SHAPES: [&str; 4] = ["one byte short", "one byte long", "a length before the digest", "no digest"];
+
+/// What this login is; several may apply.
+pub fn cases(body: &[u8], met: &Met) -> Vec<String> {
+    let Some(kind) = wire::word_at(body, 0) else { return vec![] };
+    let mut rest = &body[4..];
+    match kind {
+        TEXT => {
+            let Some((id, password)) = one(&mut rest).zip(one(&mut rest)) else { return vec![] };
+            if !rest.is_empty() {
+                return vec!["text, bytes left over".into()];
+            }
+            told("text", text_cases(&id, &password, met), met)
+        }
+        MD5 => {
+            let Some(id) = one(&mut rest) else { return vec![] };
+            if rest.len() == 16 {
+                let given = met.session.login.challenged;
+                let all = if given { md5_cases(&id, rest, met) } else { unchallenged(&id, rest, met) };
+                return told("md5", all, met);
+            }
+            let shape = match rest.len() {
+                0 => 3,
+                15 => 0,
+                17 => 1,
+                20 if word(rest, 0) == 16 => 2,
+                _ => return vec![],
+            };
+            let after = if met.session.login.challenged { "" } else { ", no challenge given" };
+            vec![format!("md5{after}, {}", SHAPES[shape])]
+        }
+        _ => {
+            let kind = if kind == u32::MAX { "all ones".into() } else { kind.to_string() };
+            vec![format!("type {kind}{}", if rest.is_empty() { "" } else { " and a rest" })]
+        }
+    }
+}
+
+/// A text, if its fill is zero.
+fn one(rest: &mut &[u8]) -> Option<Vec<u8>> {
+    let n = wire::word(rest.split_off(..4)?, 0) as usize;
+    let bytes = rest.split_off(..n.checked_add((4 - n % 4) % 4)?)?;
+    bytes[n..].iter().all(|b| *b == 0).then(|| bytes[..n].to_vec())
+}
+
+/// With how it is made, and what the accounts are.
+fn told(how: &str, all: Vec<String>, met: &Met) -> Vec<String> {
+    let kind = accounts::kind(met.accounts);
+    let mut all: Vec<String> = all.into_iter().map(|case| format!("{how}, {case}")).collect();
+    if matches!(kind, "no bytes" | "no entries") {
+        all.push(format!("{how}, accounts: {kind}"));
+    }
+    if let Some(entry) = all.iter().find(|case| case.ends_with(", right")) {
+        all.push(format!("{entry}, {kind}"));
+    } else if met.session.login.authorized {
+        all.push(format!("{how}, wrong, logged in already"));
+    }
+    all
+}
+
+/// Of a login that an entry lets in, if the accounts are laid out right.
+fn right(chosen: usize, entries: &[Entry], met: &Met) -> Vec<String> {
+    let kind = accounts::kind(met.accounts);
+    if !accounts::is_laid(kind) {
+        return vec![format!("right but for accounts: {kind}")];
+    }
+    let Entry { id, password, .. } = &entries[chosen];
+    let login = &met.session.login;
+    let mut all = vec!["right".to_string()];
+    for (case, applies) in [
+        ("id stands before it", entries[..chosen].iter().any(|e| e.id == *id)),
+        ("the eighth", chosen == 7),
+        ("both empty", id.is_empty() && password.is_empty()),
+        ("empty id", id.is_empty()),
+        ("password above 32 bytes", password.len() > 32),
+        ("challenge given", login.challenged),
+        ("logged in already", login.authorized),
+        ("password of 1 byte", password.len() == 1),
+        ("password of 31 bytes", password.len() == 31),
+        ("password of 32 bytes", password.len() == 32),
+    ] {
+        if applies {
+            all.push(format!("right, {case}"));
+        }
+    }
+    all
+}
+
+fn text_cases(id: &[u8], password: &[u8], met: &Met) -> Vec<String> {
+    let entries = accounts::meant(met.accounts);
+    let same = |e: &Entry| e.id == id && e.password == password;
+    if let Some(chosen) = entries.iter().position(|e| e.kind == TEXT && same(e)) {
+        return right(chosen, &entries, met);
+    }
+    let case = match () {
+        _ if entries.iter().any(same) => "of an MD5 account",
+        _ if !entries.iter().any(|e| e.id == id) => "unknown id",
+        _ if entries.iter().any(|e| e.kind == TEXT && e.password == password) => "another's password",
+        _ => "wrong password",
+    };
+    vec![case.into()]
+}
+
+/// By MD5, and no challenge was given.
+fn unchallenged(id: &[u8], sent: &[u8], met: &Met) -> Vec<String> {
+    let entries = accounts::meant(met.accounts);
+    let of = |challenge: &Challenge| {
+        entries
+            .iter()
+            .any(|e| e.kind == MD5 && e.id == id && e.serves() && digest(&e.password, challenge, true) == sent)
+    };
+    let kept = &met.session.login.challenge;
+    let case = match () {
+        _ if of(&[0; 64]) => "digest of zeros",
+        _ if of(met.lent) => "digest of the lent one",
+        _ if of(kept) => "digest of the one kept",
+        _ => "any digest",
+    };
+    vec![format!("no challenge given, {case}")]
+}
+
+fn md5_cases(id: &[u8], sent: &[u8], met: &Met) -> Vec<String> {
+    let entries = accounts::meant(met.accounts);
+    let newest = &met.session.login.challenge;
+    let makes = |e: &Entry, challenge: &Challenge| digest(&e.password, challenge, true) == sent;
+    if let Some(chosen) = entries.iter().position(|e| e.kind == MD5 && e.id == id && e.serves() && makes(e, newest)) {
+        return right(chosen, &entries, met);
+    }
+    let of = |kind: u32| entries.iter().filter(move |e| e.kind == kind && e.id == id);
+    let long = |cut: bool| of(MD5).any(|e| e.password.len() == 33 && digest(&e.password, newest, cut) == sent);
+    let near = |at: usize| {
+        of(MD5).any(|e| {
+            let right = digest(&e.password, newest, true);
+            (0..16).all(|i| (right[i] == sent[i]) == (i != at))
+        })
+    };
+    let case = match () {
+        _ if of(MD5).any(|e| e.password.is_empty() && makes(e, newest)) => "empty password",
+        _ if long(true) => "password of 33 bytes, cut",
+        _ if long(false) => "password of 33 bytes, whole",
+        _ if of(TEXT).any(|e| makes(e, newest)) => "of a text account",
+        _ if of(MD5).any(|e| e.serves() && met.older.is_some_and(|c| makes(e, &c))) => "an older challenge",
+        _ if of(MD5).any(|e| e.serves() && makes(e, met.lent)) => "the lent challenge",
+        _ if near(15) => "last byte wrong",
+        _ if near(0) => "first byte wrong",
+        _ if entries.iter().any(|e| e.kind == MD5 && e.id != id && e.serves() && makes(e, newest)) => {
+            if entries.iter().any(|e| e.id == id) { "another's digest" } else { "unknown id" }
+        }
+        _ => "wrong digest",
+    };
+    vec![case.into()]
+}
+
+/// 0x103: every case that has to be reached, with the number that answers it.
+pub fn wanted_attributes() -> Vec<(String, u32)> {
+    let mut all = vec![];
+    for kind in ["1", "2"] {
+        let cases = ["before auth", "after auth", "the first request", "none before", "one before"];
+        all.extend(cases.map(|case| (format!("{kind}, {case}"), 0)));
+        all.push((format!("{kind}, bytes left over"), 18));
+    }
+    for kind in ["0", "3", "all ones"] {
+        all.extend(["before auth", "after auth", "a rest"].map(|case| (format!("{kind}, {case}"), 9)));
+    }
+    all.push(("one before".into(), 9));
+    all.extend(["no body", "less than a word"].map(|case| (case.into(), 18)));
+    all
+}
+
+/// What this 0x103 is.
+pub fn attribute_cases(body: &[u8], before: &Session) -> Vec<String> {
+    let kind = match wire::word_at(body, 0) {
+        None => return vec![if body.is_empty() { "no body" } else { "less than a word" }.into()],
+        Some(u32::MAX) => "all ones".into(),
+        Some(kind) => kind.to_string(),
+    };
+    let other = !matches!(kind.as_str(), "1" | "2");
+    let mut all = vec![];
+    if body.len() > 4 {
+        all.push(format!("{kind}, {}", if other { "a rest" } else { "bytes left over" }));
+        if !other {
+            return all;
+        }
+    }
+    all.push(format!("{kind}, {} auth", if before.login.authorized { "after" } else { "before" }));
+    if before.first {
+        all.push(format!("{kind}, the first request"));
+    }
+    let given = if before.login.challenged { "one before" } else { "none before" };
+    all.extend([format!("{kind}, {given}"), given.into()]);
+    all
+}
+
+#[cfg(test)]
+mod tests {
+    use super::*;
+    use crate::convert::session;
+    use crate::model::State;
+
+    const NEWEST: Challenge = [1; 64];
+    const LENT: Challenge = [2; 64];
+    const OLDER: Challenge = [3; 64];
+
+    /// The cases of a login by these accounts; not yet logged in.
+    fn told(entries: &[Entry], challenged: bool, body: Vec<u8>) -> Vec<String> {
+        let mut s = session(&State::at_rest());
+        (s.login.challenged, s.login.challenge) = (challenged, NEWEST);
+        let accounts = accounts::of(entries);
+        cases(&body, &Met { session: &s, accounts: &accounts, lent: &LENT, older: Some(OLDER) })
+    }
+
+    #[test]
+    fn cases_are_what_their_names_say() {
+        let md5 = |password: &[u8], challenge| by_md5(b"id", &digest(password, &challenge, true));
+        let long = [b'p'; 33];
+        let [text, short] = [Entry::of(TEXT, b"id", b"words"), Entry::of(MD5, b"id", b"five5")];
+        let more = [Entry::of(MD5, b"id", &long), Entry::of(MD5, b"id", b""), Entry::of(MD5, b"op", b"x")];
+        let all = [vec![text, short], more.to_vec()].concat();
+        let mut wrong = digest(b"five5", &NEWEST, true);
+        wrong[15] ^= 1;
+        for (body, case) in [
+            (by_text(b"id", b"words"), "text, right"),
+            (by_text(b"id", b"five5"), "text, of an MD5 account"),
+            (by_text(b"op", b"words"), "text, another's password"),
+            (by_text(b"no", b"words"), "text, unknown id"),
+            (md5(b"five5", NEWEST), "md5, right, id stands before it"),
+            (md5(b"words", NEWEST), "md5, of a text account"),
+            (md5(b"five5", LENT), "md5, the lent challenge"),
+            (md5(b"five5", OLDER), "md5, an older challenge"),
+            (md5(b"", NEWEST), "md5, empty password"),
+            (md5(&long, NEWEST), "md5, password of 33 bytes, cut"),
+            (by_md5(b"id", &digest(&long, &NEWEST, false)), "md5, password of 33 bytes, whole"),
+            (md5(b"x", NEWEST), "md5, another's digest"),
+            (by_md5(b"id", &wrong), "md5, last byte wrong"),
+            (by_md5(b"id", &wrong[..15]), "md5, one byte short"),
+            ([words(&[3]), vec![0]].concat(), "type 3 and a rest"),
+        ] {
+            let told = told(&all, true, body);
+            assert!(told.iter().any(|t| t == case), "{case}: {told:?}");
+        }
+        let none = "md5, no challenge given, digest of the one kept";
+        assert_eq!(told(&all, false, md5(b"five5", NEWEST)), [none]);
+    }
+
+    #[test]
+    fn no_case_is_wanted_twice() {
+        let mut all: Vec<String> = wanted().into_iter().chain(wanted_attributes()).map(|(case, _)| case).collect();
+        let count = all.len();
+        all.sort();
+        all.dedup();
+        assert_eq!(all.len(), count);
+    }
+}
