@@ -1,4 +1,5 @@
 //! The options of `mossgoblin serve`.
+use crate::accounts::{Account, Kind};
 use crate::line::Limits;
 use crate::options::{Known, Written, alone, valued};
 use crate::ports::{self, Ports};
@@ -7,10 +8,11 @@ use std::os::unix::ffi::OsStrExt;
 use std::path::PathBuf;
 use std::time::Duration;
 
-pub const SERVE: [Known; 16] = [
+pub const SERVE: [Known; 17] = [
     valued("--listen"),
     valued("--cartridge"),
     valued("--new-cartridge"),
+    valued("--accounts"),
     valued("--account"),
     valued("--stream"),
     valued("--restore-to"),
@@ -30,8 +32,9 @@ pub struct Args {
     pub listen: String,
     pub cartridge: PathBuf,
     pub new_cartridge: Option<usize>,
-    pub id: Vec<u8>,
-    pub password: Vec<u8>,
+    /// Who may log in: the one of the command line, and those of a file.
+    pub account: Option<Account>,
+    pub accounts: Option<PathBuf>,
     pub stream: Option<PathBuf>,
     pub restore_to: Option<PathBuf>,
     pub ports: Ports,
@@ -53,15 +56,17 @@ pub fn size(text: &str) -> Option<usize> {
     digits.parse::<usize>().ok()?.checked_mul(unit).filter(|n| *n <= crate::cartridge::MOST_BODY)
 }
 
-/// The id and the password of `ID:PASSWORD`.
-pub fn account(value: &OsStr) -> Result<(Vec<u8>, Vec<u8>), String> {
+pub const NO_ACCOUNT: &str = "--accounts FILE or --account ID:PASSWORD is missing";
+
+/// The account `ID:PASSWORD`, which logs in by text.
+pub fn account(value: &OsStr) -> Result<Account, String> {
     let bytes = value.as_bytes();
     let at = bytes.iter().position(|b| *b == b':').ok_or("--account: expected ID:PASSWORD, such as vault:noon")?;
     let (id, password) = (&bytes[..at], &bytes[at + 1..]);
     if id.is_empty() || password.is_empty() {
         return Err("--account: an empty id or password would let anyone in; expected ID:PASSWORD".into());
     }
-    Ok((id.to_vec(), password.to_vec()))
+    Ok(Account { kind: Kind::Text, id: id.to_vec(), password: password.to_vec() })
 }
 
 /// A port alone is one of this machine's.
@@ -93,13 +98,17 @@ pub fn serve(w: &Written) -> Result<Args, String> {
         Some("marks") => true,
         Some(v) => return Err(format!("--sync: {v}: expected each or marks")),
     };
-    let (id, password) = account(w.value("--account").ok_or("--account ID:PASSWORD is missing")?)?;
+    let one = w.value("--account").map(account).transpose()?;
+    let accounts = w.value("--accounts").map(PathBuf::from);
+    if one.is_none() && accounts.is_none() {
+        return Err(NO_ACCOUNT.into());
+    }
     Ok(Args {
         listen: w.text("--listen")?.ok_or("--listen ADDRESS:PORT is missing")?.to_string(),
         cartridge: w.value("--cartridge").map(PathBuf::from).ok_or("--cartridge FILE is missing")?,
         new_cartridge,
-        id,
-        password,
+        account: one,
+        accounts,
         stream: w.value("--stream").map(PathBuf::from),
         restore_to: w.value("--restore-to").map(PathBuf::from),
         ports: Ports {

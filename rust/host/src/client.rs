@@ -1,10 +1,11 @@
 //! A small NDMP client: for `mossgoblin try`, the tests and the benchmark.
-use proved::{Data, Mover, codes};
+use proved::{Challenge, Data, Mover, codes};
 use std::collections::VecDeque;
 use std::fmt;
 use std::io::{self, Read, Write};
 use std::net::TcpStream;
 use std::time::Duration;
+use wire::md5::login_digest;
 use wire::message::*;
 use wire::{HEADER, Header, LAST, quad, quads, request, text, word, word_at, words};
 
@@ -202,12 +203,35 @@ impl Client {
         Ok(m.first())
     }
 
-    /// Waits for the notice of connection, opens and logs in.
-    pub fn login(&mut self, id: &[u8], password: &[u8]) -> Result<()> {
+    /// Waits for the notice of connection, and opens.
+    pub fn open(&mut self) -> Result<()> {
         self.noticed(NOTIFY_CONNECTED)?;
-        self.good(CONNECT_OPEN, &words(&[codes::VERSION_FOUR]))?;
-        self.good(CONNECT_CLIENT_AUTH, &[words(&[1]), text(id), text(password)].concat())?;
-        Ok(())
+        self.good(CONNECT_OPEN, &words(&[codes::VERSION_FOUR])).map(drop)
+    }
+
+    /// The same, and logs in by text.
+    pub fn login(&mut self, id: &[u8], password: &[u8]) -> Result<()> {
+        self.open()?;
+        self.good(CONNECT_CLIENT_AUTH, &[words(&[codes::TEXT_AUTH]), text(id), text(password)].concat()).map(drop)
+    }
+
+    /// The same by MD5: the password itself is not sent.
+    pub fn login_by_md5(&mut self, id: &[u8], password: &[u8]) -> Result<()> {
+        self.open()?;
+        let challenge = self.challenge()?;
+        // A password of another length lets nobody in.
+        let never = Error::Refused { message: CONNECT_CLIENT_AUTH, error: codes::NOT_AUTHORIZED };
+        let digest = login_digest(password, &challenge).ok_or(never)?;
+        self.good(CONNECT_CLIENT_AUTH, &[&words(&[codes::MD5_AUTH]), &text(id), &digest[..]].concat()).map(drop)
+    }
+
+    /// A challenge for a login by MD5.
+    pub fn challenge(&mut self) -> Result<Challenge> {
+        let body = self.good(CONFIG_GET_AUTH_ATTR, &words(&[codes::MD5_AUTH]))?;
+        let given = body.get(8..).and_then(|bytes| bytes.try_into().ok());
+        given
+            .filter(|_| word(&body, 4) == codes::MD5_AUTH)
+            .ok_or_else(|| Error::Odd(format!("auth attributes of {} bytes", body.len())))
     }
 
     pub fn tape_open(&mut self, mode: u32) -> Result<()> {

@@ -23,7 +23,8 @@ Examples:
 pub const SERVE: &str = "\
 mossgoblin serve: put a cartridge on a port, for any NDMP v4 client
 
-  mossgoblin serve --listen ADDRESS:PORT --cartridge FILE --account ID:PASSWORD
+  mossgoblin serve --listen ADDRESS:PORT --cartridge FILE
+                   --accounts FILE | --account ID:PASSWORD
                    [--new-cartridge SIZE] [--stream DIR|FILE] [--restore-to DIR|FILE]
                    [--data-address ADDRESS[,ADDRESS..]] [--data-ports LOW-HIGH]
                    [--strict] [--sync each|marks] [--status [ADDRESS:]PORT]
@@ -37,9 +38,15 @@ mossgoblin serve: put a cartridge on a port, for any NDMP v4 client
   --new-cartridge SIZE    make FILE first; it must not exist. SIZE is the room for data:
                           bytes, or with K, M, G behind the number; at most 128M.
                           The table has room for 4,096 records and marks.
-  --account ID:PASSWORD   the one account for the text login, neither empty; the password
-                          may hold colons, and both are seen by those who may list
-                          processes
+  --accounts FILE         who may log in: a line each, `text ID PASSWORD` or
+                          `md5 ID PASSWORD`, at most eight. An account logs in by its
+                          kind alone; by MD5 the password does not go over the network,
+                          and has at most 32 bytes. An id or a password has no blanks.
+                          Empty lines and those that begin with # are passed over. FILE
+                          is yours or root's, and nobody else's to read: chmod 600 FILE.
+                          It is read once, at the start.
+  --account ID:PASSWORD   one more account, by text, neither empty; the password may hold
+                          colons, and both are seen by those who may list processes
   --stream DIR|FILE       what a backup reads: a folder goes to tape as a tar archive,
                           a file as an archive of one member. Length and SHA-256 stand
                           at its end.
@@ -79,12 +86,12 @@ mossgoblin serve: put a cartridge on a port, for any NDMP v4 client
   --quiet                 no progress and no refusals on standard error, only errors
 
 The devices are `tape0` and `changer0`, the method is `dump`, addresses are LOCAL and TCP.
-A backup, seen from the client: connect open (version 4), client auth (text), tape open
-`tape0` for writing, mover set record size (10,240 where it is left out), mover set window,
-mover listen (mode 0), data connect, data start backup. At `mover paused` with reason 5 (end
-of window): set the next window and continue; a window of length 2^64 - 1 has no end. At
-`data halted`: data get env, which gives the variables of the start back, until data stop;
-mover stop, tape close.
+A backup, seen from the client: connect open (version 4), client auth (text, or MD5 behind get
+auth attributes), tape open `tape0` for writing, mover set record size (10,240 where it is left
+out), mover set window, mover listen (mode 0), data connect, data start backup. At `mover
+paused` with reason 5 (end of window): set the next window and continue; a window of length
+2^64 - 1 has no end. At `data halted`: data get env, which gives the variables of the start
+back, until data stop; mover stop, tape close.
 A recover is the same with mode 1 and data start recover, from a rewound tape; the mover
 reads are made by the vault.
 A copy between two vaults has a session on each: mover listen by TCP where the tape is gives
@@ -100,10 +107,11 @@ The vault runs until SIGTERM or SIGINT, which end it in order; what a client was
 the disk.
 
 Examples:
+  (umask 077; echo md5 vault noon > accounts)
   mossgoblin serve --listen 127.0.0.1:10000 --cartridge tape --new-cartridge 128M \\
-                   --account vault:noon --stream docs --restore-to /tmp/restored
+                   --accounts accounts --stream docs --restore-to /tmp/restored
   mossgoblin serve --listen=127.0.0.1:10000 --cartridge=tape --account=vault:noon --status=8080
-  mossgoblin serve --listen 10.0.0.2:10000 --cartridge tape --account vault:noon \\
+  mossgoblin serve --listen 10.0.0.2:10000 --cartridge tape --accounts accounts \\
                    --data-address 10.0.0.2 --data-ports 10100-10131
 ";
 
@@ -154,8 +162,8 @@ pub const TRY: &str = "\
 mossgoblin try: make a backup and a recover, and compare
 
   mossgoblin try
-  mossgoblin try ADDRESS:PORT --account ID:PASSWORD [--overwrite]
-                 [--stream DIR|FILE --restore-to DIR|FILE]
+  mossgoblin try ADDRESS:PORT --accounts FILE | --account ID:PASSWORD
+                 [--overwrite] [--stream DIR|FILE --restore-to DIR|FILE]
 
 Without an address a vault is started on loopback, with a fresh cartridge and some files in
 a temporary folder; all of it is gone at the end. With an address the vault there is tried.
@@ -166,7 +174,9 @@ A line tells each step, with its bytes and rate:
   recover    it comes back to what the vault's --restore-to names
   compared   both, byte for byte, where this machine has them
 
-  --account ID:PASSWORD      as the vault was started with
+  --accounts FILE            as the vault was started with: the first account of FILE logs
+                             in, by its kind
+  --account ID:PASSWORD      as the vault was started with: a login by text
   --overwrite                write over the records on the vault's tape; without it a tape
                              that is not empty is left as it is
   --stream, --restore-to     the same that the vault was started with, if it runs on this
@@ -174,5 +184,5 @@ A line tells each step, with its bytes and rate:
 
 Examples:
   mossgoblin try
-  mossgoblin try 127.0.0.1:10000 --account vault:noon --overwrite
+  mossgoblin try 127.0.0.1:10000 --accounts accounts --overwrite
 ";

@@ -1,4 +1,5 @@
 //! A tape vault on TCP: the proved session core answers, this program reads and writes sockets and files.
+pub mod accounts;
 pub mod args;
 pub mod cartridge;
 pub mod client;

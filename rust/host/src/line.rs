@@ -11,7 +11,7 @@ use crate::variables;
 use crate::vault::Vault;
 use crate::watch::Watch;
 use crate::wishes::Wishes;
-use proved::Session;
+use proved::{Challenge, Session, codes};
 use std::collections::BTreeMap;
 use std::fmt::{self, Display};
 use std::io::{ErrorKind, Write};
@@ -36,8 +36,8 @@ pub struct Limits {
 /// What all connections share.
 pub struct Shared {
     pub vault: Vault,
-    pub id: Vec<u8>,
-    pub password: Vec<u8>,
+    /// Who may log in, as the core is lent it.
+    pub accounts: Vec<u8>,
     pub stream: Option<PathBuf>,
     pub restore_to: Option<PathBuf>,
     /// Where peers connect.
@@ -125,6 +125,8 @@ pub struct Line<'a> {
     pub variables: Vec<u8>,
     /// The length of the stream that the job reads, where it is known.
     pub whole: Option<u64>,
+    /// Lent with every request. The core gives and keeps it at get auth attributes alone, before which it is drawn.
+    pub challenge: Challenge,
     pub out: Vec<u8>,
     pub progress: Progress<'a>,
     /// Bytes on the tape in memory that the file does not have yet, and how many there may be.
@@ -169,6 +171,7 @@ impl<'a> Line<'a> {
             wishes: Wishes::default(),
             variables: variables::none(),
             whole: None,
+            challenge: [0; codes::CHALLENGE_LENGTH],
             out,
             progress: Progress::new(&shared.log, number),
             unstored: 0,
@@ -186,9 +189,9 @@ impl Line<'_> {
 
     /// With the addresses that a listen by TCP answers, and whether the connection of a connect by TCP was made.
     pub fn ask_with(&mut self, record: &[u8], addresses: &[u8], made: bool) -> proved::Answer {
-        let (id, password) = (&self.shared.id, &self.shared.password);
+        let (accounts, challenge) = (&self.shared.accounts, &self.challenge);
         let (image, variables, out) = (image(&mut self.held), &mut self.variables, &mut self.out);
-        proved::request(self.core, id, password, addresses, made, image, variables, record, seconds(), out)
+        proved::request(self.core, accounts, challenge, addresses, made, image, variables, record, seconds(), out)
     }
 
     /// Takes over what a call made of the session; `from` is the tape's position before a call that may have written

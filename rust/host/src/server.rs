@@ -1,4 +1,5 @@
 //! Starting the vault, and one thread for each connection.
+use crate::accounts::{self, Account, Kind};
 use crate::args::Args;
 use crate::cartridge::{self, Cartridge};
 use crate::folder::Id;
@@ -100,8 +101,9 @@ fn cartridge_of(args: &Args) -> Result<Cartridge, String> {
     Ok(cartridge)
 }
 
-pub fn run(args: Args) -> Result<(), String> {
+pub fn run(mut args: Args) -> Result<(), String> {
     check(&args)?;
+    let accounts = accounts::all(args.account.take(), args.accounts.as_deref())?;
     // The ports first: a cartridge is made only if the vault can start.
     let listener = listen("--listen", &args.listen)?;
     let page = args.status.as_deref().map(|a| listen("--status", a)).transpose()?;
@@ -110,11 +112,10 @@ pub fn run(args: Args) -> Result<(), String> {
     let watch = page.is_some().then(|| Watch::new(&cartridge, &args.cartridge));
     let address = listener.local_addr().map_err(|e| e.to_string())?;
     let _ = writeln!(stdout(), "listening on {address}");
-    let Args { id, password, stream, restore_to, ports, limits, strict, marks, quiet, .. } = args;
+    let Args { stream, restore_to, ports, limits, strict, marks, quiet, .. } = args;
     let shared = Arc::new(Shared {
         vault: Vault::new(cartridge),
-        id,
-        password,
+        accounts: accounts::lent(&accounts),
         stream,
         restore_to,
         ports,
@@ -127,13 +128,22 @@ pub fn run(args: Args) -> Result<(), String> {
         open: Mutex::default(),
         ending: AtomicBool::new(false),
     });
-    warn_of(&shared.log, "--listen", address.ip(), address, "logins and data go over the network as they are");
+    warn_of(&shared.log, "--listen", address.ip(), address, in_the_clear(&accounts));
     for at in &shared.ports.addresses {
         warn_of(&shared.log, "--data-address", (*at).into(), at, UNKNOWN_PEER);
     }
     page.map_or(Ok(()), |page| start_page(page, &shared, address)).map_err(|e| format!("--status: {e}"))?;
     hear_signals(shared.clone()).map_err(|e| format!("signals: {e}"))?;
     accept(&listener, shared)
+}
+
+/// What others on the network can read. A login by MD5 is none of it.
+fn in_the_clear(accounts: &[Account]) -> &'static str {
+    if accounts.iter().any(|a| a.kind == Kind::Text) {
+        "logins by text and data go over the network as they are"
+    } else {
+        "data go over the network as they are"
+    }
 }
 
 const UNKNOWN_PEER: &str =

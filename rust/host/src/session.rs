@@ -1,4 +1,5 @@
 //! One connection: each record goes to the core, and what the core writes goes to the client.
+use crate::accounts::Kind;
 use crate::frames::{End, Frames};
 use crate::line::{Line, Over, Result, Shared, seconds};
 use crate::server::Leaves;
@@ -84,6 +85,13 @@ fn refusal(reply: &[u8]) -> Option<u32> {
     (!matches!(told, 0 | codes::AT_MARK | codes::AT_END)).then_some(told)
 }
 
+/// Who a login is for, and by which kind.
+fn login_of(record: &[u8]) -> String {
+    let (kind, id) = wishes::login(record).unwrap_or_default();
+    let kind = if kind == codes::MD5_AUTH { Kind::Md5 } else { Kind::Text };
+    format!("{} by {kind}", variables::quoted(&id))
+}
+
 impl Connection<'_> {
     /// The next record, which is waited for. False if the client has closed the connection.
     fn next(&mut self, frames: &mut Frames) -> Result<bool> {
@@ -106,9 +114,8 @@ impl Connection<'_> {
         Ok(true)
     }
 
-    /// One record from the client. What it changed is on the disk before the reply goes out; where `more` writes follow
-    /// that were read together with it, all of them become so at once.
-    fn request(&mut self, record: &[u8], more: bool) -> Result<()> {
+    /// What is done before the core is asked.
+    fn prepare(&mut self, record: &[u8]) -> Result<()> {
         let line = &mut self.line;
         // What a move did may be told by the reply.
         if line.unstored > 0
@@ -116,20 +123,36 @@ impl Connection<'_> {
         {
             line.medium_failed(why)?;
         }
-        // No other request reads the image while the tape is closed.
-        if line.held.is_none() && line.core.login.authorized && number(record) == message::TAPE_OPEN {
-            line.take();
+        match number(record) {
+            // No other request reads the image while the tape is closed.
+            message::TAPE_OPEN if line.held.is_none() && line.core.login.authorized => line.take(),
+            // No other request is given one, so none fails where the system has no randomness; this one ends the
+            // connection there, and no client gets a challenge that could be foreseen.
+            message::CONFIG_GET_AUTH_ATTR => {
+                sys::random(&mut line.challenge).map_err(|e| format!("no challenge could be drawn: {e}"))?;
+            }
+            _ => {}
         }
+        Ok(())
+    }
+
+    /// One record from the client. What it changed is on the disk before the reply goes out; where `more` writes follow
+    /// that were read together with it, all of them become so at once.
+    fn request(&mut self, record: &[u8], more: bool) -> Result<()> {
+        self.prepare(record)?;
+        let line = &mut self.line;
         let (before, was) = (line.core.tape.position, line.core.source.state);
         let done = line.answer(record);
         line.became(done.code, done.session, writes(record).then_some(before))?;
         let refused = refusal(&line.out[..done.len]);
         self.replies.extend(&line.out[..done.len]);
-        let wrong = refused == Some(codes::NOT_AUTHORIZED) && number(record) == message::CONNECT_CLIENT_AUTH;
+        // What is no request is not answered.
+        let login = number(record) == message::CONNECT_CLIENT_AUTH && done.len > 0;
+        let wrong = login && refused == Some(codes::NOT_AUTHORIZED);
         if wrong {
             self.wrong_login(record);
         } else {
-            self.tell(record, refused, was);
+            self.tell(record, refused, was, login);
         }
         if writes(record) {
             self.writes.push(record.to_vec());
@@ -150,10 +173,8 @@ impl Connection<'_> {
     /// A wrong login is told, and answered late.
     fn wrong_login(&mut self, record: &[u8]) {
         self.wrong += 1;
-        let id = wishes::login_id(record).unwrap_or_default();
-        let id: String = String::from_utf8_lossy(&id).chars().take(64).collect();
         let peer = self.line.socket.peer_addr().map_or("?".into(), |a| a.to_string());
-        self.line.progress.error(format_args!("wrong login as \"{id}\" from {peer}"));
+        self.line.progress.error(format_args!("wrong login as {} from {peer}", login_of(record)));
         std::thread::sleep(WRONG_LOGIN);
     }
 
@@ -208,13 +229,15 @@ impl Connection<'_> {
         Ok(())
     }
 
-    /// Refusals, and wishes that are not followed.
-    fn tell(&mut self, record: &[u8], refused: Option<u32>, was: u32) {
+    /// Refusals, logins, and wishes that are not followed.
+    fn tell(&mut self, record: &[u8], refused: Option<u32>, was: u32, login: bool) {
         let line = &mut self.line;
         let message = number(record);
         if let Some(error) = refused {
             let (name, meaning) = (message::name(message), crate::client::meaning(error));
             line.progress.line(format_args!("refused: {name} (0x{message:03x}) with {error}{meaning}"));
+        } else if login {
+            line.progress.line(format_args!("logged in as {}", login_of(record)));
         } else if was != Data::ACTIVE && line.core.source.state == Data::ACTIVE {
             line.started(record);
         }

@@ -13,7 +13,7 @@ pub const READ: c_int = 0;
 pub const WRITE: c_int = 1;
 pub const CREATE: c_int = 0o100;
 pub const EXCLUSIVE: c_int = 0o200;
-const NO_TERMINAL: c_int = 0o400;
+pub const NO_TERMINAL: c_int = 0o400;
 /// A FIFO is opened without a wait for its other end.
 pub const NO_WAIT: c_int = 0o4000;
 const CLOSE_ON_EXEC: c_int = 0o2_000_000;
@@ -89,6 +89,8 @@ unsafe extern "C" {
     fn pipe2(ends: *mut c_int, flags: c_int) -> c_int;
     fn write(fd: c_int, bytes: *const c_void, n: usize) -> isize;
     fn ioctl(fd: c_int, what: c_ulong, ...) -> c_int;
+    fn getrandom(bytes: *mut c_void, n: usize, flags: c_uint) -> isize;
+    fn geteuid() -> c_uint;
     fn __errno_location() -> *mut c_int;
 }
 
@@ -275,6 +277,28 @@ pub fn break_on_close(socket: &impl AsRawFd, breaks: bool) -> io::Result<()> {
 pub fn quick_ack(socket: &impl AsRawFd) -> io::Result<()> {
     const QUICK_ACK: c_int = 12;
     socket_number(socket, TCP, QUICK_ACK, 1)
+}
+
+/// The user whose rights the program has.
+pub fn user() -> u32 {
+    unsafe { geteuid() }
+}
+
+/// Fills all of it from the system's source of randomness, which is waited for until it has been seeded.
+pub fn random(mut bytes: &mut [u8]) -> io::Result<()> {
+    while !bytes.is_empty() {
+        match unsafe { getrandom(bytes.as_mut_ptr().cast(), bytes.len(), 0) } {
+            n @ 1.. => bytes = &mut bytes[n as usize..],
+            0 => return Err(io::ErrorKind::UnexpectedEof.into()),
+            _ => {
+                let why = io::Error::last_os_error();
+                if why.kind() != io::ErrorKind::Interrupted {
+                    return Err(why);
+                }
+            }
+        }
+    }
+    Ok(())
 }
 
 static mut SIGNALLED: c_int = -1;

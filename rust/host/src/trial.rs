@@ -1,5 +1,6 @@
 //! `mossgoblin try`: a client that writes, reads, backs up and recovers, and tells what it did.
-use crate::args::account;
+use crate::accounts::{self, Account, Kind};
+use crate::args::{NO_ACCOUNT, account};
 use crate::client::{Client, Ended, Error, TO_READ, TO_WRITE, Why};
 use crate::commands::{Failed, counted, grouped};
 use crate::compare::{Equal, compare};
@@ -8,13 +9,15 @@ use crate::own::{Running, Scratch, noise, sample};
 use proved::{Data, Mover, codes};
 use std::fs;
 use std::io::{self, IsTerminal, Write, stdout};
+use std::os::unix::fs::OpenOptionsExt;
 use std::path::{Path, PathBuf};
 use std::process::Command;
 use std::time::Instant;
 use wire::message::{CONNECT_CLIENT_AUTH, DATA_GET_STATE, TAPE_MTIO, TAPE_OPEN, TAPE_READ, TAPE_WRITE};
 use wire::{quad, text, word_at, words};
 
-pub const TRY: [Known; 4] = [valued("--account"), alone("--overwrite"), valued("--stream"), valued("--restore-to")];
+pub const TRY: [Known; 5] =
+    [valued("--accounts"), valued("--account"), alone("--overwrite"), valued("--stream"), valued("--restore-to")];
 
 const RECORD: u32 = codes::LONGEST_RECORD as u32;
 const WINDOW: u64 = 32 * RECORD as u64;
@@ -24,28 +27,38 @@ const COUNT: usize = 32;
 /// What is tried, and where its two ends lie on this machine, if they do.
 struct Tried {
     address: String,
-    id: Vec<u8>,
-    password: Vec<u8>,
+    account: Account,
     overwrite: bool,
     ends: Option<(PathBuf, PathBuf)>,
 }
 
 pub fn run(w: &Written) -> Result<(), Failed> {
     match &w.words[..] {
-        [] if w.has("--account") => Err(Failed::Words("ADDRESS:PORT of the vault is missing".into())),
+        [] if w.has("--account") || w.has("--accounts") => {
+            Err(Failed::Words("ADDRESS:PORT of the vault is missing".into()))
+        }
         [] => own(),
         [address] => {
-            let who = w.value("--account").ok_or(Failed::Words("--account ID:PASSWORD is missing".into()))?;
-            let (id, password) = account(who).map_err(Failed::Words)?;
+            let account = who(w)?;
             let ends = match (w.value("--stream"), w.value("--restore-to")) {
                 (Some(from), Some(to)) => Some((from.into(), to.into())),
                 (None, None) => None,
                 _ => return Err(Failed::Words("--stream and --restore-to go together".into())),
             };
             let address = address.to_string_lossy().into_owned();
-            Ok(tried(&Tried { address, id, password, overwrite: w.has("--overwrite"), ends })?)
+            Ok(tried(&Tried { address, account, overwrite: w.has("--overwrite"), ends })?)
         }
         _ => Err(Failed::Words("expected one ADDRESS:PORT".into())),
+    }
+}
+
+/// The account of the command line, or the first of a file.
+fn who(w: &Written) -> Result<Account, Failed> {
+    match (w.value("--account"), w.value("--accounts")) {
+        (Some(_), Some(_)) => Err(Failed::Words("one of --accounts and --account is enough".into())),
+        (Some(one), None) => account(one).map_err(Failed::Words),
+        (None, Some(file)) => Ok(accounts::all(None, Some(Path::new(file)))?.swap_remove(0)),
+        (None, None) => Err(Failed::Words(NO_ACCOUNT.into())),
     }
 }
 
@@ -56,18 +69,25 @@ fn own() -> Result<(), Failed> {
     let (from, to) = (s.path("from"), s.path("to"));
     sample(&from).and_then(|()| fs::write(from.join("large"), noise(9, 24 << 20))).map_err(told)?;
     fs::create_dir(&to).map_err(told)?;
+    let file = s.path("accounts");
+    private(&file).and_then(|mut f| f.write_all(b"md5 vault noon\n")).map_err(told)?;
     let mut command = Command::new(std::env::current_exe().map_err(told)?);
-    command.args(["serve", "--quiet", "--listen=127.0.0.1:0", "--account=vault:noon", "--new-cartridge=64M"]);
+    command.args(["serve", "--quiet", "--listen=127.0.0.1:0", "--new-cartridge=64M", "--accounts"]).arg(&file);
     command.arg("--cartridge").arg(s.path("tape")).arg("--stream").arg(&from).arg("--restore-to").arg(&to);
     let vault = Running::start(&mut command).map_err(told)?;
     println!("{:9} a vault of its own, with a cartridge of 64M in {}", "started", s.0.display());
     let address = vault.address.clone();
-    let (id, password) = (b"vault".to_vec(), b"noon".to_vec());
-    Ok(tried(&Tried { address, id, password, overwrite: false, ends: Some((from, to)) })?)
+    let account = Account { kind: Kind::Md5, id: b"vault".to_vec(), password: b"noon".to_vec() };
+    Ok(tried(&Tried { address, account, overwrite: false, ends: Some((from, to)) })?)
+}
+
+/// A new file that its owner alone may read.
+fn private(path: &Path) -> io::Result<fs::File> {
+    fs::OpenOptions::new().write(true).create_new(true).mode(0o600).open(path)
 }
 
 /// In words that say what to do.
-fn told(address: &str, e: Error) -> String {
+fn told(address: &str, kind: Kind, e: Error) -> String {
     let why = match &e {
         Error::Connection(c) => match c.kind() {
             io::ErrorKind::ConnectionRefused => "no vault listens there; `mossgoblin serve` starts one".into(),
@@ -75,7 +95,9 @@ fn told(address: &str, e: Error) -> String {
             _ => e.to_string(),
         },
         Error::Refused { message: CONNECT_CLIENT_AUTH, .. } => {
-            "the vault does not take this id with this password; give the ID:PASSWORD that it was started with".into()
+            format!(
+                "the vault does not take this id with this password by {kind}; give an account that it was started with"
+            )
         }
         Error::Refused { message: TAPE_OPEN, error: codes::BAD_FILE } => {
             "another session has the tape; try again when it has ended".into()
@@ -86,10 +108,15 @@ fn told(address: &str, e: Error) -> String {
 }
 
 fn tried(t: &Tried) -> Result<(), String> {
-    let told = |e: Error| told(&t.address, e);
+    let Account { kind, id, password } = &t.account;
+    let told = |e: Error| told(&t.address, *kind, e);
     let mut c = Client::connect(&t.address).map_err(told)?;
-    c.login(&t.id, &t.password).map_err(told)?;
-    println!("{:9} {}, logged in as {}", "vault", t.address, String::from_utf8_lossy(&t.id));
+    match kind {
+        Kind::Text => c.login(id, password),
+        Kind::Md5 => c.login_by_md5(id, password),
+    }
+    .map_err(told)?;
+    println!("{:9} {}, logged in as {} by {kind}", "vault", t.address, String::from_utf8_lossy(id));
     if !t.overwrite && !is_empty(&mut c).map_err(told)? {
         return Err(format!("{}: the tape there is not empty; --overwrite writes over it", t.address));
     }

@@ -56,11 +56,10 @@ fn names(record: &[u8]) -> Option<Vec<Name>> {
     (0..w.word()?).map(|_| w.name()).collect()
 }
 
-/// The id of a record of client auth, by text.
-pub fn login_id(record: &[u8]) -> Option<Vec<u8>> {
+/// The type of a record of client auth, and its id.
+pub fn login(record: &[u8]) -> Option<(u32, Vec<u8>)> {
     let mut w = Words(record, HEADER);
-    w.word()?;
-    w.text()
+    Some((w.word()?, w.text()?))
 }
 
 fn path(bytes: &[u8]) -> &Path {

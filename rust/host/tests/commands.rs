@@ -2,6 +2,7 @@
 mod common;
 use common::*;
 use std::fs;
+use std::os::unix::fs::PermissionsExt;
 use std::path::Path;
 
 /// The exit code, standard output and standard error.
@@ -32,14 +33,17 @@ fn wrong_words_are_one_line() {
     for (args, why) in [
         (&[][..], "mossgoblin: a command is missing: serve, new, list, check or try"),
         (&["lst", "x"], "mossgoblin: no command lst (did you mean list?)"),
+        (&["serve"], "mossgoblin serve: --accounts FILE or --account ID:PASSWORD is missing"),
         (&["new", "x"], "mossgoblin new: expected FILE and SIZE"),
         (&["new", "x", "129M"], "mossgoblin new: \"129M\": expected a size of at most 128M, such as 64M"),
         (&["list"], "mossgoblin list: expected one FILE"),
         (&["list", "--all", "x"], "mossgoblin list: unknown option --all"),
         (&["check"], "mossgoblin check: expected a FILE"),
         (&["try", "a", "b"], "mossgoblin try: expected one ADDRESS:PORT"),
-        (&["try", "127.0.0.1:1"], "mossgoblin try: --account ID:PASSWORD is missing"),
+        (&["try", "127.0.0.1:1"], "mossgoblin try: --accounts FILE or --account ID:PASSWORD is missing"),
         (&["try", "--account=a:b"], "mossgoblin try: ADDRESS:PORT of the vault is missing"),
+        (&["try", "--accounts=a"], "mossgoblin try: ADDRESS:PORT of the vault is missing"),
+        (&["try", "x:1", "--account=a:b", "--accounts=a"], "mossgoblin try: one of --accounts and --account is enough"),
     ] {
         let (code, out, err) = run(args);
         assert!(code == 2 && out.is_empty() && err.starts_with(why) && err.lines().count() == 1, "{err}");
@@ -124,6 +128,7 @@ fn try_of_its_own_vault() {
     let (code, out, err) = run(&["try"]);
     assert_eq!((code, err.as_str()), (0, ""), "{out}");
     assert_eq!(lines_of(&out), ["started", "vault", "tape", "backup", "recover", "compared"], "{out}");
+    assert!(out.contains(", logged in as vault by MD5\n"), "{out}");
     assert!(out.contains("1,048,576 bytes by 32 write requests") && out.contains(": equal\n"), "{out}");
     assert!(out.contains("25,467,856 bytes in 7 files, 5 folders, 1 link: equal"), "{out}");
 }
@@ -134,11 +139,14 @@ fn try_of_a_running_vault() {
     let (from, to, tape) = (s.path("from"), s.path("to"), s.path("tape"));
     fs::write(&from, noise(3, 100_000)).unwrap();
     let ends = ["--stream", text_of(&from), "--restore-to", text_of(&to)];
-    let host = Host::start(&tape, &[&["--new-cartridge", "4M"][..], &ends].concat());
-    let args = |account: &'static str| [&["try", &host.address, account][..], &ends].concat();
+    let file = s.path("accounts");
+    private(&file, "md5 ferry tide\nmd5 vault noon\n");
+    let by_file = format!("--accounts={}", text_of(&file));
+    let host = Host::start(&tape, &[&["--new-cartridge", "4M", &by_file][..], &ends].concat());
+    let args = |account| [&["try", &host.address, account][..], &ends].concat();
     let (code, out, err) = run(&args("--account=vault:moon"));
     assert!(code == 1 && out.is_empty() && err.lines().count() == 1, "{err}");
-    assert!(err.contains("the vault does not take this id with this password"), "{err}");
+    assert!(err.contains("the vault does not take this id with this password by text"), "{err}");
     let (code, out, err) = run(&args("--account=vault:noon"));
     assert_eq!((code, err.as_str()), (0, ""), "{out}");
     assert_eq!(lines_of(&out), ["vault", "tape", "backup", "recover", "compared"], "{out}");
@@ -147,6 +155,15 @@ fn try_of_a_running_vault() {
     let (code, _, err) = run(&args("--account=vault:noon"));
     assert!(code == 1 && err.contains("the tape there is not empty; --overwrite"), "{err}");
     assert_eq!(run(&[&args("--account=vault:noon")[..], &["--overwrite"]].concat()).0, 0);
+    // The first account of a file, by its kind; one that others may read is not taken here either.
+    let (code, out, _) = run(&[&args(&by_file)[..], &["--overwrite"]].concat());
+    assert!(code == 0 && out.contains(", logged in as ferry by MD5\n"), "{out}");
+    private(&file, "text ferry tide\n");
+    let (code, _, err) = run(&args(&by_file));
+    assert!(code == 1 && err.contains("the vault does not take this id with this password by text"), "{err}");
+    fs::set_permissions(&file, fs::Permissions::from_mode(0o640)).unwrap();
+    let (code, _, err) = run(&args(&by_file));
+    assert!(code == 1 && err.ends_with(&format!("chmod 600 {}\n", text_of(&file))), "{err}");
     // A vault that has nothing to back up, one that is gone.
     let other = Host::start(&s.path("other"), &["--new-cartridge", "4M"]);
     let (code, _, err) = run(&["try", &other.address, "--account=vault:noon"]);

@@ -88,7 +88,10 @@ fn wrong_logins_are_told_late_and_few() {
         let (stamp, rest) = line.split_at(20);
         assert!(stamp.starts_with("20") && stamp.ends_with('Z') && &stamp[10..11] == "T", "{line}");
         assert!(rest.starts_with(" mossgoblin: session 1: wrong login as \"va\\nult"), "{line}");
-        assert!(!line.contains("secret") && !line.contains('\u{202e}') && line.contains("from 127.0.0.1:"), "{line}");
+        assert!(
+            !line.contains("secret") && !line.contains('\u{202e}') && line.contains("\" by text from 127.0.0.1:"),
+            "{line}"
+        );
     }
     // Two wrong ones and a right one.
     let mut c = host.client();
@@ -100,51 +103,81 @@ fn wrong_logins_are_told_late_and_few() {
     c.good(CONFIG_GET_CONNECTION_TYPE, b"").unwrap();
 }
 
-/// An id and a password.
-type Account = [Vec<u8>; 2];
+const CHALLENGE: proved::Challenge = [0x5a; codes::CHALLENGE_LENGTH];
 
-/// The shortest times of logins, in turn: each is an account, and what is told in its place.
-fn login_times(logins: &[(Account, Account)]) -> Vec<Duration> {
+/// The list of accounts that the core is lent, and the body of a login that is wrong there.
+type Login = (Vec<u8>, Vec<u8>);
+
+/// The shortest times of logins, in turn, in a session that was given the challenge.
+fn login_times(logins: &[Login]) -> Vec<Duration> {
     let (mut out, mut variables) = (vec![0; proved::OUTPUT], vec![0; codes::STORE_LENGTH]);
-    let session = proved::open(0, &mut out).session;
-    let record =
-        |[id, word]: &[Vec<u8>; 2]| request(1, CONNECT_CLIENT_AUTH, &[words(&[1]), text(id), text(word)].concat());
-    let all: Vec<_> = logins.iter().map(|(account, told)| (account, record(told))).collect();
-    let mut least = vec![Duration::MAX; all.len()];
+    let mut session = proved::open(0, &mut out).session;
+    let mut call = |session, accounts: &[u8], record: &[u8]| {
+        let (image, variables, out) = (&mut [], &mut variables, &mut out);
+        let done = proved::request(session, accounts, &CHALLENGE, &[], false, image, variables, record, 0, out);
+        assert!(done.code == 0 && !done.session.login.authorized);
+        done.session
+    };
+    session = call(session, &[], &request(1, CONFIG_GET_AUTH_ATTR, &words(&[codes::MD5_AUTH])));
+    assert!(session.login.challenged);
+    let records: Vec<_> = logins.iter().map(|(_, body)| request(2, CONNECT_CLIENT_AUTH, body)).collect();
+    let mut least = vec![Duration::MAX; logins.len()];
     for _ in 0..2_000 {
-        for (i, ([id, word], record)) in all.iter().enumerate() {
+        for (i, (accounts, _)) in logins.iter().enumerate() {
             let begun = Instant::now();
-            let done = proved::request(session, id, word, &[], false, &mut [], &mut variables, record, 0, &mut out);
+            call(session, accounts, &records[i]);
             least[i] = least[i].min(begun.elapsed());
-            assert!(done.code == 0 && !done.session.login.authorized);
         }
     }
     least
 }
 
+/// Whether all but the last take the same time, within a quarter of what they take more than the last.
+fn is_even(times: &[Duration]) -> bool {
+    let (rest, compared) = times.split_last().unwrap();
+    let (least, most) = (compared.iter().min().unwrap(), compared.iter().max().unwrap());
+    *most - *least < most.saturating_sub(*rest) / 4
+}
+
+/// A busy machine may need several tries.
+fn even_soon(logins: &[Login]) {
+    let tries: Vec<_> = (0..20).map(|_| login_times(logins)).take_while(|times| !is_even(times)).collect();
+    assert!(tries.len() < 20, "{tries:?}");
+}
+
 /// A login that differs in its first byte takes as long as one that differs in its last, and it does not matter in which
-/// of the two texts. A comparison that ends early is never so; a busy machine may need several tries.
+/// of the two texts. A comparison that ends early is never so.
 #[test]
 fn wrong_logins_take_as_long_wherever_they_differ() {
     const LONG: usize = 12_000;
     let account = [noise(1, LONG), noise(2, LONG)];
+    let login = |[id, word]: &[Vec<u8>; 2], told: &[Vec<u8>; 2]| {
+        let body = [words(&[codes::TEXT_AUTH]), text(&told[0]), text(&told[1])].concat();
+        (lent(&[(codes::TEXT_AUTH, id, word)]), body)
+    };
     let wrong = |which: usize, at: usize| {
         let mut told = account.clone();
         told[which][at] ^= 1;
-        (account.clone(), told)
+        login(&account, &told)
     };
     // The last is all but the comparison: texts of another length than the account's are not compared.
-    let short = ([noise(1, 1), noise(2, 1)], account.clone());
-    let logins = [wrong(0, 0), wrong(0, LONG - 1), wrong(1, 0), wrong(1, LONG - 1), short.clone()];
-    let is_even = |times: &[Duration]| {
-        let (rest, compared) = times.split_last().unwrap();
-        let (least, most) = (compared.iter().min().unwrap(), compared.iter().max().unwrap());
-        *most - *least < most.saturating_sub(*rest) / 4
-    };
-    let tries: Vec<_> = (0..20).map(|_| login_times(&logins)).take_while(|times| !is_even(times)).collect();
-    assert!(tries.len() < 20, "{tries:?}");
+    let short = login(&[noise(1, 1), noise(2, 1)], &account);
+    even_soon(&[wrong(0, 0), wrong(0, LONG - 1), wrong(1, 0), wrong(1, LONG - 1), short.clone()]);
     // The judge is not blind: of these one is not compared.
     let uneven = login_times(&[wrong(0, 0), short.clone(), short]);
+    assert!(!is_even(&uneven), "{uneven:?}");
+}
+
+/// By MD5 it does not matter whether the id is known: the digest is made for it or not.
+#[test]
+fn wrong_logins_by_md5_tell_no_ids() {
+    let accounts = |kind| lent(&[(kind, "vault", "noon"), (kind, "ferry", "tide")]);
+    let login = |kind, id: &str| (accounts(kind), [words(&[codes::MD5_AUTH]), text(id), vec![0; 16]].concat());
+    let by_md5 = |id| login(codes::MD5_AUTH, id);
+    // The last is all but the digests.
+    let none = login(codes::TEXT_AUTH, "vault");
+    even_soon(&[by_md5("vault"), by_md5("ferry"), by_md5("other"), none.clone()]);
+    let uneven = login_times(&[by_md5("vault"), none.clone(), none]);
     assert!(!is_even(&uneven), "{uneven:?}");
 }
 
@@ -176,7 +209,10 @@ fn address_that_others_reach_is_warned_of() {
     assert_eq!(fs::read_to_string(&log).unwrap(), "");
     let host = start("0.0.0.0:0", &[]);
     let port = host.address.strip_prefix("0.0.0.0:").unwrap();
-    told(&log, &[&format!("mossgoblin: --listen 0.0.0.0:{port} is not this machine's alone: logins and data go over")]);
+    told(
+        &log,
+        &[&format!("mossgoblin: --listen 0.0.0.0:{port} is not this machine's alone: logins by text and data go over")],
+    );
     told(&log, &["mossgoblin: --status 0.0.0.0:", " is not this machine's alone: names of files and clients are read"]);
     drop(host);
     // Where the machine has another address than its own; nothing is sent for this.

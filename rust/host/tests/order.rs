@@ -102,6 +102,7 @@ fn judge(file: &mut [u8], steps: &[Step], old: &[List], new: &List) -> Result<us
 
 struct Deck {
     session: proved::Session,
+    accounts: Vec<u8>,
     out: Vec<u8>,
     variables: Vec<u8>,
     cartridge: Cartridge<Recorder>,
@@ -113,8 +114,8 @@ impl Deck {
         let before = self.session.tape.position;
         let done = proved::request(
             self.session,
-            b"vault",
-            b"noon",
+            &self.accounts,
+            &[0; codes::CHALLENGE_LENGTH],
             &[],
             false,
             &mut self.cartridge.image,
@@ -143,7 +144,8 @@ fn runs(seed: u64, failing: bool) -> (Vec<u8>, Vec<Run>) {
     let mut out = vec![0; OUTPUT];
     let session = proved::open(0, &mut out).session;
     let variables = vec![0; codes::STORE_LENGTH];
-    let mut deck = Deck { session, out, variables, cartridge: Cartridge::new(image, disk) };
+    let accounts = lent(&[(codes::TEXT_AUTH, "vault", "noon")]);
+    let mut deck = Deck { session, accounts, out, variables, cartridge: Cartridge::new(image, disk) };
     deck.call(CONNECT_CLIENT_AUTH, &[words(&[1]), text("vault"), text("noon")].concat());
     deck.call(TAPE_OPEN, &[text("tape0"), words(&[1])].concat());
     let chance = noise(seed + 1_000, 400);

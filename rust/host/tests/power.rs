@@ -396,11 +396,13 @@ impl Told {
 #[test]
 fn error_at_each_call_of_tape_requests() {
     let s = Scratch::new();
-    let (shim, tape) = (Shim::new(&s), s.path("tape"));
+    let (shim, tape, accounts) = (Shim::new(&s), s.path("tape"), s.path("accounts"));
+    private(&accounts, "md5 ferry tide\n");
+    let options = ["--new-cartridge", "100K", "--accounts", text_of(&accounts)];
     let seen = each_call(|n| {
         let _ = fs::remove_file(&tape);
         let (mut told, mut well) = (Told::default(), false);
-        let done = broken(&s, &shim, n, &["--new-cartridge", "100K"], |c| well = told.by_requests(c).is_ok());
+        let done = broken(&s, &shim, n, &options, |c| well = told.by_requests(c).is_ok());
         let about = format!("call {n}, {:?}: {} there, {}", done.call, done.tape.len(), done.log);
         assert!(done.tape == told.tape || told.perhaps.contains(&done.tape), "{about}");
         // Nobody is left to guess: a request or a start that failed has its line.

@@ -25,6 +25,7 @@ fn wrong_lines() {
         (&["--new-cartridge=x"], "--new-cartridge: x"),
         (&["--account", "nobody"], "--account: expected ID:PASSWORD"),
         (&["--idle", "0"], "--idle: 0"),
+        (&["--accounts"], "--accounts: a value is missing"),
         (&["tape"], "serve takes options only"),
     ] {
         let (code, text) = failed(&s.path("tape"), line);

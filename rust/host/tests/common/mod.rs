@@ -5,8 +5,9 @@ pub use host::client::{Client, Ended, TO_READ, TO_WRITE, Why};
 pub use host::own::{Running, noise};
 pub use proved::{Data, Mover, codes};
 use std::fs;
-use std::io::ErrorKind;
+use std::io::{ErrorKind, Write};
 use std::ops::{Deref, DerefMut};
+use std::os::unix::fs::OpenOptionsExt;
 use std::path::{Path, PathBuf};
 use std::process::{Command, Output, Stdio};
 use std::time::{Duration, Instant};
@@ -132,6 +133,19 @@ pub fn closed(c: &mut Client) {
 
 pub fn login(client: &mut Client) {
     client.login(b"vault", b"noon").unwrap();
+}
+
+/// The list of accounts that the core is lent, of kinds, ids and passwords.
+pub fn lent<T: AsRef<[u8]>>(accounts: &[(u32, T, T)]) -> Vec<u8> {
+    let each = accounts.iter().flat_map(|(kind, id, word)| [words(&[*kind]), text(id), text(word)].concat());
+    [words(&[accounts.len() as u32]), each.collect()].concat()
+}
+
+/// A file that its owner alone may read.
+pub fn private(path: &Path, bytes: impl AsRef<[u8]>) {
+    let _ = fs::remove_file(path);
+    let opened = fs::OpenOptions::new().write(true).create_new(true).mode(0o600).open(path);
+    opened.unwrap().write_all(bytes.as_ref()).unwrap();
 }
 
 /// Opens the tape that another has just left; the host may not have noticed yet.

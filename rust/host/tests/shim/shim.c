@@ -131,6 +131,8 @@ int pthread_create(pthread_t *thread, const pthread_attr_t *how, void *(*run)(vo
     return fails("thread") ? errno : REAL(pthread_create)(thread, how, run, with);
 }
 
+ssize_t getrandom(void *bytes, size_t n, unsigned flags) { return fails("random") ? -1 : syscall(SYS_getrandom, bytes, n, flags); }
+
 /* Where in a path a name x begins. */
 static const char *name_x(const char *path) {
     while (*path) {
