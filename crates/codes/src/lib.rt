@@ -94,7 +94,7 @@ pub const LOCAL_ADDRESS: u32 = 0;
 
 pub const TCP_ADDRESS: u32 = 1;
 
-// The auth types of a login by text and by MD5.
+// The auth types of text, which is withdrawn and known to accounts alone, and of MD5.
 pub const TEXT_AUTH: u32 = 1;
 
 pub const MD5_AUTH: u32 = 2;

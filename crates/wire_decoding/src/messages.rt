@@ -1,16 +1,16 @@
 // A decoder for each message with arguments, by the letters of its layout: w is a word, h a hyper, t a text, p the pairs of an
-// environment, n the names of a recover, a an address of type LOCAL, i one of type TCP, l the list of its addresses, u an auth by text,
-// m one by MD5, d its digest.
+// environment, n the names of a recover, a an address of type LOCAL, i one of type TCP, l the list of its addresses, m an auth by
+// MD5, d its digest.
 ghost use mathlib.Core.Path.{_≡_};
 ghost use mathlib.Core.List.{map};
 ghost use Prim.Native.Nat.{_≤_};
 ghost use lib.Dec.{eqb};
 ghost use lib.ListN.{length};
-ghost use Rattle.codes.specs.Codes.{textAuth, md5Auth};
+ghost use Rattle.codes.specs.Codes.{md5Auth};
 ghost use Rattle.xdr.specs.Choose.{choose};
 ghost use Rattle.wire_requests.specs.declared.ConnectRequest.the-variants as ConnectRequest;
 ghost use Rattle.wire_layouts.specs.Scans.{scanned, fieldOf};
-ghost use Rattle.wire_requests.specs.Bodies.{isMd5, connectBody, configBody, scsiBody, tapeBody, dataBody, moverBody, jointBody};
+ghost use Rattle.wire_requests.specs.Bodies.{connectBody, configBody, scsiBody, tapeBody, dataBody, moverBody, jointBody};
 ghost use Rattle.wire_frame.specs.declared.ConnectKind.the-variants as ConnectKind;
 ghost use Rattle.wire_frame.specs.declared.ConfigKind.the-variants as ConfigKind;
 ghost use Rattle.wire_frame.specs.declared.ScsiKind.the-variants as ScsiKind;
@@ -34,8 +34,6 @@ use wire_requests::ScsiRequest;
 use wire_requests::TapeRequest;
 use wire_scanning::is_tcp;
 use wire_scanning::scan_body;
-use xdr_opaque::Word;
-use xdr_opaque::word_at;
 
 pub fn connect_open(body: &[u8]) -> Request
     ensures { λ r. ⌜ r ≡ connectBody ConnectKind.Open (now (body .entry)) ⌝ }
@@ -55,26 +53,12 @@ fn scan_by_type(own: &[u8], other: &[u8], same: bool, body: &[u8]) -> Scan
     scan_body(other, body)
 }
 
-// Whether the auth type that a body begins with is MD5.
-fn is_md5(body: &[u8]) -> bool
-    ensures { λ r. ⌜ r ≡ isMd5 (now (body .entry)) ⌝ }
+// An auth by MD5 has an id and a digest; of another type the rest is not read.
+fn auth(kind: u32, id: Text, digest: Text) -> ConnectRequest
+    ensures { λ r. ⌜ r ≡ choose (eqb kind md5Auth) (ConnectRequest.Md5Auth id digest) ConnectRequest.OtherAuth ⌝ }
 {
-    let Word::Value(kind) = word_at(body, 0) else {
-        return false;
-    };
-    kind == codes::MD5_AUTH
-}
-
-// An auth by text has an id and a password, one by MD5 an id and a digest; of another type the rest is not read.
-fn auth(kind: u32, id: Text, secret: Text) -> ConnectRequest
-    ensures { λ r. ⌜ r ≡ choose (eqb kind textAuth) (ConnectRequest.Auth id secret)
-        (choose (eqb kind md5Auth) (ConnectRequest.Md5Auth id secret) ConnectRequest.OtherAuth) ⌝ }
-{
-    if kind == codes::TEXT_AUTH {
-        return ConnectRequest::Auth(id, secret);
-    }
     if kind == codes::MD5_AUTH {
-        return ConnectRequest::Md5Auth(id, secret);
+        return ConnectRequest::Md5Auth(id, digest);
     }
     ConnectRequest::OtherAuth
 }
@@ -82,7 +66,7 @@ fn auth(kind: u32, id: Text, secret: Text) -> ConnectRequest
 pub fn client_auth(body: &[u8]) -> Request
     ensures { λ r. ⌜ r ≡ connectBody ConnectKind.Auth (now (body .entry)) ⌝ }
 {
-    let k = scan_by_type(b"mtd", b"utt", is_md5(body), body);
+    let k = scan_body(b"mtd", body);
     judged(
         k.ok,
         Request::Connect(auth(k.words[0], text_of(k, 1), text_of(k, 2))),
@@ -92,7 +76,7 @@ pub fn client_auth(body: &[u8]) -> Request
 pub fn auth_attributes(body: &[u8]) -> Request
     ensures { λ r. ⌜ r ≡ configBody ConfigKind.AuthAttributes (now (body .entry)) ⌝ }
 {
-    let k = scan_by_type(b"m", b"u", is_md5(body), body);
+    let k = scan_body(b"m", body);
     judged(
         k.ok,
         Request::Config(ConfigRequest::AuthAttributes(k.words[0])),

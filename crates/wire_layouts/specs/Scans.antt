@@ -4,7 +4,7 @@ use mathlib.Core.Bool.{Bool, true, false}
 use mathlib.Core.List.{List, [], _∷_, map}
 use lib.ListN.{set, replicate}
 use lib.Dec.{eqb}
-use Rattle.codes.specs.Codes.{mostListed, mostAddresses, localAddress, tcpAddress, textAuth, md5Auth}
+use Rattle.codes.specs.Codes.{mostListed, mostAddresses, localAddress, tcpAddress, md5Auth}
 use Rattle.wire_layouts.specs.declared.After.{After}
 use Rattle.wire_layouts.specs.declared.After.the-variants as After
 use Rattle.wire_layouts.specs.Layout.{Part, word, hyper, text, port, digest, Field, one, many, lists, tag, never, Item, four, eight, bytes, fixed, Value, place, Piece, piece, short, Got, got, cut}
@@ -77,11 +77,10 @@ fieldOf c =
     (pick (eqb c 112) pairs
     (pick (eqb c 110) names
     (pick (eqb c 97) (tag localAddress)
-    (pick (eqb c 117) (tag textAuth)
     (pick (eqb c 105) (tag tcpAddress)
     (pick (eqb c 108) addresses
     (pick (eqb c 109) (tag md5Auth)
-    (pick (eqb c 100) (one digest) never))))))))))
+    (pick (eqb c 100) (one digest) never)))))))))
 
 -- the parts of an element, by their letters
 abbrev pub pickPart : Bool → Part → Part → Part

@@ -19,7 +19,7 @@ use Rattle.wire_pairs.proofs.Sizes.{most-pairs, environment-size}
 use Rattle.wire_frame.specs.Messages.{look, rowOf}
 use Rattle.wire_frame.proofs.Laws.{length-record}
 use Rattle.wire_replies.specs.declared.Reply.{Reply}
-use Rattle.wire_replies.specs.declared.Reply.the-variants.{Header, Refused, Plain, Listening, ListeningTcp, ConnectionTypes, TextAuth, Challenge, ServerInfo, ScsiState}
+use Rattle.wire_replies.specs.declared.Reply.the-variants.{Header, Refused, Plain, Listening, ListeningTcp, ConnectionTypes, Challenge, ServerInfo, ScsiState}
 use Rattle.wire_replies.specs.declared.Reply.the-variants.{Cdb, Sense, Check, TapeState, Mtio, Wrote, Read, DataState, Environment, MoverState}
 use Rattle.wire_replies.specs.declared.Notice.{Notice}
 use Rattle.wire_replies.specs.declared.Notice.the-variants.{DataHalted, Connected, MoverHalted, MoverPaused}
@@ -43,7 +43,6 @@ shows-nothing Plain l m h = refl
 shows-nothing Listening l m h = refl
 shows-nothing ListeningTcp l m h = let z : _≡_ {A = ℕ} 0 1 = cc in absurd (omega arith)
 shows-nothing ConnectionTypes l m h = refl
-shows-nothing TextAuth l m h = refl
 shows-nothing Challenge l m h = let z : _≡_ {A = ℕ} 0 1 = cc in absurd (omega arith)
 shows-nothing (ServerInfo known) l m h = refl
 shows-nothing ScsiState l m h = refl
@@ -120,7 +119,6 @@ body-small Plain image s = few _ (omega arith)
 body-small Listening image s = few _ (omega arith)
 body-small ListeningTcp image s = lent _ image (omega arith) s
 body-small ConnectionTypes image s = few _ (omega arith)
-body-small TextAuth image s = few _ (omega arith)
 body-small Challenge image s = lent _ image (omega arith) (omega (arith, s))
 body-small (ServerInfo known) image s = server-small known _ (omega arith)
 body-small ScsiState image s = few _ (omega arith)
@@ -191,7 +189,6 @@ unfolding shapeOf bodyBytes opaques opaque serverTexts be32s be32
 auth-types =
     record {
       challenge = λ c. ap (λ (r : List ℕ). small 0 ++ small 2 ++ r) (append-nil c);
-      text = λ c. refl;
       refused = refl;
       info = refl;
       stranger = refl;

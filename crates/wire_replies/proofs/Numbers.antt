@@ -15,7 +15,7 @@ use Rattle.xdr_opaque.specs.Put.{opaque}
 use Rattle.wire_frame.specs.Frame.{recordBytes}
 use Rattle.wire_frame.specs.Messages.{look, rowOf}
 use Rattle.wire_replies.specs.declared.Reply.{Reply}
-use Rattle.wire_replies.specs.declared.Reply.the-variants.{Header, Refused, Plain, Listening, ListeningTcp, ConnectionTypes, TextAuth, Challenge, ServerInfo, ScsiState, Cdb}
+use Rattle.wire_replies.specs.declared.Reply.the-variants.{Header, Refused, Plain, Listening, ListeningTcp, ConnectionTypes, Challenge, ServerInfo, ScsiState, Cdb}
 use Rattle.wire_replies.specs.declared.Reply.the-variants.{Sense, Check, TapeState, Mtio, Wrote, Read, DataState, Environment, MoverState}
 use Rattle.wire_replies.specs.Replies.{bodyBytes, opaques, shapeOf, numberOf, headerError, replyBytes}
 use Rattle.wire_replies.specs.Writers.{headerWords}
@@ -75,7 +75,6 @@ in-body Plain image f g = f refl (record { there = omega arith; is = refl })
 in-body Listening image f g = f refl (record { there = omega arith; is = refl })
 in-body ListeningTcp image f g = f refl (record { there = omega arith; is = refl })
 in-body ConnectionTypes image f g = f refl (record { there = omega arith; is = refl })
-in-body TextAuth image f g = f refl (record { there = omega arith; is = refl })
 in-body Challenge image f g = f refl (record { there = omega arith; is = refl })
 in-body (ServerInfo known) image f g = f refl (record { there = omega arith; is = refl })
 in-body ScsiState image f g = f refl (record { there = omega arith; is = refl })

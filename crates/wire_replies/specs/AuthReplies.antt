@@ -1,12 +1,12 @@
--- The replies that tell of auth types, with their bodies written out after 004's structures (Appendix C) and 02 No. 2.
--- They keep the layouts to the papers: a length before the challenge, a type that is not listed, or the list in another
--- order, is seen here.
+-- The replies that tell of auth types, with their bodies written out after 004's structures (Appendix C) and 02 No. 2
+-- and No. 10. They keep the layouts to the papers: a length before the challenge, or a type that is listed and should
+-- not be, is seen here.
 use Prim.Native.Nat.{ℕ}
 use mathlib.Core.Bool.{true, false}
 use mathlib.Core.Path.{_≡_}
 use mathlib.Core.List.{List, [], _∷_, _++_}
 use Rattle.wire_replies.specs.declared.Reply.{Reply}
-use Rattle.wire_replies.specs.declared.Reply.the-variants.{Refused, TextAuth, Challenge, ServerInfo}
+use Rattle.wire_replies.specs.declared.Reply.the-variants.{Refused, Challenge, ServerInfo}
 use Rattle.wire_replies.specs.Replies.{bodyBytes, shapeOf}
 use Rattle.wire_replies.specs.Addresses.{small}
 
@@ -23,9 +23,8 @@ told =
 pub record AuthReplies : Type 0 where
   -- error, the type, and the challenge as it was lent, whatever it is
   pub challenge : (c : List ℕ) → bodyOf Challenge c ≡ small 0 ++ small 2 ++ c
-  pub text : (c : List ℕ) → bodyOf TextAuth c ≡ small 0 ++ small 1
   -- 9, and the type NONE
   pub refused : bodyOf (Refused 0 9 1) [] ≡ small 9 ++ small 0
-  -- ndmp_config_get_server_info_reply: error, vendor, product, revision, auth types: "Server info lists 1 and 2"
-  pub info : bodyOf (ServerInfo true) [] ≡ small 0 ++ told ++ small 2 ++ small 1 ++ small 2
-  pub stranger : bodyOf (ServerInfo false) [] ≡ small 0 ++ small 0 ++ small 0 ++ small 0 ++ small 2 ++ small 1 ++ small 2
+  -- ndmp_config_get_server_info_reply: error, vendor, product, revision, auth types: type 1 "leaves the server info list"
+  pub info : bodyOf (ServerInfo true) [] ≡ small 0 ++ told ++ small 1 ++ small 2
+  pub stranger : bodyOf (ServerInfo false) [] ≡ small 0 ++ small 0 ++ small 0 ++ small 0 ++ small 1 ++ small 2

@@ -7,7 +7,7 @@ use lib.ListN.{length}
 use Rattle.codes.specs.Codes.{largestMessage, longestRecord, senseBytes, mostListed, mostLent, storeLength, challengeLength}
 use Rattle.wire_pairs.specs.Store.{isLaid, environmentOf}
 use Rattle.wire_replies.specs.declared.Reply.{Reply}
-use Rattle.wire_replies.specs.declared.Reply.the-variants.{Header, Refused, Plain, Listening, ListeningTcp, ConnectionTypes, TextAuth, Challenge, ServerInfo, ScsiState, Cdb, Sense, Check, TapeState, Mtio, Wrote, Read, DataState, Environment, MoverState}
+use Rattle.wire_replies.specs.declared.Reply.the-variants.{Header, Refused, Plain, Listening, ListeningTcp, ConnectionTypes, Challenge, ServerInfo, ScsiState, Cdb, Sense, Check, TapeState, Mtio, Wrote, Read, DataState, Environment, MoverState}
 use Rattle.wire_replies.specs.declared.Notice.{Notice}
 use Rattle.wire_replies.specs.Replies.{replyBytes, noticeBytes}
 
@@ -21,7 +21,6 @@ Sending Plain image = Unit
 Sending Listening image = Unit
 Sending ListeningTcp image = length image ≤ mostLent
 Sending ConnectionTypes image = Unit
-Sending TextAuth image = Unit
 Sending Challenge image = length image ≤ challengeLength
 Sending (ServerInfo known) image = Unit
 Sending ScsiState image = Unit

@@ -8,7 +8,7 @@ use Rattle.xdr.specs.Choose.{choose}
 use Rattle.xdr.specs.Xdr.{word, be32}
 use Rattle.wire_frame.specs.Messages.{rowOf}
 use Rattle.wire_replies.specs.declared.Reply.{Reply}
-use Rattle.wire_replies.specs.declared.Reply.the-variants.{Header, Refused, Plain, Listening, ListeningTcp, ConnectionTypes, TextAuth, Challenge, ServerInfo, ScsiState, Cdb}
+use Rattle.wire_replies.specs.declared.Reply.the-variants.{Header, Refused, Plain, Listening, ListeningTcp, ConnectionTypes, Challenge, ServerInfo, ScsiState, Cdb}
 use Rattle.wire_replies.specs.declared.Reply.the-variants.{Sense, Check, TapeState, Mtio, Wrote, Read, DataState, Environment, MoverState}
 use Rattle.wire_replies.specs.Replies.{numberOf, replyBytes}
 use Rattle.wire_replies.specs.Refusals.{Blank, blank, blanks}
@@ -21,7 +21,6 @@ placeOf Plain = 0
 placeOf Listening = 0
 placeOf ListeningTcp = 0
 placeOf ConnectionTypes = 0
-placeOf TextAuth = 0
 placeOf Challenge = 0
 placeOf (ServerInfo known) = 0
 placeOf ScsiState = 0

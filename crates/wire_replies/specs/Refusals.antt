@@ -9,7 +9,7 @@ use Rattle.wire_frame.specs.Messages.{Line, is, table, rowOf}
 use Rattle.wire_replies.specs.declared.DataView.{DataView}
 use Rattle.wire_replies.specs.declared.MoverView.{MoverView}
 use Rattle.wire_replies.specs.declared.Reply.{Reply}
-use Rattle.wire_replies.specs.declared.Reply.the-variants.{Plain, Listening, ConnectionTypes, TextAuth, ServerInfo, ScsiState, Cdb, TapeState, Mtio, Wrote, Read, DataState, Environment, MoverState}
+use Rattle.wire_replies.specs.declared.Reply.the-variants.{Plain, Listening, ConnectionTypes, Challenge, ServerInfo, ScsiState, Cdb, TapeState, Mtio, Wrote, Read, DataState, Environment, MoverState}
 use Rattle.wire_replies.specs.Replies.{bodyBytes, shapeOf}
 
 abbrev noData : DataView
@@ -43,8 +43,8 @@ blanks =
     ∷ blank 0x901 Plain 0
     ∷ blank 0x902 Plain 0
     ∷ blank 0x102 ConnectionTypes 2
-    ∷ blank 0x103 TextAuth 0
-    ∷ blank 0x108 (ServerInfo false) 2
+    ∷ blank 0x103 Challenge 0
+    ∷ blank 0x108 (ServerInfo false) 1
     ∷ blank 0x200 Plain 0
     ∷ blank 0x201 Plain 0
     ∷ blank 0x202 ScsiState 0
@@ -88,8 +88,8 @@ acceptedLength (blank n r k) = length (bodyBytes (shapeOf r []))
 abbrev refusedLength : Blank → ℕ
 refusedLength (blank n r k) = 4 * (rowOf n .before + 1 + rowOf n .after + k)
 
--- every message of the table is listed, and its accepted reply is as long as its refusal and the list. For 0x103 the reply
--- of text stands: that with a challenge is longer by the 64 bytes
+-- every message of the table is listed, and its accepted reply is as long as its refusal and the list. That of 0x103 is
+-- shown no challenge here: with one it is longer by the 64 bytes
 pub record RefusalsAsLong : Type 0 where
   pub every : map blankNumber blanks ≡ map lineNumber table
   pub as-long : map acceptedLength blanks ≡ map refusedLength blanks

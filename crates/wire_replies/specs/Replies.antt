@@ -4,7 +4,7 @@ use mathlib.Core.Bool.{Bool, true, false}
 use mathlib.Core.List.{List, [], _∷_, _++_}
 use lib.ListN.{length, take, drop, replicate}
 use lib.Dec.{eqb}
-use Rattle.codes.specs.Codes.{localAddress, tcpAddress, textAuth, md5Auth, versionFour}
+use Rattle.codes.specs.Codes.{localAddress, tcpAddress, md5Auth, versionFour}
 use Rattle.xdr.specs.Choose.{choose}
 use Rattle.xdr.specs.Xdr.{be32s}
 use Rattle.xdr_opaque.specs.Put.{opaque}
@@ -14,7 +14,7 @@ use Rattle.wire_frame.specs.Frame.{recordBytes}
 use Rattle.wire_replies.specs.declared.DataView.{DataView}
 use Rattle.wire_replies.specs.declared.MoverView.{MoverView}
 use Rattle.wire_replies.specs.declared.Reply.{Reply}
-use Rattle.wire_replies.specs.declared.Reply.the-variants.{Header, Refused, Plain, Listening, ListeningTcp, ConnectionTypes, TextAuth, Challenge, ServerInfo, ScsiState, Cdb, Sense, Check, TapeState, Mtio, Wrote, Read, DataState, Environment, MoverState}
+use Rattle.wire_replies.specs.declared.Reply.the-variants.{Header, Refused, Plain, Listening, ListeningTcp, ConnectionTypes, Challenge, ServerInfo, ScsiState, Cdb, Sense, Check, TapeState, Mtio, Wrote, Read, DataState, Environment, MoverState}
 use Rattle.wire_replies.specs.declared.Notice.{Notice}
 use Rattle.wire_replies.specs.declared.Notice.the-variants.{DataHalted, Connected, MoverHalted, MoverPaused}
 
@@ -72,10 +72,9 @@ shapeOf ListeningTcp shown = record { words = 0 ∷ tcpAddress ∷ []; raw = sho
 shapeOf ConnectionTypes shown = wordsOnly (0 ∷ 2 ∷ localAddress ∷ tcpAddress ∷ [])
 -- ndmp_config_get_auth_attr_reply: error, and ndmp_auth_attr: the type, and behind MD5 the challenge, which has no
 -- length before it
-shapeOf TextAuth shown = wordsOnly (0 ∷ textAuth ∷ [])
 shapeOf Challenge shown = record { words = 0 ∷ md5Auth ∷ []; raw = shown; texts = []; tail = [] }
--- "Server info lists 1 and 2"
-shapeOf (ServerInfo known) shown = record { words = 0 ∷ []; raw = []; texts = serverTexts known; tail = 2 ∷ textAuth ∷ md5Auth ∷ [] }
+-- "Server info lists 1 and 2", and with 02 No. 10 type 1 "leaves the server info list"
+shapeOf (ServerInfo known) shown = record { words = 0 ∷ []; raw = []; texts = serverTexts known; tail = 1 ∷ md5Auth ∷ [] }
 shapeOf ScsiState shown = wordsOnly (0 ∷ 0 ∷ 0 ∷ 0 ∷ [])
 -- execute CDB: error, status, data-out length, data in, extended sense
 shapeOf Cdb shown = record { words = 0 ∷ 0 ∷ 0 ∷ []; raw = []; texts = [] ∷ [] ∷ []; tail = [] }
@@ -109,7 +108,6 @@ isShowing Plain = false
 isShowing Listening = false
 isShowing ListeningTcp = true
 isShowing ConnectionTypes = false
-isShowing TextAuth = false
 isShowing Challenge = true
 isShowing (ServerInfo known) = false
 isShowing ScsiState = false
@@ -132,7 +130,6 @@ numberOf Plain = 0
 numberOf Listening = 0
 numberOf ListeningTcp = 0
 numberOf ConnectionTypes = 0
-numberOf TextAuth = 0
 numberOf Challenge = 0
 numberOf (ServerInfo known) = 0
 numberOf ScsiState = 0
@@ -155,7 +152,6 @@ headerError Plain = 0
 headerError Listening = 0
 headerError ListeningTcp = 0
 headerError ConnectionTypes = 0
-headerError TextAuth = 0
 headerError Challenge = 0
 headerError (ServerInfo known) = 0
 headerError ScsiState = 0

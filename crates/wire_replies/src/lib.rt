@@ -37,7 +37,7 @@ pub struct MoverView {
 // A reply by its layout, with what it tells. Header is a refusal in the header with no body; Refused one in the body:
 // so many zero words, the number, so many zero words. The others accept: Mtio, Wrote and Read begin with the tape's
 // outcome (0, 12 or 13), the rest have the error 0; Plain is that error alone. ListeningTcp shows the list of
-// addresses that was lent. TextAuth is the auth type of text, Challenge that of MD5 and the challenge that was lent.
+// addresses that was lent. Challenge is the auth type of MD5 and the challenge that was lent.
 // Cdb is an execute CDB that hands over nothing, Sense one that hands over the first bytes of the sense (pending or
 // not) as data in, Check one that ends with status 2 and the extended sense. TapeState is the file and the block, Mtio
 // the residue, Wrote the count, and Read where the bytes lie in the image. Environment gives the pairs of the store
@@ -49,7 +49,6 @@ pub enum Reply {
     Listening,
     ListeningTcp,
     ConnectionTypes,
-    TextAuth,
     Challenge,
     ServerInfo(bool),
     ScsiState,

@@ -7,7 +7,7 @@ use native.Mathlib.Omega.{arith}
 use lib.Dec.{eqb}
 use lib.ListN.{length, length-append}
 use borrow.Author.Tests.{le-leb, ne-eqb}
-use Rattle.codes.specs.Codes.{localAddress, tcpAddress, textAuth, md5Auth}
+use Rattle.codes.specs.Codes.{localAddress, tcpAddress, md5Auth}
 use Rattle.xdr.specs.Choose.{choose}
 use Rattle.xdr.specs.Xdr.{be32}
 use Rattle.xdr.proofs.Laws.{length-be32}
@@ -25,7 +25,7 @@ use Rattle.wire_frame.specs.declared.MoverKind.the-variants as MoverKind
 use Rattle.wire_frame.specs.declared.JointKind.the-variants as JointKind
 use Rattle.wire_frame.specs.declared.Message.{Message}
 use Rattle.wire_frame.specs.declared.Message.the-variants as Message
-use Rattle.wire_layouts.specs.Layout.{word, text, Field, one, tag, four, bytes, Value, value, place, writeAs, partAt, single, fieldAt, whole, before, andValue, andRead, readAs}
+use Rattle.wire_layouts.specs.Layout.{word, text, digest, Field, one, tag, four, bytes, Value, value, place, writeAs, partAt, single, fieldAt, whole, before, andValue, andRead, readAs}
 use Rattle.wire_layouts.specs.Laws.{contents, FieldsFit}
 use Rattle.wire_layouts.specs.Scans.{pairs, emptyScan, put, puts, summed, scanned}
 use Rattle.wire_layouts.specs.AddressLists.{isTcp}
@@ -34,17 +34,17 @@ use Rattle.wire_layouts.specs.declared.Text.{Text}
 use Rattle.wire_layouts.proofs.Back.{round-trip}
 use Rattle.wire_layouts.proofs.Within.{whole-kept}
 use Rattle.wire_layouts.proofs.AddressTypes.{type-written}
-use Rattle.wire_requests.specs.Bodies.{behindText, pairsAt, listenFields, connectFields, isMd5, authFields, attributeFields}
+use Rattle.wire_requests.specs.Bodies.{behindText, pairsAt, listenFields, connectFields}
 use Rattle.wire_requests.specs.Bodies.{layoutOf, requestOf, readBy, decoded}
 use Rattle.wire_requests.specs.Within.{bytesAt}
 use Rattle.wire_requests.specs.Sent.{Name, Addr, local, tcp, Arg, ulong, octets, sixteen, pvals, tcpAddrs, union, argBytes}
 use Rattle.wire_requests.specs.Sent.{Sent, argsOf, sentBytes, SentFits, AtPlace, AtPairs, Means}
-use Rattle.wire_requests.specs.Sent.{connect-open, client-auth, client-auth-md5, connect-close, connection-type, auth-attr, server-info}
+use Rattle.wire_requests.specs.Sent.{connect-open, client-auth, connect-close, connection-type, auth-attr, server-info}
 use Rattle.wire_requests.specs.Sent.{scsi-open, scsi-close, scsi-state, scsi-reset, execute-cdb}
 use Rattle.wire_requests.specs.Sent.{tape-open, tape-close, tape-state, tape-mtio, tape-write, tape-read, data-state, start-backup, start-recover, data-get-env, data-stop, data-listen}
 use Rattle.wire_requests.specs.Sent.{mover-state, mover-listen, mover-continue, mover-stop, set-window, mover-read, set-record-size}
 use Rattle.wire_requests.specs.Sent.{data-abort, data-connect, mover-abort, mover-close, mover-connect}
-use Rattle.wire_requests.specs.RoundTrip.{Known, OtherThan, OtherType, OtherAuthType, RequestsBack}
+use Rattle.wire_requests.specs.RoundTrip.{Known, OtherThan, OtherType, RequestsBack}
 use Rattle.wire_requests.specs.declared.Pairs.{Pairs}
 use Rattle.wire_requests.specs.declared.ConnectRequest.the-variants as ConnectRequest
 use Rattle.wire_requests.specs.declared.ConfigRequest.the-variants as ConfigRequest
@@ -120,26 +120,6 @@ mover-connect-row mode local = sym (ap (λ (t : Bool). one word ∷ connectField
 mover-connect-row mode (tcp addrs) =
     sym (ap (λ (t : Bool). one word ∷ connectFields t) (second-type (mover-connect mode (tcp addrs)) mode tcpAddress (tcpAddrs addrs ∷ []) refl (omega arith)))
 
--- the type of an auth, which is the first field, does so too
-md5-written : (rest : List ℕ) (v : ℕ) → v < 2 ^ 32 → isMd5 (be32 v ++ rest) ≡ eqb v md5Auth
-unfolding isMd5
-md5-written rest v h = ap (λ (w : ℕ). eqb w md5Auth) (sym (word-is rest v (all-of (be32 v ++ rest)) h))
-
-auth-type : {m : Message} (s : Sent m) (v : ℕ) (xs : List Arg) → argsOf s ≡ union v ∷ xs → v < 2 ^ 32 → isMd5 (sentBytes s) ≡ eqb v md5Auth
-unfolding sentBytes flatMap
-auth-type s v xs e h = rw e (md5-written (flatMap argBytes xs) v h)
-
-module _ (id s : List ℕ) where
-  text-row : map fieldFor (argsOf (client-auth id s)) ≡ authFields (isMd5 (sentBytes (client-auth id s)))
-  text-row = sym (ap authFields (auth-type (client-auth id s) textAuth (octets id ∷ octets s ∷ []) refl (omega arith)))
-
-  md5-row : map fieldFor (argsOf (client-auth-md5 id s)) ≡ authFields (isMd5 (sentBytes (client-auth-md5 id s)))
-  md5-row = sym (ap authFields (auth-type (client-auth-md5 id s) md5Auth (octets id ∷ sixteen s ∷ []) refl (omega arith)))
-
-attributes-row : (byMd5 : Bool) → map fieldFor (argsOf (auth-attr byMd5)) ≡ attributeFields (isMd5 (sentBytes (auth-attr byMd5)))
-attributes-row true = sym (ap attributeFields (auth-type (auth-attr true) md5Auth [] refl (omega arith)))
-attributes-row false = sym (ap attributeFields (auth-type (auth-attr false) textAuth [] refl (omega arith)))
-
 at-place : {b s : List ℕ} {P : Text → Type 0} (t : Text) → bytesAt b t ≡ s → P t → AtPlace b s P
 at-place t e p = record { stands = t; holds = e; so = p }
 
@@ -177,11 +157,10 @@ module _ (butype : List ℕ) (env : List Pair) (f : SentFits (start-backup butyp
 sent-back : {m : Message} (s : Sent m) → SentFits s → Means s (sentBytes s) (decoded m (sentBytes s))
 unfolding put choose
 sent-back (connect-open version) f = by-args (connect-open version) tt refl f refl
-sent-back (client-auth id password) f = by-args (client-auth id password) tt (text-row id password) f (λ i e p g. at-place i e (at-place p g refl))
-sent-back (client-auth-md5 id digest) f = by-args (client-auth-md5 id digest) tt (md5-row id digest) f (λ i e d g. at-place i e (at-place d g refl))
+sent-back (client-auth id secret) f = by-args (client-auth id secret) tt refl f (λ i e d g. at-place i e (at-place d g refl))
 sent-back connect-close f = by-args connect-close tt refl f refl
 sent-back connection-type f = by-args connection-type tt refl f refl
-sent-back (auth-attr byMd5) f = by-args (auth-attr byMd5) tt (attributes-row byMd5) f refl
+sent-back auth-attr f = by-args auth-attr tt refl f refl
 sent-back server-info f = by-args server-info tt refl f refl
 sent-back (scsi-open device) f = by-args (scsi-open device) tt refl f (λ t e. at-place t e refl)
 sent-back scsi-close f = by-args scsi-close tt refl f refl
@@ -222,7 +201,7 @@ every (Message.Connect ConnectKind.Open) h = connect-open 0
 every (Message.Connect ConnectKind.Auth) h = client-auth [] []
 every (Message.Connect ConnectKind.Close) h = connect-close
 every (Message.Config ConfigKind.ConnectionType) h = connection-type
-every (Message.Config ConfigKind.AuthAttributes) h = auth-attr false
+every (Message.Config ConfigKind.AuthAttributes) h = auth-attr
 every (Message.Config ConfigKind.ServerInfo) h = server-info
 every (Message.Scsi ScsiKind.Open) h = scsi-open []
 every (Message.Scsi ScsiKind.Close) h = scsi-close
@@ -296,21 +275,18 @@ other-second m h k fs w v rest l u o =
     let e = passes w (tag k ∷ fs) b q (all-of b) u ∙ ap (andValue (value (four w) [])) (stops k v fs b rest 4 (behind-word w q) o) in
     read-before m h b (value (four w) [] ∷ value (four v) [] ∷ []) refl (rw l e)
 
--- an auth of another type is read by text's layout, and stops it
-no-md5 : (v : ℕ) (rest : List ℕ) → OtherAuthType v → isMd5 (be32 v ++ rest) ≡ false
-no-md5 v rest ((k, n), t) = md5-written rest v k ∙ ne-eqb v md5Auth t
-
-other-auth : (v : ℕ) (rest : List ℕ) → OtherAuthType v
+-- an auth of another type stops MD5's layout
+other-auth : (v : ℕ) (rest : List ℕ) → OtherThan md5Auth v
     → decoded (Message.Connect ConnectKind.Auth) (be32 v ++ rest) ≡ Connect ConnectRequest.OtherAuth
 unfolding put
 other-auth v rest o =
-    other-first (Message.Connect ConnectKind.Auth) tt textAuth (one text ∷ one text ∷ []) v rest (ap authFields (no-md5 v rest o)) (o .0)
-    ∙ ap Connect (sym (pick-else _ (ne-eqb v textAuth (o .0 .1)) (pick-else _ (ne-eqb v md5Auth (o .1)) refl)))
+    other-first (Message.Connect ConnectKind.Auth) tt md5Auth (one text ∷ one digest ∷ []) v rest refl o
+    ∙ ap Connect (sym (pick-else _ (ne-eqb v md5Auth (o .1)) refl))
 
-other-attributes : (v : ℕ) (rest : List ℕ) → OtherAuthType v
+other-attributes : (v : ℕ) (rest : List ℕ) → OtherThan md5Auth v
     → decoded (Message.Config ConfigKind.AuthAttributes) (be32 v ++ rest) ≡ Config (ConfigRequest.AuthAttributes v)
 unfolding put
-other-attributes v rest o = other-first (Message.Config ConfigKind.AuthAttributes) tt textAuth [] v rest (ap attributeFields (no-md5 v rest o)) (o .0)
+other-attributes v rest o = other-first (Message.Config ConfigKind.AuthAttributes) tt md5Auth [] v rest refl o
 
 -- an address of another type is read by LOCAL's layout, and stops it
 address-first : (m : Message) → Known m → ((b : List ℕ) → isTcp b 0 ≡ false → layoutOf m b ≡ tag localAddress ∷ [])

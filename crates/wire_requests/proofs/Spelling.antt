@@ -6,7 +6,7 @@ use mathlib.Core.List.{List}
 use mathlib.Core.Logic.{⊎-elim}
 use lib.Dec.{eqb}
 use borrow.Author.Tests.{eqb-true, eqb-false}
-use Rattle.codes.specs.Codes.{localAddress, tcpAddress, textAuth, md5Auth}
+use Rattle.codes.specs.Codes.{localAddress, tcpAddress}
 use Rattle.xdr.specs.Xdr as xdr
 use Rattle.xdr.proofs.Tests.{pick-else}
 use Rattle.wire_frame.specs.declared.ConnectKind.the-variants as ConnectKind
@@ -26,8 +26,8 @@ use Rattle.wire_layouts.proofs.AddressTypes.{type-judged}
 use Rattle.wire_layouts.proofs.Spelling.{spelled}
 use Rattle.wire_layouts.proofs.Unread.{unread-rests}
 use Rattle.wire_layouts.proofs.Within.{broken-kept}
-use Rattle.wire_requests.specs.Bodies.{listenFields, connectFields, isMd5, authFields, attributeFields, layoutOf, requestOf, decoded}
-use Rattle.wire_requests.specs.RoundTrip.{Known, NoType, NoAuth, Apart, Spelling, to-its-end, rest-unread, RequestsOneSpelling}
+use Rattle.wire_requests.specs.Bodies.{listenFields, connectFields, layoutOf, requestOf, decoded}
+use Rattle.wire_requests.specs.RoundTrip.{Known, NoType, Apart, Spelling, to-its-end, rest-unread, RequestsOneSpelling}
 use Rattle.wire_requests.specs.declared.Request.the-variants.{Bad}
 use Rattle.wire_requests.proofs.Laws.{by-layout}
 
@@ -50,31 +50,13 @@ module _ (b : List ℕ) (at : ℕ) where
   connect-apart true e s = ⊎-elim (never-tcp e) absurd s
   connect-apart false e s = ⊎-elim (neither e) absurd s
 
--- the same of the tag of an auth, by MD5's
-module _ (b : List ℕ) where
-  never-md5 : isMd5 b ≡ true → (xdr.word b 0 ≡ md5Auth → ⊥) → NoAuth (xdr.word b 0)
-  unfolding isMd5
-  never-md5 e h = absurd (h (eqb-true _ _ e))
-
-  no-auth : isMd5 b ≡ false → (xdr.word b 0 ≡ textAuth → ⊥) → NoAuth (xdr.word b 0)
-  unfolding isMd5
-  no-auth e h = (h, eqb-false _ _ e)
-
-  auth-apart : (t : Bool) → isMd5 b ≡ t → Stops (authFields t) b 0 → NoAuth (xdr.word b 0)
-  auth-apart true e s = ⊎-elim (never-md5 e) absurd s
-  auth-apart false e s = ⊎-elim (no-auth e) absurd s
-
-  attributes-apart : (t : Bool) → isMd5 b ≡ t → Stops (attributeFields t) b 0 → NoAuth (xdr.word b 0)
-  attributes-apart true e s = ⊎-elim (never-md5 e) absurd s
-  attributes-apart false e s = ⊎-elim (no-auth e) absurd s
-
 -- the messages that have a rest which may be unread
 apart : (m : Message) (b : List ℕ) → Stops (layoutOf m b) b 0 → Apart m b
 apart (Message.Connect ConnectKind.Open) b s = absurd s
-apart (Message.Connect ConnectKind.Auth) b s = auth-apart b (isMd5 b) refl s
+apart (Message.Connect ConnectKind.Auth) b s = ⊎-elim (λ h. h) absurd s
 apart (Message.Connect ConnectKind.Close) b s = absurd s
 apart (Message.Config ConfigKind.ConnectionType) b s = absurd s
-apart (Message.Config ConfigKind.AuthAttributes) b s = attributes-apart b (isMd5 b) refl s
+apart (Message.Config ConfigKind.AuthAttributes) b s = ⊎-elim (λ h. h) absurd s
 apart (Message.Config ConfigKind.ServerInfo) b s = absurd s
 apart (Message.Scsi ScsiKind.Open) b s = absurd s
 apart (Message.Scsi ScsiKind.Close) b s = absurd s

@@ -4,7 +4,7 @@ use mathlib.Core.Path.{_≡_}
 use mathlib.Core.List.{List}
 use lib.Dec.{eqb}
 use lib.ListN.{length, getD}
-use Rattle.codes.specs.Codes.{textAuth, md5Auth}
+use Rattle.codes.specs.Codes.{md5Auth}
 use Rattle.xdr.specs.Choose.{choose}
 use Rattle.xdr.proofs.Tests.{by-test}
 use Rattle.wire_layouts.specs.Scans.{scanned}
@@ -31,7 +31,7 @@ unfolding textsWithin
 of-kept b (Message.Connect ConnectKind.Open) k h = tt
 of-kept b (Message.Connect ConnectKind.Auth) k h =
     let P : ConnectRequest → Type 0 = λ q. textsWithin b (Connect q) in
-    by-test P (eqb (wordOf k 0) textAuth) _ _ (λ e. (h _, h _)) (λ e. by-test P (eqb (wordOf k 0) md5Auth) _ _ (λ g. (h _, h _)) (λ g. tt))
+    by-test P (eqb (wordOf k 0) md5Auth) _ _ (λ e. (h _, h _)) (λ e. tt)
 of-kept b (Message.Connect ConnectKind.Close) k h = tt
 of-kept b (Message.Config ConfigKind.ConnectionType) k h = tt
 of-kept b (Message.Config ConfigKind.AuthAttributes) k h = tt

@@ -7,7 +7,7 @@ use lib.Dec.{eqb}
 use lib.ListN.{getD}
 use Rattle.xdr.specs.Choose.{choose}
 use Rattle.xdr.specs.Xdr as xdr
-use Rattle.codes.specs.Codes.{localAddress, tcpAddress, textAuth, md5Auth}
+use Rattle.codes.specs.Codes.{localAddress, tcpAddress, md5Auth}
 use Rattle.xdr_opaque.specs.Opaque.{filled}
 use Rattle.wire_layouts.specs.Layout.{word, hyper, text, digest, Field, one, tag, place}
 use Rattle.wire_layouts.specs.Scans.{pairs, names, addresses, scanned}
@@ -70,29 +70,16 @@ abbrev pub connectFields : Bool → List Field
 connectFields true = tag tcpAddress ∷ addresses ∷ []
 connectFields false = tag localAddress ∷ []
 
--- Whether the auth type that a body begins with is MD5
-unfoldable pub isMd5 : List ℕ → Bool
-isMd5 b = eqb (xdr.word b 0) md5Auth
-
--- ndmp_auth_data by whether its type is MD5: behind text stand id and password, behind MD5 the id and the 16 bytes of the digest
-abbrev pub authFields : Bool → List Field
-authFields true = tag md5Auth ∷ one text ∷ one digest ∷ []
-authFields false = tag textAuth ∷ one text ∷ one text ∷ []
-
--- 0x103 names the type alone
-abbrev pub attributeFields : Bool → List Field
-attributeFields true = tag md5Auth ∷ []
-attributeFields false = tag textAuth ∷ []
-
 -- "Bytes left over make error 18, except after an address type other than 0 or an auth type other than 1: there the rest is not read. At
--- most 64 environment pairs and 64 names in a start request". 02 No. 2: "9 for a type other than 1 and 2, its rest unread". An address is a tag of
--- LOCAL or TCP, by the body's own word, an auth one of text or MD5.
+-- most 64 environment pairs and 64 names in a start request". 02 No. 2: "9 for a type other than 1 and 2, its rest unread", and No. 10: "9 for type 1,
+-- at 0x103 too, its rest unread". An address is a tag of LOCAL or TCP, by the body's own word, an auth one of MD5: behind it stand the id and the 16
+-- bytes of the digest, and in 0x103 nothing.
 abbrev pub layoutOf : Message → List ℕ → List Field
 layoutOf (Message.Connect ConnectKind.Open) b = one word ∷ []
-layoutOf (Message.Connect ConnectKind.Auth) b = authFields (isMd5 b)
+layoutOf (Message.Connect ConnectKind.Auth) b = tag md5Auth ∷ one text ∷ one digest ∷ []
 layoutOf (Message.Connect ConnectKind.Close) b = []
 layoutOf (Message.Config ConfigKind.ConnectionType) b = []
-layoutOf (Message.Config ConfigKind.AuthAttributes) b = attributeFields (isMd5 b)
+layoutOf (Message.Config ConfigKind.AuthAttributes) b = tag md5Auth ∷ []
 layoutOf (Message.Config ConfigKind.ServerInfo) b = []
 layoutOf (Message.Scsi ScsiKind.Open) b = one text ∷ []
 layoutOf (Message.Scsi ScsiKind.Close) b = []
@@ -125,12 +112,9 @@ layoutOf (Message.Joint JointKind.MoverClose) b = []
 layoutOf (Message.Joint JointKind.MoverConnect) b = one word ∷ connectFields (isTcp b 4)
 layoutOf Message.Unknown b = []
 
--- a login by its auth type: by text its id and its password, by MD5 its id and the 16 bytes behind it
+-- a login by its auth type: by MD5 its id and the 16 bytes behind it
 abbrev pub authOf : Scan → ConnectRequest
-authOf k =
-    choose (eqb (wordOf k 0) textAuth) (ConnectRequest.Auth (textOf k 1) (textOf k 2))
-    (choose (eqb (wordOf k 0) md5Auth) (ConnectRequest.Md5Auth (textOf k 1) (textOf k 2))
-    ConnectRequest.OtherAuth)
+authOf k = choose (eqb (wordOf k 0) md5Auth) (ConnectRequest.Md5Auth (textOf k 1) (textOf k 2)) ConnectRequest.OtherAuth
 
 -- of execute CDB (flags, timeout, data-in length, CDB, data out) the CDB and the data-in length; of a connect the address type, and of one by TCP
 -- how many addresses its list has

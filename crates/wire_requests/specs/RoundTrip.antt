@@ -2,7 +2,7 @@
 use mathlib.Core.Path.{_≡_}
 use mathlib.Core.List.{List, _++_, map}
 use Prim.Native.Nat.{ℕ, _^_, _<_}
-use Rattle.codes.specs.Codes.{localAddress, tcpAddress, textAuth, md5Auth}
+use Rattle.codes.specs.Codes.{localAddress, tcpAddress, md5Auth}
 use Rattle.xdr.specs.Xdr.{be32, word}
 use Rattle.wire_frame.specs.declared.ConnectKind.the-variants as ConnectKind
 use Rattle.wire_frame.specs.declared.ConfigKind.the-variants as ConfigKind
@@ -41,18 +41,14 @@ OtherThan k v = (v < 2 ^ 32) × (v ≡ k → ⊥)
 abbrev pub OtherType : ℕ → Type 0
 OtherType v = OtherThan localAddress v × (v ≡ tcpAddress → ⊥)
 
--- a word that is another auth type than text and MD5
-abbrev pub OtherAuthType : ℕ → Type 0
-OtherAuthType v = OtherThan textAuth v × (v ≡ md5Auth → ⊥)
-
--- every message has its requests; each body decodes to the request that it says; and after an auth type other than 1 and 2 or an address type other
--- than 0 and 1 the rest is not read, whatever it is ("type 1 no longer leaves bytes unread"; "a type other than 1 and 2, its rest unread")
+-- every message has its requests; each body decodes to the request that it says; and after an auth type other than 2 or an address type other
+-- than 0 and 1 the rest is not read, whatever it is ("type 1 no longer leaves bytes unread", of addresses; "9 for type 1, .. its rest unread", of auth)
 pub record RequestsBack : Type 0 where
   pub every : (m : Message) → Known m → Sent m
   pub sent : {m : Message} (s : Sent m) → SentFits s → Means s (sentBytes s) (decoded m (sentBytes s))
-  pub other-auth : (v : ℕ) (rest : List ℕ) → OtherAuthType v
+  pub other-auth : (v : ℕ) (rest : List ℕ) → OtherThan md5Auth v
       → decoded (Message.Connect ConnectKind.Auth) (be32 v ++ rest) ≡ Connect ConnectRequest.OtherAuth
-  pub other-attributes : (v : ℕ) (rest : List ℕ) → OtherAuthType v
+  pub other-attributes : (v : ℕ) (rest : List ℕ) → OtherThan md5Auth v
       → decoded (Message.Config ConfigKind.AuthAttributes) (be32 v ++ rest) ≡ Config (ConfigRequest.AuthAttributes v)
   pub other-data-listen : (v : ℕ) (rest : List ℕ) → OtherType v
       → decoded (Message.Data DataKind.Listen) (be32 v ++ rest) ≡ Data (DataRequest.Listen v)
@@ -67,18 +63,14 @@ pub record RequestsBack : Type 0 where
 abbrev pub NoType : ℕ → Type 0
 NoType v = (v ≡ localAddress → ⊥) × (v ≡ tcpAddress → ⊥)
 
--- a word of the body that is no auth type whose fields are read
-abbrev pub NoAuth : ℕ → Type 0
-NoAuth v = (v ≡ textAuth → ⊥) × (v ≡ md5Auth → ⊥)
-
--- "address and auth types whose rest is unread stay apart": the bodies of an auth other than text and MD5 and of an address other than LOCAL and TCP,
+-- "address and auth types whose rest is unread stay apart": the bodies of an auth other than MD5 and of an address other than LOCAL and TCP,
 -- by the word of that type
 abbrev pub Apart : Message → List ℕ → Type 0
 Apart (Message.Connect ConnectKind.Open) b = ⊥
-Apart (Message.Connect ConnectKind.Auth) b = NoAuth (word b 0)
+Apart (Message.Connect ConnectKind.Auth) b = word b 0 ≡ md5Auth → ⊥
 Apart (Message.Connect ConnectKind.Close) b = ⊥
 Apart (Message.Config ConfigKind.ConnectionType) b = ⊥
-Apart (Message.Config ConfigKind.AuthAttributes) b = NoAuth (word b 0)
+Apart (Message.Config ConfigKind.AuthAttributes) b = word b 0 ≡ md5Auth → ⊥
 Apart (Message.Config ConfigKind.ServerInfo) b = ⊥
 Apart (Message.Scsi k) b = ⊥
 Apart (Message.Tape k) b = ⊥

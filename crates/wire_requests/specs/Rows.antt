@@ -97,11 +97,14 @@ bodies =
     ∷ body (Message.Connect ConnectKind.Auth) (small 1 ++ string vault none ++ string noon [])
     ∷ body (Message.Connect ConnectKind.Auth) (small 2 ++ string vault none ++ sixteenBytes)
     ∷ body (Message.Connect ConnectKind.Auth) (small 2 ++ string [] [] ++ sixteenBytes)
+    ∷ body (Message.Connect ConnectKind.Auth) (small 1 ++ string vault (0 ∷ 0 ∷ 1 ∷ []) ++ string noon [] ++ 7 ∷ [])
+    ∷ body (Message.Connect ConnectKind.Auth) (small 1)
     ∷ body (Message.Connect ConnectKind.Auth) (small 3 ++ 7 ∷ [])
     ∷ body (Message.Connect ConnectKind.Auth) (small 0)
     ∷ body (Message.Connect ConnectKind.Close) []
     ∷ body (Message.Config ConfigKind.ConnectionType) []
     ∷ body (Message.Config ConfigKind.AuthAttributes) (small 1)
+    ∷ body (Message.Config ConfigKind.AuthAttributes) (small 1 ++ 7 ∷ [])
     ∷ body (Message.Config ConfigKind.AuthAttributes) (small 2)
     ∷ body (Message.Config ConfigKind.AuthAttributes) (small 3 ++ 7 ∷ [])
     ∷ body (Message.Config ConfigKind.AuthAttributes) (small 0)
@@ -153,13 +156,16 @@ bodies =
 abbrev pub requests : List Request
 requests =
     Request.Connect (ConnectRequest.Open 4)
-    ∷ Request.Connect (ConnectRequest.Auth (place 8 5) (place 20 4))
+    ∷ Request.Connect ConnectRequest.OtherAuth
     ∷ Request.Connect (ConnectRequest.Md5Auth (place 8 5) (place 16 16))
     ∷ Request.Connect (ConnectRequest.Md5Auth (place 8 0) (place 8 16))
     ∷ Request.Connect ConnectRequest.OtherAuth
     ∷ Request.Connect ConnectRequest.OtherAuth
+    ∷ Request.Connect ConnectRequest.OtherAuth
+    ∷ Request.Connect ConnectRequest.OtherAuth
     ∷ Request.Connect ConnectRequest.Close
     ∷ Request.Config ConfigRequest.ConnectionType
+    ∷ Request.Config (ConfigRequest.AuthAttributes 1)
     ∷ Request.Config (ConfigRequest.AuthAttributes 1)
     ∷ Request.Config (ConfigRequest.AuthAttributes 2)
     ∷ Request.Config (ConfigRequest.AuthAttributes 3)
@@ -210,14 +216,11 @@ requests =
     ∷ []
 
 -- ---- a byte of fill that is not zero, in each place where a text may stand and at each length of fill; bytes that are missing or left
--- over, also behind the auth types 1 and 2; a digest with its length before it, a byte short or a byte too long; one pair more than 64; bytes
+-- over, also behind the auth type 2; a digest with its length before it, a byte short or a byte too long; one pair more than 64; bytes
 -- behind a listen's type TCP; a list that is missing, has a 17th address, a port of 65,536 or a fill byte
 abbrev pub badBodies : List SampleBody
 badBodies =
-    body (Message.Connect ConnectKind.Auth) (small 1 ++ string vault (0 ∷ 0 ∷ 1 ∷ []) ++ string noon [])
-    ∷ body (Message.Connect ConnectKind.Auth) (small 1 ++ string vault none ++ string (1 ∷ 2 ∷ 3 ∷ []) (1 ∷ []))
-    ∷ body (Message.Connect ConnectKind.Auth) (small 1 ++ string vault none ++ string noon [] ++ 7 ∷ [])
-    ∷ body (Message.Connect ConnectKind.Auth) (small 2 ++ string vault (1 ∷ 0 ∷ 0 ∷ []) ++ sixteenBytes)
+    body (Message.Connect ConnectKind.Auth) (small 2 ++ string vault (1 ∷ 0 ∷ 0 ∷ []) ++ sixteenBytes)
     ∷ body (Message.Connect ConnectKind.Auth) (small 2 ++ string vault none ++ small 16 ++ sixteenBytes)
     ∷ body (Message.Connect ConnectKind.Auth) (small 2 ++ string vault none ++ replicate 15 7)
     ∷ body (Message.Connect ConnectKind.Auth) (small 2 ++ string vault none ++ replicate 17 7)
@@ -225,7 +228,6 @@ badBodies =
     ∷ body (Message.Connect ConnectKind.Auth) (0 ∷ 0 ∷ 0 ∷ [])
     ∷ body (Message.Config ConfigKind.AuthAttributes) []
     ∷ body (Message.Config ConfigKind.AuthAttributes) (0 ∷ 0 ∷ 0 ∷ [])
-    ∷ body (Message.Config ConfigKind.AuthAttributes) (small 1 ++ 7 ∷ [])
     ∷ body (Message.Config ConfigKind.AuthAttributes) (small 2 ++ small 0)
     ∷ body (Message.Scsi ScsiKind.Open) (string (99 ∷ 104 ∷ []) (0 ∷ 1 ∷ []))
     ∷ body (Message.Scsi ScsiKind.Cdb) (small 1 ++ small 2 ++ small 3 ++ string inquiry (1 ∷ 0 ∷ []) ++ string (9 ∷ []) none)

@@ -5,7 +5,7 @@ use mathlib.Core.Bool.{Bool, true, false}
 use mathlib.Core.Path.{_≡_}
 use mathlib.Core.List.{List, [], _∷_, _++_, flatMap}
 use lib.ListN.{length}
-use Rattle.codes.specs.Codes.{localAddress, tcpAddress, textAuth, md5Auth, digestLength, mostListed, mostAddresses, mostPort}
+use Rattle.codes.specs.Codes.{localAddress, tcpAddress, md5Auth, digestLength, mostListed, mostAddresses, mostPort}
 use Rattle.xdr.specs.Xdr.{be32, be64}
 use Rattle.xdr_opaque.specs.Put.{opaque, Each}
 use Rattle.wire_frame.specs.declared.ConnectKind.the-variants as ConnectKind
@@ -110,15 +110,14 @@ ArgFits (nameList ns) = (length ns ≤ mostListed) × Each NameFits ns
 ArgFits (tcpAddrs addrs) = (length addrs ≤ mostAddresses) × Each TcpAddrFits addrs
 ArgFits (union k) = k < 2 ^ 32
 
--- ---- the requests of each message. An auth is text or MD5 here and an address LOCAL or TCP: of other types the rest is not read, see `RequestsBack`.
+-- ---- the requests of each message. An auth is MD5 here and an address LOCAL or TCP: of other types the rest is not read, see `RequestsBack`.
 -- A listen names the type of its address and nothing else.
 pub data Sent : Message → Type 0 where
   connect-open : (version : ℕ) → Sent (Message.Connect ConnectKind.Open)
-  client-auth : (id password : List ℕ) → Sent (Message.Connect ConnectKind.Auth)
-  client-auth-md5 : (id digest : List ℕ) → Sent (Message.Connect ConnectKind.Auth)
+  client-auth : (id digest : List ℕ) → Sent (Message.Connect ConnectKind.Auth)
   connect-close : Sent (Message.Connect ConnectKind.Close)
   connection-type : Sent (Message.Config ConfigKind.ConnectionType)
-  auth-attr : (byMd5 : Bool) → Sent (Message.Config ConfigKind.AuthAttributes)
+  auth-attr : Sent (Message.Config ConfigKind.AuthAttributes)
   server-info : Sent (Message.Config ConfigKind.ServerInfo)
   scsi-open : (device : List ℕ) → Sent (Message.Scsi ScsiKind.Open)
   scsi-close : Sent (Message.Scsi ScsiKind.Close)
@@ -155,11 +154,6 @@ abbrev pub typeWord : Bool → ℕ
 typeWord true = tcpAddress
 typeWord false = localAddress
 
--- ndmp_auth_type: TEXT 1, MD5 2
-abbrev pub authWord : Bool → ℕ
-authWord true = md5Auth
-authWord false = textAuth
-
 abbrev pub addrArgs : Addr → List Arg
 addrArgs local = union localAddress ∷ []
 addrArgs (tcp addrs) = union tcpAddress ∷ tcpAddrs addrs ∷ []
@@ -167,11 +161,10 @@ addrArgs (tcp addrs) = union tcpAddress ∷ tcpAddrs addrs ∷ []
 -- the fields of the body, in the order of the struct
 abbrev pub argsOf : {m : Message} → Sent m → List Arg
 argsOf (connect-open version) = ulong version ∷ []
-argsOf (client-auth id password) = union textAuth ∷ octets id ∷ octets password ∷ []
-argsOf (client-auth-md5 id digest) = union md5Auth ∷ octets id ∷ sixteen digest ∷ []
+argsOf (client-auth id digest) = union md5Auth ∷ octets id ∷ sixteen digest ∷ []
 argsOf connect-close = []
 argsOf connection-type = []
-argsOf (auth-attr byMd5) = union (authWord byMd5) ∷ []
+argsOf auth-attr = union md5Auth ∷ []
 argsOf server-info = []
 argsOf (scsi-open device) = octets device ∷ []
 argsOf scsi-close = []
@@ -223,11 +216,10 @@ pub record AtPairs (b : List ℕ) (env : List Pair) (P : Pairs → Type 0) : Typ
 
 abbrev pub Means : {m : Message} → Sent m → List ℕ → Request → Type 0
 Means (connect-open version) b r = r ≡ Connect (ConnectRequest.Open version)
-Means (client-auth id password) b r = AtPlace b id (λ i. AtPlace b password (λ p. r ≡ Connect (ConnectRequest.Auth i p)))
-Means (client-auth-md5 id digest) b r = AtPlace b id (λ i. AtPlace b digest (λ d. r ≡ Connect (ConnectRequest.Md5Auth i d)))
+Means (client-auth id digest) b r = AtPlace b id (λ i. AtPlace b digest (λ d. r ≡ Connect (ConnectRequest.Md5Auth i d)))
 Means connect-close b r = r ≡ Connect ConnectRequest.Close
 Means connection-type b r = r ≡ Config ConfigRequest.ConnectionType
-Means (auth-attr byMd5) b r = r ≡ Config (ConfigRequest.AuthAttributes (authWord byMd5))
+Means auth-attr b r = r ≡ Config (ConfigRequest.AuthAttributes md5Auth)
 Means server-info b r = r ≡ Config ConfigRequest.ServerInfo
 Means (scsi-open device) b r = AtPlace b device (λ d. r ≡ Scsi (ScsiRequest.Open d))
 Means scsi-close b r = r ≡ Scsi ScsiRequest.Close

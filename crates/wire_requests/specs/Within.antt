@@ -16,7 +16,6 @@ use Rattle.wire_requests.specs.declared.Request.the-variants.{Connect, C
 -- the texts that a request holds, in order
 abbrev pub textsOf : Request → List Text
 textsOf (Connect (ConnectRequest.Open version)) = []
-textsOf (Connect (ConnectRequest.Auth id password)) = id ∷ password ∷ []
 textsOf (Connect (ConnectRequest.Md5Auth id digest)) = id ∷ digest ∷ []
 textsOf (Connect ConnectRequest.OtherAuth) = []
 textsOf (Connect ConnectRequest.Close) = []

@@ -4,10 +4,9 @@ ghost use Rattle.wire_requests.specs.RoundTrip.{RequestsBack, RequestsOn
 ghost use Rattle.wire_requests.specs.Rows.{RowsHold};
 use wire_layouts::Text;
 
-// A login by text holds the id and the password, one by MD5 the id and the digest.
+// A login by MD5 holds the id and the digest; of any other type the rest is not read.
 pub enum ConnectRequest {
     Open(u32),
-    Auth(Text, Text),
     Md5Auth(Text, Text),
     OtherAuth,
     Close,

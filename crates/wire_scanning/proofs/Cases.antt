@@ -235,7 +235,7 @@ module _ (ps : List Part) (inner : ℕ) (qs : List Part) (b : List ℕ) (at : �
       after-items (listAt inner (partsAt qs b) b x) ∙ sym (forget-got (partsAt ps b at) (λ (y : ℕ). itemsOf (listAt inner (partsAt qs b) b y)) x e)
 
 -- ---- a letter that no field has
-module _ (c : ℕ) (w : c ≡ 119 → ⊥) (h : c ≡ 104 → ⊥) (t : c ≡ 116 → ⊥) (p : c ≡ 112 → ⊥) (n : c ≡ 110 → ⊥) (a : c ≡ 97 → ⊥) (u : c ≡ 117 → ⊥)
+module _ (c : ℕ) (w : c ≡ 119 → ⊥) (h : c ≡ 104 → ⊥) (t : c ≡ 116 → ⊥) (p : c ≡ 112 → ⊥) (n : c ≡ 110 → ⊥) (a : c ≡ 97 → ⊥)
     (i : c ≡ 105 → ⊥) (l : c ≡ 108 → ⊥) (m : c ≡ 109 → ⊥) (d : c ≡ 100 → ⊥) where
   other-letter : never ≡ fieldOf c
   other-letter =
@@ -246,7 +246,6 @@ module _ (c : ℕ) (w : c ≡ 119 → ⊥) (h : c ≡ 104 → ⊥) (t : c ≡ 11
         ne-eqb c 112 p,
         ne-eqb c 110 n,
         ne-eqb c 97 a,
-        ne-eqb c 117 u,
         ne-eqb c 105 i,
         ne-eqb c 108 l,
         ne-eqb c 109 m,

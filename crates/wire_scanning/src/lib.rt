@@ -255,7 +255,6 @@ fn field_at(letter: u8, body: &[u8], at: usize) -> Seen
         b'p' => many_at(codes::MOST_LISTED, b"tt", body, at),
         b'n' => many_at(codes::MOST_LISTED, b"tttthh", body, at),
         b'a' => tagged(body, at, codes::LOCAL_ADDRESS),
-        b'u' => tagged(body, at, codes::TEXT_AUTH),
         b'i' => tagged(body, at, codes::TCP_ADDRESS),
         b'l' => address_list(body, at),
         b'm' => tagged(body, at, codes::MD5_AUTH),

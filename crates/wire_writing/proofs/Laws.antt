@@ -18,7 +18,7 @@ use Rattle.wire_pairs.specs.Pairs.{pairBytes}
 use Rattle.wire_pairs.specs.Store.{isLaid, environmentOf}
 use Rattle.wire_frame.specs.Frame.{recordBytes}
 use Rattle.wire_replies.specs.declared.Reply.{Reply}
-use Rattle.wire_replies.specs.declared.Reply.the-variants.{Header, Refused, Plain, Listening, ListeningTcp, ConnectionTypes, TextAuth, Challenge, ServerInfo, ScsiState}
+use Rattle.wire_replies.specs.declared.Reply.the-variants.{Header, Refused, Plain, Listening, ListeningTcp, ConnectionTypes, Challenge, ServerInfo, ScsiState}
 use Rattle.wire_replies.specs.declared.Reply.the-variants.{Cdb, Sense, Check, TapeState, Mtio, Wrote, Read, DataState, Environment, MoverState}
 use Rattle.wire_replies.specs.Replies.{Body, opaques, bodyBytes, wordsOnly, sense, shapeOf, headerError, replyBytes}
 use Rattle.wire_replies.specs.Fit.{Sendable}
@@ -117,7 +117,7 @@ part start len l = let e : start + len - start ≡ len = omega arith in rw e
 
 -- ---- the error in the header: none in a reply of any kind but the first
 abbrev others : List ℕ
-others = 1 ∷ 2 ∷ 3 ∷ 4 ∷ 5 ∷ 6 ∷ 7 ∷ 8 ∷ 9 ∷ 10 ∷ 11 ∷ 12 ∷ 13 ∷ 14 ∷ 15 ∷ 16 ∷ 17 ∷ 18 ∷ 19 ∷ []
+others = 1 ∷ 2 ∷ 3 ∷ 4 ∷ 5 ∷ 6 ∷ 7 ∷ 8 ∷ 9 ∷ 10 ∷ 11 ∷ 12 ∷ 13 ∷ 14 ∷ 15 ∷ 16 ∷ 17 ∷ 18 ∷ []
 
 pub no-header : (r : Reply) → OneOf others (tagOf the-type r) → 0 ≡ headerError r
 unfolding headerError
@@ -127,7 +127,6 @@ no-header Plain h = refl
 no-header Listening h = refl
 no-header ListeningTcp h = refl
 no-header ConnectionTypes h = refl
-no-header TextAuth h = refl
 no-header Challenge h = refl
 no-header (ServerInfo known) h = refl
 no-header ScsiState h = refl

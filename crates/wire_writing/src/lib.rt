@@ -4,7 +4,7 @@ ghost use mathlib.Core.Bool.{true};
 ghost use mathlib.Core.List.{[], _∷_};
 ghost use Prim.Native.Nat.{_+_, _*_, _≤_};
 ghost use lib.ListN.{length};
-ghost use Rattle.codes.specs.Codes.{largestMessage, senseBytes, mostLent, storeLength, textAuth, md5Auth};
+ghost use Rattle.codes.specs.Codes.{largestMessage, senseBytes, mostLent, storeLength, md5Auth};
 ghost use Rattle.xdr.specs.Xdr.{be32s, overlay};
 ghost use Rattle.xdr_opaque.specs.Put.{Put};
 ghost use Rattle.wire_pairs.specs.Store.{isLaid};
@@ -36,7 +36,7 @@ fn put_refused(out: &mut [u8], at: usize, before: u32, error: u32, after: u32) -
     xdr_opaque::put_zero_words(out, second, after as usize)
 }
 
-// Writes server info with these texts; the auth types are text and MD5.
+// Writes server info with these texts; the one auth type is MD5.
 fn put_server_texts(
     out: &mut [u8],
     at: usize,
@@ -45,13 +45,13 @@ fn put_server_texts(
     revision: &[u8],
 ) -> usize
     requires { ⌜ (at + 64 ≤ length (now out)) × (length (now vendor) ≤ 5) × (length (now product) ≤ 5) × (length (now revision) ≤ 5) ⌝ }
-    ensures { λ r. ⌜ Put at (bodyBytes (record { words = 0 ∷ []; raw = []; texts = now (vendor .entry) ∷ now (product .entry) ∷ now (revision .entry) ∷ []; tail = 2 ∷ textAuth ∷ md5Auth ∷ [] })) (now (out .entry)) r (now (out .exit)) ⌝ }
+    ensures { λ r. ⌜ Put at (bodyBytes (record { words = 0 ∷ []; raw = []; texts = now (vendor .entry) ∷ now (product .entry) ∷ now (revision .entry) ∷ []; tail = 1 ∷ md5Auth ∷ [] })) (now (out .entry)) r (now (out .exit)) ⌝ }
 {
     let first = xdr_opaque::put_words(out, at, &[0]);
     let second = xdr_opaque::put_opaque(out, first, vendor);
     let third = xdr_opaque::put_opaque(out, second, product);
     let end = xdr_opaque::put_opaque(out, third, revision);
-    xdr_opaque::put_words(out, end, &[2, codes::TEXT_AUTH, codes::MD5_AUTH])
+    xdr_opaque::put_words(out, end, &[1, codes::MD5_AUTH])
 }
 
 // Writes server info; its texts are empty before auth.
@@ -210,7 +210,6 @@ pub fn write_body(out: &mut [u8], at: usize, reply: Reply, image: &[u8]) -> usiz
             at,
             &[0, 2, codes::LOCAL_ADDRESS, codes::TCP_ADDRESS],
         ),
-        Reply::TextAuth => put_body(out, at, &[0, codes::TEXT_AUTH]),
         Reply::Challenge => put_lent(out, at, codes::MD5_AUTH, image),
         Reply::ServerInfo(known) => put_server_info(out, at, known),
         Reply::ScsiState => put_body(out, at, &[0, 0, 0, 0]),

@@ -7,7 +7,7 @@ use Rattle.wire_pairs.specs.Pairs.{textIn, behind, pairsFrom}
 use Rattle.wire_layouts.specs.Layout.{pieceOf, partAt, prepend, andPart, andGot, partsAt, timesAt, single, counted, itemsOf, elementAt, fieldAt, andValue, andRead, readAs}
 use Rattle.wire_layouts.specs.Scans.{put, puts, summed, scanned}
 use Rattle.wire_layouts.specs.AddressLists.{isTcp}
-use Rattle.wire_requests.specs.Bodies.{isMd5, connectBody, configBody, scsiBody, tapeBody, dataBody, moverBody, jointBody, decoded}
+use Rattle.wire_requests.specs.Bodies.{connectBody, configBody, scsiBody, tapeBody, dataBody, moverBody, jointBody, decoded}
 use Rattle.wire_requests.specs.Rows.{addressesOf}
 use Rattle.wire_requests.proofs.rows_hold.Statement.{statement}
 use Rattle.wire_requests.proofs.rows_hold.Tie as tie
@@ -15,7 +15,7 @@ use Rattle.wire_requests.proofs.rows_hold.Tie as tie
 returns : tie.Need-returns
 unfolding
     choose word hyper allZero opaqueAt pieceOf partAt prepend andPart andGot partsAt timesAt single counted itemsOf elementAt fieldAt andValue andRead readAs
-    put puts summed scanned isTcp isMd5 connectBody configBody scsiBody tapeBody dataBody moverBody jointBody decoded addressesOf textIn behind pairsFrom
+    put puts summed scanned isTcp connectBody configBody scsiBody tapeBody dataBody moverBody jointBody decoded addressesOf textIn behind pairsFrom
 returns c = record { decodes = refl; refuses = refl; of-backup = refl; of-recover = refl }
 
 pub rows-hold-spec : {M : Type 1} → statement M

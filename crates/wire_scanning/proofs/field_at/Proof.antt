@@ -40,14 +40,11 @@ tagged-requires c κs = search needs
 tagged-requires-2 : tie.Need-tagged-requires-2
 tagged-requires-2 c κs = search needs
 
-tagged-requires-3 : tie.Need-tagged-requires-3
-tagged-requires-3 c κs = search needs
-
 address-list-requires : tie.Need-address-list-requires
 address-list-requires c κs = search needs
 
-tagged-requires-4 : tie.Need-tagged-requires-4
-tagged-requires-4 c κs = search needs
+tagged-requires-3 : tie.Need-tagged-requires-3
+tagged-requires-3 c κs = search needs
 
 one-digest-requires : tie.Need-one-digest-requires
 one-digest-requires c κs = search needs
@@ -74,23 +71,20 @@ returns-7 : tie.Need-returns-7
 returns-7 c = rw (c .before .match .keys7) (c .tagged2 .ensures)
 
 returns-8 : tie.Need-returns-8
-returns-8 c = rw (c .before .match .keys8) (c .tagged3 .ensures)
+returns-8 c = rw (c .before .match .keys8) (c .address-list .ensures)
 
 returns-9 : tie.Need-returns-9
-returns-9 c = rw (c .before .match .keys9) (c .address-list .ensures)
+returns-9 c = rw (c .before .match .keys9) (c .tagged3 .ensures)
 
 returns-10 : tie.Need-returns-10
-returns-10 c = rw (c .before .match .keys10) (c .tagged4 .ensures)
+returns-10 c = rw (c .before .match .keys10) (c .one-digest .ensures)
 
 returns-11 : tie.Need-returns-11
-returns-11 c = rw (c .before .match .keys11) (c .one-digest .ensures)
-
-returns-12 : tie.Need-returns-12
-returns-12 c =
+returns-11 c =
     let r = c .match .rest in
     let q = r .0 .0 .0 .0 in
     let s = q .0 .0 .0 .0 in
-    unknown _ (s .0 .0 .1) (s .0 .1) (s .1) (q .0 .0 .0 .1) (q .0 .0 .1) (q .0 .1) (q .1) (r .0 .0 .0 .1) (r .0 .0 .1) (r .0 .1) (r .1) _ _
+    unknown _ (s .0 .1) (s .1) (q .0 .0 .0 .1) (q .0 .0 .1) (q .0 .1) (q .1) (r .0 .0 .0 .1) (r .0 .0 .1) (r .0 .1) (r .1) _ _
 
 pub field-at-spec : {M : Type 1} → statement M
 field-at-spec =
@@ -105,9 +99,8 @@ field-at-spec =
     many-at-requires-2
     tagged-requires
     tagged-requires-2
-    tagged-requires-3
     address-list-requires
-    tagged-requires-4
+    tagged-requires-3
     one-digest-requires
     returns
     returns-2
@@ -119,5 +112,4 @@ field-at-spec =
     returns-8
     returns-9
     returns-10
-    returns-11
-    returns-12)
+    returns-11)

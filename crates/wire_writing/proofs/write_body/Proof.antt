@@ -67,18 +67,9 @@ put-body-requires-3 c κs = search needs
 enum-told-6 : tie.Need-enum-told-6
 enum-told-6 c = search needs
 
-slice-aggregate-put-body-4 : tie.Need-slice-aggregate-put-body-4
-slice-aggregate-put-body-4 c = search needs
-
-put-body-requires-4 : tie.Need-put-body-requires-4
-put-body-requires-4 c κs = search needs
-
-enum-told-7 : tie.Need-enum-told-7
-enum-told-7 c = search needs
-
 put-lent-requires-2 : tie.Need-put-lent-requires-2
 put-lent-requires-2 c κs =
-    let h = challenge-within _ _ (c .before .before .before .before .before .pre .1) (c .before .enum-told7 .given .1) in
+    let h = challenge-within _ _ (c .before .before .before .before .before .pre .1) (c .before .enum-told6 .given .1) in
     (omega arith, omega arith)
 
 enum-known-reply-2 : tie.Need-enum-known-reply-2
@@ -87,17 +78,17 @@ enum-known-reply-2 c = search needs
 put-server-info-requires : tie.Need-put-server-info-requires
 put-server-info-requires c κs = search needs
 
+enum-told-7 : tie.Need-enum-told-7
+enum-told-7 c = search needs
+
+slice-aggregate-put-body-4 : tie.Need-slice-aggregate-put-body-4
+slice-aggregate-put-body-4 c = search needs
+
+put-body-requires-4 : tie.Need-put-body-requires-4
+put-body-requires-4 c κs = search needs
+
 enum-told-8 : tie.Need-enum-told-8
 enum-told-8 c = search needs
-
-slice-aggregate-put-body-5 : tie.Need-slice-aggregate-put-body-5
-slice-aggregate-put-body-5 c = search needs
-
-put-body-requires-5 : tie.Need-put-body-requires-5
-put-body-requires-5 c κs = search needs
-
-enum-told-9 : tie.Need-enum-told-9
-enum-told-9 c = search needs
 
 slice-aggregate-put-cdb : tie.Need-slice-aggregate-put-cdb
 slice-aggregate-put-cdb c = search needs
@@ -115,8 +106,8 @@ put-sense-requires : tie.Need-put-sense-requires
 put-sense-requires c κs =
     (omega arith, sense-within _ _ _ _ (c .before .before .before .before .before .before .pre .1) (c .before .before .reply3 .given .1))
 
-enum-told-10 : tie.Need-enum-told-10
-enum-told-10 c = search needs
+enum-told-9 : tie.Need-enum-told-9
+enum-told-9 c = search needs
 
 put-check-requires : tie.Need-put-check-requires
 put-check-requires c κs = search needs
@@ -124,29 +115,29 @@ put-check-requires c κs = search needs
 enum-known-reply-4 : tie.Need-enum-known-reply-4
 enum-known-reply-4 c = search needs
 
+slice-aggregate-put-body-5 : tie.Need-slice-aggregate-put-body-5
+slice-aggregate-put-body-5 c = search needs
+
+put-body-requires-5 : tie.Need-put-body-requires-5
+put-body-requires-5 c κs = search needs
+
+enum-known-reply-5 : tie.Need-enum-known-reply-5
+enum-known-reply-5 c = search needs
+
 slice-aggregate-put-body-6 : tie.Need-slice-aggregate-put-body-6
 slice-aggregate-put-body-6 c = search needs
 
 put-body-requires-6 : tie.Need-put-body-requires-6
 put-body-requires-6 c κs = search needs
 
-enum-known-reply-5 : tie.Need-enum-known-reply-5
-enum-known-reply-5 c = search needs
+enum-known-reply-6 : tie.Need-enum-known-reply-6
+enum-known-reply-6 c = search needs
 
 slice-aggregate-put-body-7 : tie.Need-slice-aggregate-put-body-7
 slice-aggregate-put-body-7 c = search needs
 
 put-body-requires-7 : tie.Need-put-body-requires-7
 put-body-requires-7 c κs = search needs
-
-enum-known-reply-6 : tie.Need-enum-known-reply-6
-enum-known-reply-6 c = search needs
-
-slice-aggregate-put-body-8 : tie.Need-slice-aggregate-put-body-8
-slice-aggregate-put-body-8 c = search needs
-
-put-body-requires-8 : tie.Need-put-body-requires-8
-put-body-requires-8 c κs = search needs
 
 enum-known-reply-7 : tie.Need-enum-known-reply-7
 enum-known-reply-7 c = search needs
@@ -176,12 +167,12 @@ enum-known-reply-8 c = search needs
 put-data-state-requires : tie.Need-put-data-state-requires
 put-data-state-requires c κs = search needs
 
-enum-told-11 : tie.Need-enum-told-11
-enum-told-11 c = search needs
+enum-told-10 : tie.Need-enum-told-10
+enum-told-10 c = search needs
 
 put-environment-requires : tie.Need-put-environment-requires
 put-environment-requires c κs =
-    let h = store-within _ _ (c .before .before .before .before .before .pre .1) (c .before .enum-told11 .given .1) in
+    let h = store-within _ _ (c .before .before .before .before .before .pre .1) (c .before .enum-told10 .given .1) in
     (omega arith, h .0, h .1)
 
 enum-known-reply-9 : tie.Need-enum-known-reply-9
@@ -238,15 +229,15 @@ same-length-6 c = search needs
 
 returns-7 : tie.Need-returns-7
 unfolding shapeOf
-returns-7 c =
-    rw (c .before .before .before .before .before .enum-told6 .given .1) (c .before .before .put-body4 .ensures)
+returns-7 c = rw (c .before .before .before .before .enum-told6 .given .1) (c .before .before .put-lent2 .ensures)
 
 same-length-7 : tie.Need-same-length-7
 same-length-7 c = search needs
 
 returns-8 : tie.Need-returns-8
 unfolding shapeOf
-returns-8 c = rw (c .before .before .before .before .enum-told7 .given .1) (c .before .before .put-lent2 .ensures)
+returns-8 c =
+    rw (c .before .before .before .before .before .reply2 .given .1) (c .before .before .put-server-info .ensures)
 
 same-length-8 : tie.Need-same-length-8
 same-length-8 c = search needs
@@ -254,7 +245,7 @@ same-length-8 c = search needs
 returns-9 : tie.Need-returns-9
 unfolding shapeOf
 returns-9 c =
-    rw (c .before .before .before .before .before .reply2 .given .1) (c .before .before .put-server-info .ensures)
+    rw (c .before .before .before .before .before .enum-told7 .given .1) (c .before .before .put-body4 .ensures)
 
 same-length-9 : tie.Need-same-length-9
 same-length-9 c = search needs
@@ -262,7 +253,7 @@ same-length-9 c = search needs
 returns-10 : tie.Need-returns-10
 unfolding shapeOf
 returns-10 c =
-    rw (c .before .before .before .before .before .enum-told8 .given .1) (c .before .before .put-body5 .ensures)
+    rw (c .before .before .before .before .before .before .enum-told8 .given .1) (c .before .before .put-cdb .ensures)
 
 same-length-10 : tie.Need-same-length-10
 same-length-10 c = search needs
@@ -270,22 +261,22 @@ same-length-10 c = search needs
 returns-11 : tie.Need-returns-11
 unfolding shapeOf
 returns-11 c =
-    rw (c .before .before .before .before .before .before .enum-told9 .given .1) (c .before .before .put-cdb .ensures)
+    rw (c .before .before .before .before .before .reply3 .given .1) (c .before .before .put-sense .ensures)
 
 same-length-11 : tie.Need-same-length-11
 same-length-11 c = search needs
 
 returns-12 : tie.Need-returns-12
 unfolding shapeOf
-returns-12 c =
-    rw (c .before .before .before .before .before .reply3 .given .1) (c .before .before .put-sense .ensures)
+returns-12 c = rw (c .before .before .before .before .enum-told9 .given .1) (c .before .before .put-check .ensures)
 
 same-length-12 : tie.Need-same-length-12
 same-length-12 c = search needs
 
 returns-13 : tie.Need-returns-13
 unfolding shapeOf
-returns-13 c = rw (c .before .before .before .before .enum-told10 .given .1) (c .before .before .put-check .ensures)
+returns-13 c =
+    rw (c .before .before .before .before .before .before .reply4 .given .1) (c .before .before .put-body5 .ensures)
 
 same-length-13 : tie.Need-same-length-13
 same-length-13 c = search needs
@@ -293,7 +284,7 @@ same-length-13 c = search needs
 returns-14 : tie.Need-returns-14
 unfolding shapeOf
 returns-14 c =
-    rw (c .before .before .before .before .before .before .reply4 .given .1) (c .before .before .put-body6 .ensures)
+    rw (c .before .before .before .before .before .before .reply5 .given .1) (c .before .before .put-body6 .ensures)
 
 same-length-14 : tie.Need-same-length-14
 same-length-14 c = search needs
@@ -301,7 +292,7 @@ same-length-14 c = search needs
 returns-15 : tie.Need-returns-15
 unfolding shapeOf
 returns-15 c =
-    rw (c .before .before .before .before .before .before .reply5 .given .1) (c .before .before .put-body7 .ensures)
+    rw (c .before .before .before .before .before .before .reply6 .given .1) (c .before .before .put-body7 .ensures)
 
 same-length-15 : tie.Need-same-length-15
 same-length-15 c = search needs
@@ -309,7 +300,7 @@ same-length-15 c = search needs
 returns-16 : tie.Need-returns-16
 unfolding shapeOf
 returns-16 c =
-    rw (c .before .before .before .before .before .before .reply6 .given .1) (c .before .before .put-body8 .ensures)
+    rw (c .before .before .before .before .before .before .reply7 .given .1) (rw part at (c .before .before .put-read .ensures))
 
 same-length-16 : tie.Need-same-length-16
 same-length-16 c = search needs
@@ -317,29 +308,21 @@ same-length-16 c = search needs
 returns-17 : tie.Need-returns-17
 unfolding shapeOf
 returns-17 c =
-    rw (c .before .before .before .before .before .before .reply7 .given .1) (rw part at (c .before .before .put-read .ensures))
+    rw (c .before .before .before .before .before .reply8 .given .1) (c .before .before .put-data-state .ensures)
 
 same-length-17 : tie.Need-same-length-17
 same-length-17 c = search needs
 
 returns-18 : tie.Need-returns-18
 unfolding shapeOf
-returns-18 c =
-    rw (c .before .before .before .before .before .reply8 .given .1) (c .before .before .put-data-state .ensures)
+returns-18 c = rw (c .before .before .before .before .enum-told10 .given .1) (c .before .before .put-environment .ensures)
 
 same-length-18 : tie.Need-same-length-18
 same-length-18 c = search needs
 
 returns-19 : tie.Need-returns-19
 unfolding shapeOf
-returns-19 c = rw (c .before .before .before .before .enum-told11 .given .1) (c .before .before .put-environment .ensures)
-
-same-length-19 : tie.Need-same-length-19
-same-length-19 c = search needs
-
-returns-20 : tie.Need-returns-20
-unfolding shapeOf
-returns-20 c =
+returns-19 c =
     rw (c .before .before .before .before .before .reply9 .given .1) (c .before .before .put-mover-state .ensures)
 
 pub write-body-spec : {M : Type 1} → statement M
@@ -361,32 +344,29 @@ write-body-spec =
     slice-aggregate-put-body-3
     put-body-requires-3
     enum-told-6
-    slice-aggregate-put-body-4
-    put-body-requires-4
-    enum-told-7
     put-lent-requires-2
     enum-known-reply-2
     put-server-info-requires
+    enum-told-7
+    slice-aggregate-put-body-4
+    put-body-requires-4
     enum-told-8
-    slice-aggregate-put-body-5
-    put-body-requires-5
-    enum-told-9
     slice-aggregate-put-cdb
     slice-aggregate-put-cdb-2
     put-cdb-requires
     enum-known-reply-3
     put-sense-requires
-    enum-told-10
+    enum-told-9
     put-check-requires
     enum-known-reply-4
+    slice-aggregate-put-body-5
+    put-body-requires-5
+    enum-known-reply-5
     slice-aggregate-put-body-6
     put-body-requires-6
-    enum-known-reply-5
+    enum-known-reply-6
     slice-aggregate-put-body-7
     put-body-requires-7
-    enum-known-reply-6
-    slice-aggregate-put-body-8
-    put-body-requires-8
     enum-known-reply-7
     add-put-read
     sub-put-read
@@ -395,7 +375,7 @@ write-body-spec =
     put-read-requires
     enum-known-reply-8
     put-data-state-requires
-    enum-told-11
+    enum-told-10
     put-environment-requires
     enum-known-reply-9
     put-mover-state-requires
@@ -435,6 +415,4 @@ write-body-spec =
     same-length-17
     returns-18
     same-length-18
-    returns-19
-    same-length-19
-    returns-20)
+    returns-19)

@@ -10,10 +10,7 @@ returns : tie.Need-returns
 returns c = pick-if _ (eqb-yes (c .if1 .taken)) refl
 
 returns-2 : tie.Need-returns-2
-returns-2 c = pick-else _ (eqb-no (c .before .if1 .left)) (pick-if _ (eqb-yes (c .if2 .taken)) refl)
-
-returns-3 : tie.Need-returns-3
-returns-3 c = pick-else _ (eqb-no (c .before .if1 .left)) (pick-else _ (eqb-no (c .if2 .left)) refl)
+returns-2 c = pick-else _ (eqb-no (c .if1 .left)) refl
 
 pub auth-spec : {M : Type 1} → statement M
-auth-spec = tie.close (tie.spec returns returns-2 returns-3)
+auth-spec = tie.close (tie.spec returns returns-2)

@@ -1,7 +1,6 @@
--- The scan of the body by the letters for its auth type, and the row of the request.
-use mathlib.Core.Path.{refl}
-use Rattle.wire_requests.specs.Bodies.{authFields, requestOf, connectBody}
-use Rattle.wire_decoding.proofs.Laws.{of-scan, by-type}
+-- The scan of the body by the letters of its layout, and the row of the request.
+use Rattle.wire_requests.specs.Bodies.{requestOf, connectBody}
+use Rattle.wire_decoding.proofs.Laws.{of-scan}
 use Rattle.wire_frame.specs.declared.Message.the-variants as Message
 use Rattle.wire_frame.specs.declared.ConnectKind.the-variants as ConnectKind
 use borrow.Author.Needs.{needs}
@@ -9,23 +8,16 @@ use Rattle.wire_decoding.proofs.messages.client_auth.Statement.{stateme
 use Rattle.wire_decoding.proofs.messages.client_auth.Tie as tie
 use Rattle.wire_decoding.proofs.messages.client_auth.Reads as reads
 use Rattle.wire_decoding.proofs.messages.client_auth.Lts as lts
+use Rattle.wire_scanning.proofs.scan_body.Reads as scan-body-reads
 use Rattle.wire_decoding.proofs.fields.judged.Reads as judged-reads
 use Rattle.wire_decoding.proofs.fields.text_of.Reads as text-of-reads
 use Rattle.wire_decoding.proofs.messages.auth.Reads as auth-reads
-use Rattle.wire_decoding.proofs.messages.is_md5.Reads as is-md5-reads
-use Rattle.wire_decoding.proofs.messages.scan_by_type.Reads as scan-by-type-reads
 
-slice-aggregate-scan-by-type : tie.Need-slice-aggregate-scan-by-type
-slice-aggregate-scan-by-type c = search needs
+slice-aggregate-scan-body : tie.Need-slice-aggregate-scan-body
+slice-aggregate-scan-body c = search needs
 
-slice-aggregate-scan-by-type-2 : tie.Need-slice-aggregate-scan-by-type-2
-slice-aggregate-scan-by-type-2 c = search needs
-
-is-md5-requires : tie.Need-is-md5-requires
-is-md5-requires c κs = search needs
-
-scan-by-type-requires : tie.Need-scan-by-type-requires
-scan-by-type-requires c κs = search needs
+scan-body-requires : tie.Need-scan-body-requires
+scan-body-requires c κs = search needs
 
 element-copy-out-auth : tie.Need-element-copy-out-auth
 element-copy-out-auth c = search needs
@@ -45,19 +37,15 @@ judged-requires c κs = search needs
 returns : tie.Need-returns
 unfolding connectBody
 returns c =
-    let k = c .before .before .before .before .before in
-    let e = by-type authFields _ _ refl refl _ (k .before .is-md5 .ensures) (k .scan-by-type .ensures) in
-    of-scan (requestOf (Message.Connect ConnectKind.Auth)) e
+    of-scan (requestOf (Message.Connect ConnectKind.Auth)) (c .before .before .before .before .before .scan-body .ensures)
     (rw (c .before .auth .ensures, c .before .before .text-of2 .ensures, c .before .before .before .text-of .ensures) at (c .judged .ensures))
 
 pub client-auth-spec : {M : Type 1} → statement M
 client-auth-spec =
     tie.close
     (tie.spec
-    slice-aggregate-scan-by-type
-    slice-aggregate-scan-by-type-2
-    is-md5-requires
-    scan-by-type-requires
+    slice-aggregate-scan-body
+    scan-body-requires
     element-copy-out-auth
     text-of-requires
     text-of-requires-2
