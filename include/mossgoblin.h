@@ -1,5 +1,5 @@
-/* The session core of a tape vault that speaks NDMP version 4: seven calls, a reader of addresses, and two functions that look at a cartridge, as C
- * functions of the static library `capi` (`tools/library`).
+/* The session core of a tape vault that speaks NDMP version 4: seven calls, a reader of addresses, a listing of accounts, and two functions that look at a
+ * cartridge, as C functions of the static library `capi` (`tools/library`).
  *
  * No call asks anything of its caller but that each pointer leads to as many bytes as the length beside it says (a length of 0 may have any
  * pointer), the challenge, which has none beside it, to MOSSGOBLIN_CHALLENGE bytes, and that no two buffers of a call overlap where one of them is
@@ -7,7 +7,7 @@
  * comes back by value, and the buffers are the caller's again when it returns.
  * It needs no heap, and less than 4,096 bytes of stack beside arguments and answer (measured: README.md, Sizes).
  *
- * The code of every call is 0, 1001 or 1002, and comes before all else:
+ * The code of each of the seven calls is 0, 1001 or 1002, and comes before all else:
  *   1001  the output is shorter than MOSSGOBLIN_OUTPUT bytes; of mossgoblin_request also: the store has another length than MOSSGOBLIN_STORE_LENGTH
  *   1002  the session breaks the relation of docs/RELATION.md; no session that these calls give does
  * With 1001 and 1002 nothing is written and nothing changes: the session comes back as it went in (mossgoblin_open, which takes none and never gives 1002,
@@ -168,8 +168,9 @@ struct mossgoblin_addresses {
  *     id         a string: a word with its length, its bytes, zeros up to a multiple of four
  *     password   a string
  *
- * A login by text (CONNECT client auth of type 1) is compared with the accounts of kind 1 alone, one by MD5 (type 2) with those of kind 2 alone; an id may stand
- * more than once, and then any of its accounts may match. A password of kind 2 that is empty or above 32 bytes never lets in. A buffer that is not laid out
+ * A login is by MD5 (CONNECT client auth of type 2), and compared with the accounts of kind 2 alone; an id may stand more than once, and then any of these may
+ * match. A password of kind 2 that is empty or above 32 bytes never lets in. Text login is withdrawn: accounts of kind 1 are read, and let nobody in; a login of
+ * type 1 is refused with 9 before any account is looked at, whatever stands behind the type, and so is 0x103 of that type. A buffer that is not laid out
  * so (a ninth account, another kind, a fill byte that is not zero, bytes behind the last account or missing) has no accounts: nobody gets in, and that is no
  * refusal of the call. */
 #define MOSSGOBLIN_MOST_ACCOUNTS 8
@@ -237,6 +238,23 @@ struct mossgoblin_answer mossgoblin_lost(struct mossgoblin_session session, bool
  * for every other record: one that is badly framed or no request, another message, another address type, a body that does not decode, an empty list. It is
  * handed no session, and judges neither state nor login. */
 struct mossgoblin_addresses mossgoblin_addresses(const uint8_t *input, size_t input_len);
+
+/* The least length of the output of mossgoblin_accounts: eight lines of twelve bytes. */
+#define MOSSGOBLIN_LEAST_LISTING 96
+
+/* What a listing of accounts returns: the code is 0 or 1001, and `len` is how many bytes stand at the output's start. */
+struct mossgoblin_listed {
+    uint32_t code;
+    size_t len;
+};
+
+/* The accounts that mossgoblin_request may be lent, listed: `accounts` is of any bytes. For each account, in their order, a line is written to the front of
+ * `out`: its number from 0, a blank, `md5` for kind 2 or `withdrawn` for kind 1, and a line feed (byte 10), the last line's too: `0 withdrawn`, `1 md5`. An
+ * account by MD5 whose password never lets in, as it is empty or above 32 bytes, is `md5` too. The bytes behind the lines stay as they were. A buffer that is
+ * not laid out as accounts has no line: the code is 0, and `len` 0.
+ *   1001  the output is shorter than MOSSGOBLIN_LEAST_LISTING bytes, also where the lines would fit: then nothing is written, and `len` is 0
+ * It is handed no session, judges none, and tells neither ids nor passwords. */
+struct mossgoblin_listed mossgoblin_accounts(const uint8_t *accounts, size_t accounts_len, uint8_t *out, size_t out_len);
 
 /* Whether an image is a sound cartridge. The image is only read. */
 bool mossgoblin_sound(const uint8_t *image, size_t image_len);

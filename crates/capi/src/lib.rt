@@ -8,11 +8,13 @@ ghost use Rattle.rules.specs.Calls.{opening};
 ghost use Rattle.call_sending.specs.Call.{CallTold};
 ghost use Rattle.call_request.specs.Call.{lent};
 ghost use Rattle.call_addresses.specs.Reading.{addressesIn};
+ghost use Rattle.call_accounts.specs.Listing.{ListingTold};
 ghost use Rattle.rules_moves.specs.Events.{stamped, movedToTape, movedFromTape, methodEnded, connectionMade, connectionLost};
 ghost use Rattle.call_moves.specs.Told.{MoveTold};
 
 mod tape; // tape.rt: the tape operations alone
 
+use call_accounts::Listed;
 use rules_parts::types::Answer;
 use rules_parts::types::Moved;
 use rules_parts::types::Session;
@@ -63,6 +65,14 @@ pub extern "C" fn mossgoblin_addresses(input: &[u8]) -> Addresses
     ensures { λ r. ⌜ r ≡ addressesIn (now (input .entry)) ⌝ }
 {
     call_addresses::read_addresses(input)
+}
+
+// The accounts that a request may be lent, listed into the output by number and kind.
+#[no_mangle]
+pub extern "C" fn mossgoblin_accounts(accounts: &[u8], out: &mut [u8]) -> Listed
+    ensures { λ r. ⌜ ListingTold (now (accounts .entry)) (now (out .entry)) r (now (out .exit)) ⌝ }
+{
+    call_accounts::list_accounts(accounts, out)
 }
 
 // One move to tape: the session, the cartridge, a part of the stream and whether it is the last, the time stamp and the output.

@@ -7,8 +7,8 @@ use Rattle.md5.specs.Md5.{indexOf, shiftOf, md5, le32, md5Registers, processed,
 use Rattle.md5.specs.Md5.{auxiliaryOf, rotated, leWord}
 use Rattle.md5.specs.Login.{loginString, loginDigest}
 use Rattle.wire_accounts.specs.Accounts.{isKind, withPassword, withId, accountAt, withAccount, andThen, accountsFrom, accountsIn}
-use Rattle.wire_accounts.specs.Accounts.{entriesOf, textMatches, isDigestible, isDigest, md5Matches, anyOf}
-use Rattle.wire_accounts.specs.Cases.{LaidCases, BrokenCases, TextLogins, Md5Logins, AccountCases}
+use Rattle.wire_accounts.specs.Accounts.{entriesOf, isDigestible, isDigest, md5Matches, anyOf}
+use Rattle.wire_accounts.specs.Cases.{LaidCases, BrokenCases, Md5Logins, WithdrawnLogins, AccountCases}
 use Rattle.wire_accounts.specs.Cases.{ndmp, givenChallenge, sentDigest, shortest, shortestDigest, longest, longestDigest}
 
 laid : LaidCases
@@ -40,23 +40,6 @@ not-laid =
       one-missing = refl;
     }
 
-text : TextLogins
-unfolding choose word allZero opaqueAt isKind withPassword withId accountAt withAccount andThen accountsFrom accountsIn entriesOf sameBytes textMatches anyOf
-text =
-    record {
-      lets-in = refl;
-      wrong-id = refl;
-      wrong-password = refl;
-      shorter = refl;
-      with-fill = refl;
-      other-kind = refl;
-      first-of-two = refl;
-      second-of-two = refl;
-      neither = refl;
-      empty = refl;
-      long = refl;
-    }
-
 ndmp-digest : loginDigest ndmp givenChallenge ≡ sentDigest
 unfolding loginString loginDigest choose indexOf shiftOf md5 le32 md5Registers processed padding compressed operations stepped auxiliaryOf rotated leWord
 ndmp-digest = refl
@@ -76,6 +59,7 @@ by-md5 =
       lets-in = rw ndmp-digest;
       last-byte = rw ndmp-digest;
       wrong-id = refl;
+      first-of-two = rw ndmp-digest;
       second-of-two = rw ndmp-digest;
       other-kind = refl;
       password = rw ndmp-digest;
@@ -86,5 +70,17 @@ by-md5 =
       long = λ c d. refl;
     }
 
+withdrawn : WithdrawnLogins
+unfolding choose word allZero opaqueAt isKind withPassword withId accountAt withAccount andThen accountsFrom accountsIn entriesOf sameBytes isDigestible isDigest md5Matches anyOf
+withdrawn =
+    record {
+      password = refl;
+      anything = λ c d. refl;
+      empty = λ c d. refl;
+      md5-behind = rw ndmp-digest;
+      md5-before = rw ndmp-digest;
+      own-password = refl;
+    }
+
 pub cases-hold : AccountCases
-cases-hold = record { laid = laid; not-laid = not-laid; text = text; md5 = by-md5 }
+cases-hold = record { laid = laid; not-laid = not-laid; md5 = by-md5; withdrawn = withdrawn }

@@ -1,7 +1,7 @@
 -- Laws of the accounts: one account by where it stands, so many of them one by one, and who gets in. Assumes nothing.
 use Prim.Native.Nat.{ℕ, zero, suc, _+_, _-_, _≤_, _<_}
 use mathlib.Core.Bool.{Bool, true, false}
-use mathlib.Core.List.{List, []}
+use mathlib.Core.List.{List, [], _∷_}
 use mathlib.Core.Path.{_≡_, refl, sym, ap, subst, _∙_}
 use native.Mathlib.Omega.{arith}
 use lib.Dec.{eqb, leb}
@@ -105,25 +105,25 @@ unfolding areLaid withAccount
 laid-prepend e (these es) = refl
 laid-prepend e broken = refl
 
-any-prepend : (p : AccountEntry → Bool) (e : AccountEntry) (x : Accounts) → areLaid x ≡ true → anyOf p (entriesOf (withAccount e x)) ≡ choose (p e) true (anyOf p (entriesOf x))
-unfolding areLaid withAccount entriesOf anyOf
-any-prepend p e (these es) h = refl
-any-prepend p e broken h = let z : _≡_ {A = ℕ} 0 1 = cc in absurd (omega arith)
+entries-prepend : (e : AccountEntry) (x : Accounts) → areLaid x ≡ true → entriesOf (withAccount e x) ≡ e ∷ entriesOf x
+unfolding areLaid withAccount entriesOf
+entries-prepend e (these es) h = refl
+entries-prepend e broken h = let z : _≡_ {A = ℕ} 0 1 = cc in absurd (omega arith)
 
-any-broken : (p : AccountEntry → Bool) (x : Accounts) → areLaid x ≡ false → false ≡ anyOf p (entriesOf x)
-unfolding areLaid entriesOf anyOf
-any-broken p (these es) h = let z : _≡_ {A = ℕ} 0 1 = cc in absurd (omega arith)
-any-broken p broken h = refl
+entries-broken : (x : Accounts) → areLaid x ≡ false → entriesOf x ≡ []
+unfolding areLaid entriesOf
+entries-broken (these es) h = let z : _≡_ {A = ℕ} 0 1 = cc in absurd (omega arith)
+entries-broken broken h = refl
 
 laid-if : (t : Bool) → areLaid (choose t (these []) broken) ≡ t
 unfolding areLaid choose
 laid-if true = refl
 laid-if false = refl
 
-any-if : (p : AccountEntry → Bool) (t : Bool) → anyOf p (entriesOf (choose t (these []) broken)) ≡ false
-unfolding entriesOf anyOf choose
-any-if p true = refl
-any-if p false = refl
+entries-if : (t : Bool) → entriesOf (choose t (these []) broken) ≡ []
+unfolding entriesOf choose
+entries-if true = refl
+entries-if false = refl
 
 module _ (b : List ℕ) where
   -- the first of them, where there is one, and where there is none
@@ -144,23 +144,16 @@ module _ (b : List ℕ) where
     pub laid-next : (n : ℕ) → 0 < n → (a .next ≡ 0 → ⊥) → areLaid (accountsFrom b n at) ≡ areLaid (accountsFrom b (n - 1) (a .next))
     laid-next n h z = ap areLaid (first n h z) ∙ laid-prepend (entryOf b a) (accountsFrom b (n - 1) (a .next))
 
-    pub laid-is : (n : ℕ) → 0 < n → areLaid (accountsFrom b n at) ≡ true → a .next ≡ 0 → ⊥
+    laid-is : (n : ℕ) → 0 < n → areLaid (accountsFrom b n at) ≡ true → a .next ≡ 0 → ⊥
     laid-is n h e z = let f = laid-none n h z in let k : _≡_ {A = ℕ} 0 1 = cc in omega arith
-
-    pub any-next : (p : AccountEntry → Bool) (n : ℕ) → 0 < n → areLaid (accountsFrom b n at) ≡ true
-        → anyOf p (entriesOf (accountsFrom b n at)) ≡ choose (p (entryOf b a)) true (anyOf p (entriesOf (accountsFrom b (n - 1) (a .next))))
-    any-next p n h e =
-        let z = laid-is n h e in
-        let x : Accounts = accountsFrom b (n - 1) (a .next) in
-        ap (λ (y : Accounts). anyOf p (entriesOf y)) (first n h z) ∙ any-prepend p (entryOf b a) x (sym (laid-next n h z) ∙ e)
 
   pub laid-end : (n at : ℕ) → n ≤ 0 → areLaid (accountsFrom b n at) ≡ eqb at (length b)
   unfolding accountsFrom
   laid-end n at h = let e : n ≡ 0 = omega arith in rw e (laid-if (eqb at (length b)))
 
-  any-end : (p : AccountEntry → Bool) (n at : ℕ) → n ≤ 0 → anyOf p (entriesOf (accountsFrom b n at)) ≡ false
+  pub entries-end : (n at : ℕ) → n ≤ 0 → entriesOf (accountsFrom b n at) ≡ []
   unfolding accountsFrom
-  any-end p n at h = let e : n ≡ 0 = omega arith in rw e (any-if p (eqb at (length b)))
+  entries-end n at h = let e : n ≡ 0 = omega arith in rw e (entries-if (eqb at (length b)))
 
   -- the count
   pub laid-short : length b < 4 → areLaid (accountsIn b) ≡ false
@@ -176,11 +169,49 @@ module _ (b : List ℕ) where
   laid-few n e h k = rw (le-leb 4 (length b) h, ← e, le-leb n mostAccounts k)
 
 -- ---- over all accounts
--- what is known in front of n accounts at an offset: they are laid out so, and whether one before them let in, or one of them
--- does, is whether one of all does
-pub record Going (p : AccountEntry → Bool) (b : List ℕ) (some : Bool) (n at : ℕ) : Type 0 where
+-- so many accounts are laid out from an offset on, to the end of the buffer
+pub record Laid (b : List ℕ) (n at : ℕ) : Type 0 where
   pub within : at ≤ length b
   pub laid : areLaid (accountsFrom b n at) ≡ true
+
+both : (x y : Bool) (a : Accounts) → areLaid (choose x (choose y a broken) broken) ≡ true → (x ≡ true) × (y ≡ true)
+unfolding areLaid choose
+both true true a e = (refl, refl)
+both true false a e = let z : _≡_ {A = ℕ} 0 1 = cc in absurd (omega arith)
+both false y a e = let z : _≡_ {A = ℕ} 0 1 = cc in absurd (omega arith)
+
+pub counted : (b : List ℕ) → areLaid (accountsIn b) ≡ true → (4 ≤ length b) × (word b 0 ≤ mostAccounts)
+unfolding accountsIn
+counted b h =
+    let w = both (leb 4 (length b)) (leb (word b 0) mostAccounts) (accountsFrom b (word b 0) 4) h in
+    (leb-true _ _ (w .0), leb-true _ _ (w .1))
+
+pub none-in : (b : List ℕ) → areLaid (accountsIn b) ≡ false → entriesIn b ≡ []
+none-in b h = entries-broken (accountsIn b) h
+
+module _ (b : List ℕ) (n : ℕ) (e : n ≡ word b 0) (h : areLaid (accountsIn b) ≡ true) where
+  all-from : accountsIn b ≡ accountsFrom b n 4
+  all-from = let w = counted b h in laid-few b n e (w .0) (omega (arith, e, w .1))
+
+  pub laid-first : Laid b n 4
+  laid-first = record { within = counted b h .0; laid = sym (ap areLaid all-from) ∙ h }
+
+  pub entries-first : entriesIn b ≡ entriesOf (accountsFrom b n 4)
+  entries-first = ap entriesOf all-from
+
+module _ {b : List ℕ} {n at : ℕ} {a : AccountPlace} (l : Laid b n at) (r : AccountAt b at a) (h : 0 < n) where
+  there : a .next ≡ 0 → ⊥
+  there = laid-is b r n h (l .laid)
+
+  pub laid-on : Laid b (n - 1) (a .next)
+  laid-on = record { within = r .within; laid = sym (laid-next b r n h there) ∙ l .laid }
+
+  pub entries-on : entriesOf (accountsFrom b n at) ≡ entryOf b a ∷ entriesOf (accountsFrom b (n - 1) (a .next))
+  entries-on = ap entriesOf (first b r n h there) ∙ entries-prepend (entryOf b a) (accountsFrom b (n - 1) (a .next)) (laid-on .laid)
+
+-- what is known in front of n accounts at an offset: whether one before them let in, or one of them does, is whether one of all does
+pub record Going (p : AccountEntry → Bool) (b : List ℕ) (some : Bool) (n at : ℕ) : Type 0 where
+  pub ahead : Laid b n at
   pub rest : anyOf p (entriesIn b) ≡ choose some true (anyOf p (entriesOf (accountsFrom b n at)))
 
 hit : (some t r : Bool) → t ≡ true → choose some true (choose t true r) ≡ choose true true r
@@ -197,41 +228,26 @@ unfolding choose
 end true = refl
 end false = refl
 
-both : (x y : Bool) (a : Accounts) → areLaid (choose x (choose y a broken) broken) ≡ true → (x ≡ true) × (y ≡ true)
-unfolding areLaid choose
-both true true a e = (refl, refl)
-both true false a e = let z : _≡_ {A = ℕ} 0 1 = cc in absurd (omega arith)
-both false y a e = let z : _≡_ {A = ℕ} 0 1 = cc in absurd (omega arith)
-
-pub counted : (b : List ℕ) → areLaid (accountsIn b) ≡ true → (4 ≤ length b) × (word b 0 ≤ mostAccounts)
-unfolding accountsIn
-counted b h =
-    let w = both (leb 4 (length b)) (leb (word b 0) mostAccounts) (accountsFrom b (word b 0) 4) h in
-    (leb-true _ _ (w .0), leb-true _ _ (w .1))
-
 module _ (p : AccountEntry → Bool) (b : List ℕ) where
   pub shut : areLaid (accountsIn b) ≡ false → false ≡ anyOf p (entriesIn b)
-  shut h = any-broken p (accountsIn b) h
+  unfolding anyOf
+  shut h = rw (none-in b h)
 
   pub going-first : (n : ℕ) → n ≡ word b 0 → areLaid (accountsIn b) ≡ true → Going p b false n 4
   unfolding choose
-  going-first n e h =
-      let w = counted b h in
-      let f = laid-few b n e (w .0) (omega (arith, e, w .1)) in
-      record { within = w .0; laid = sym (ap areLaid f) ∙ h; rest = ap (λ (x : Accounts). anyOf p (entriesOf x)) f }
+  going-first n e h = record { ahead = laid-first b n e h; rest = ap (anyOf p) (entries-first b n e h) }
 
   module _ {some : Bool} {n at : ℕ} {a : AccountPlace} (g : Going p b some n at) (r : AccountAt b at a) (h : 0 < n) where
-    laid-on : areLaid (accountsFrom b (n - 1) (a .next)) ≡ true
-    laid-on = sym (laid-next b r n h (laid-is b r n h (g .laid))) ∙ g .laid
-
     rest-on : anyOf p (entriesIn b) ≡ choose some true (choose (p (entryOf b a)) true (anyOf p (entriesOf (accountsFrom b (n - 1) (a .next)))))
-    rest-on = g .rest ∙ ap (choose some true) (any-next b r p n h (g .laid))
+    unfolding anyOf
+    rest-on = g .rest ∙ ap (λ (es : List AccountEntry). choose some true (anyOf p es)) (entries-on (g .ahead) r h)
 
     pub going-hit : p (entryOf b a) ≡ true → Going p b true (n - 1) (a .next)
-    going-hit e = record { within = r .within; laid = laid-on; rest = rest-on ∙ hit some _ _ e }
+    going-hit e = record { ahead = laid-on (g .ahead) r h; rest = rest-on ∙ hit some _ _ e }
 
     pub going-miss : p (entryOf b a) ≡ false → Going p b some (n - 1) (a .next)
-    going-miss e = record { within = r .within; laid = laid-on; rest = rest-on ∙ miss some _ _ e }
+    going-miss e = record { ahead = laid-on (g .ahead) r h; rest = rest-on ∙ miss some _ _ e }
 
   pub going-end : (some : Bool) (n at : ℕ) → Going p b some n at → n ≤ 0 → some ≡ anyOf p (entriesIn b)
-  going-end some n at g h = sym (g .rest ∙ ap (choose some true) (any-end b p n at h) ∙ end some)
+  unfolding anyOf
+  going-end some n at g h = sym (g .rest ∙ ap (λ (es : List AccountEntry). choose some true (anyOf p es)) (entries-end b n at h) ∙ end some)

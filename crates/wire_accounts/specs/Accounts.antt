@@ -1,6 +1,6 @@
 -- The accounts that a host lends (02 No. 2): "The accounts grow to eight, each marked text or MD5". The layout of the
 -- buffer is ours, and is XDR (RFC 4506): a count, and of each account its kind, as 004 numbers auth types, its id and its
--- password, both strings.
+-- password, both strings. "Account stores still holding text entries are read without complaint" (02 No. 10).
 use Prim.Native.Nat.{ℕ, zero, suc, _+_}
 use mathlib.Core.Bool.{Bool, true, false}
 use mathlib.Core.List.{List, [], _∷_}
@@ -75,11 +75,6 @@ abbrev pub entriesIn : List ℕ → List AccountEntry
 entriesIn b = entriesOf (accountsIn b)
 
 -- ---- who gets in
--- "login by the other kind is a wrong password"
-unfoldable pub textMatches : List ℕ → List ℕ → AccountEntry → Bool
-textMatches id password e =
-    choose (eqb (e .kind) textAuth) (choose (sameBytes id (e .id)) (sameBytes password (e .password)) false) false
-
 -- a password of 1 to 32 bytes
 unfoldable pub isDigestible : List ℕ → Bool
 isDigestible password = choose (leb 1 (length password)) (leb (length password) longestPassword) false
@@ -89,6 +84,7 @@ unfoldable pub isDigest : List ℕ → List ℕ → List ℕ → Bool
 isDigest password challenge digest =
     choose (isDigestible password) (sameBytes digest (loginDigest password challenge)) false
 
+-- "login by the other kind is a wrong password", and (02 No. 10) a text entry "never lets anyone in"
 unfoldable pub md5Matches : List ℕ → List ℕ → List ℕ → AccountEntry → Bool
 md5Matches id challenge digest e =
     choose (eqb (e .kind) md5Auth) (choose (sameBytes id (e .id)) (isDigest (e .password) challenge digest) false) false

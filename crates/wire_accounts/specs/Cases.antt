@@ -1,11 +1,11 @@
 -- Buffers with their bytes written out, and what each is; and logins, and whom they let in. They keep the definitions to the
--- layout and to 02 No. 2's words.
+-- layout and to the words of 02 No. 2 and No. 10.
 use Prim.Native.Nat.{ℕ}
 use mathlib.Core.Bool.{true, false}
 use mathlib.Core.List.{List, [], _∷_, _++_}
 use mathlib.Core.Path.{_≡_}
 use lib.ListN.{replicate}
-use Rattle.wire_accounts.specs.Accounts.{AccountEntry, these, broken, accountsIn, entriesIn, textMatches, md5Matches, anyOf}
+use Rattle.wire_accounts.specs.Accounts.{AccountEntry, these, broken, accountsIn, entriesIn, md5Matches, anyOf}
 
 -- a word below 256
 abbrev pub small : ℕ → List ℕ
@@ -88,25 +88,6 @@ pub record BrokenCases : Type 0 where
   pub no-fill : accountsIn (small 1 ++ small 1 ++ mossString ++ small 3 ++ ivy) ≡ broken
   pub one-missing : accountsIn (small 2 ++ bareText) ≡ broken
 
-abbrev pub several : List AccountEntry
-several = account 1 moss ivy ∷ account 1 moss fern ∷ account 2 fern ivy ∷ []
-
-pub record TextLogins : Type 0 where
-  pub lets-in : anyOf (textMatches moss ivy) (entriesIn oneText) ≡ true
-  pub wrong-id : anyOf (textMatches fern ivy) (entriesIn oneText) ≡ false
-  pub wrong-password : anyOf (textMatches moss fern) (entriesIn oneText) ≡ false
-  pub shorter : anyOf (textMatches moss (105 ∷ 118 ∷ [])) (entriesIn oneText) ≡ false
-  pub with-fill : anyOf (textMatches moss (ivy ++ (0 ∷ []))) (entriesIn oneText) ≡ false
-  -- "login by the other kind is a wrong password"
-  pub other-kind : anyOf (textMatches moss ivy) (entriesIn oneMd5) ≡ false
-  -- "where an id stands twice any entry may match"
-  pub first-of-two : anyOf (textMatches moss ivy) several ≡ true
-  pub second-of-two : anyOf (textMatches moss fern) several ≡ true
-  pub neither : anyOf (textMatches moss moss) several ≡ false
-  -- a text password has no limit, and may be empty
-  pub empty : anyOf (textMatches [] []) (entriesIn (small 1 ++ bareText)) ≡ true
-  pub long : anyOf (textMatches moss (replicate 33 97)) (account 1 moss (replicate 33 97) ∷ []) ≡ true
-
 -- a login that ndmjob made: the id and the password "ndmp", the challenge that it was given, the digest that it sent
 abbrev pub ndmp : List ℕ
 ndmp = 110 ∷ 100 ∷ 109 ∷ 112 ∷ []
@@ -148,6 +129,8 @@ pub record Md5Logins : Type 0 where
   pub lets-in : anyOf (md5Matches ndmp givenChallenge sentDigest) (entriesIn ndmpMd5) ≡ true
   pub last-byte : anyOf (md5Matches ndmp givenChallenge otherDigest) (entriesIn ndmpMd5) ≡ false
   pub wrong-id : anyOf (md5Matches moss givenChallenge sentDigest) (entriesIn ndmpMd5) ≡ false
+  -- "where an id stands twice any entry may match"
+  pub first-of-two : anyOf (md5Matches ndmp givenChallenge sentDigest) (account 2 ndmp ndmp ∷ account 2 ndmp [] ∷ []) ≡ true
   pub second-of-two : anyOf (md5Matches ndmp givenChallenge sentDigest) (account 2 ndmp [] ∷ account 2 ndmp ndmp ∷ []) ≡ true
   -- "login by the other kind is a wrong password"
   pub other-kind : anyOf (md5Matches ndmp givenChallenge sentDigest) (entriesIn ndmpText) ≡ false
@@ -161,8 +144,18 @@ pub record Md5Logins : Type 0 where
   pub empty : (c d : List ℕ) → anyOf (md5Matches [] c d) (entriesIn (small 1 ++ bareMd5)) ≡ false
   pub long : (c d : List ℕ) → anyOf (md5Matches moss c d) (account 2 moss (replicate 33 97) ∷ []) ≡ false
 
+-- "such an entry never lets anyone in"
+pub record WithdrawnLogins : Type 0 where
+  pub password : anyOf (md5Matches ndmp givenChallenge ndmp) (entriesIn ndmpText) ≡ false
+  pub anything : (c d : List ℕ) → anyOf (md5Matches ndmp c d) (entriesIn ndmpText) ≡ false
+  pub empty : (c d : List ℕ) → anyOf (md5Matches [] c d) (entriesIn (small 1 ++ bareText)) ≡ false
+  -- an id that stands as both kinds: the entry by MD5 lets in, before and behind the other, and by its own password alone
+  pub md5-behind : anyOf (md5Matches ndmp givenChallenge sentDigest) (account 1 ndmp moss ∷ account 2 ndmp ndmp ∷ []) ≡ true
+  pub md5-before : anyOf (md5Matches ndmp givenChallenge sentDigest) (account 2 ndmp ndmp ∷ account 1 ndmp moss ∷ []) ≡ true
+  pub own-password : anyOf (md5Matches ndmp givenChallenge sentDigest) (account 1 ndmp ndmp ∷ account 2 ndmp [] ∷ []) ≡ false
+
 pub record AccountCases : Type 0 where
   pub laid : LaidCases
   pub not-laid : BrokenCases
-  pub text : TextLogins
   pub md5 : Md5Logins
+  pub withdrawn : WithdrawnLogins

@@ -21,8 +21,12 @@ entryBytes (e ∷ es) = accountBytes e ++ entryBytes es
 unfoldable pub accountsBytes : List AccountEntry → List ℕ
 accountsBytes es = be32 (length es) ++ entryBytes es
 
--- an account that can be written: it is marked text or MD5, and the lengths of its strings fit a word
+-- "each marked text or MD5"
+abbrev pub Marked : AccountEntry → Type 0
+Marked e = (e .kind ≡ textAuth) ⊎ (e .kind ≡ md5Auth)
+
+-- an account that can be written: it is marked so, and the lengths of its strings fit a word
 pub record Writable (e : AccountEntry) : Type 0 where
-  pub kind : (e .kind ≡ textAuth) ⊎ (e .kind ≡ md5Auth)
+  pub kind : Marked e
   pub id : length (e .id) < 2 ^ 32
   pub password : length (e .password) < 2 ^ 32

@@ -4,7 +4,7 @@ ghost use Prim.Native.Nat.{_+_, _≤_};
 ghost use lib.ListN.{length};
 ghost use Rattle.xdr.specs.Xdr.{sameBytes};
 ghost use Rattle.wire_accounts.specs.Accounts.{isKind, accountsIn, areLaid, entriesIn};
-ghost use Rattle.wire_accounts.specs.Accounts.{textMatches, isDigest, md5Matches, anyOf};
+ghost use Rattle.wire_accounts.specs.Accounts.{isDigest, md5Matches, anyOf};
 ghost use Rattle.wire_accounts.specs.Place.{bytesOf, entryOf, noAccount, StretchIn, AccountAt};
 ghost use Rattle.wire_accounts.specs.Cases.{AccountCases};
 ghost use Rattle.wire_accounts.specs.Holds.{AccountsHold};
@@ -47,7 +47,7 @@ fn no_account() -> AccountPlace
 }
 
 // The account at an offset.
-fn account_at(accounts: &[u8], at: usize) -> AccountPlace
+pub fn account_at(accounts: &[u8], at: usize) -> AccountPlace
     requires { ⌜ at ≤ length (now accounts) ⌝ }
     ensures { λ r. ⌜ AccountAt (now (accounts .entry)) at r ⌝ }
 {
@@ -78,7 +78,7 @@ fn account_at(accounts: &[u8], at: usize) -> AccountPlace
 }
 
 // Whether a buffer is laid out as accounts, to its end.
-fn is_laid(accounts: &[u8]) -> bool
+pub fn is_laid(accounts: &[u8]) -> bool
     ensures { λ r. ⌜ r ≡ areLaid (accountsIn (now (accounts .entry))) ⌝ }
 {
     if accounts.len() < 4 {
@@ -111,23 +111,6 @@ fn is_part(accounts: &[u8], part: Stretch, text: &[u8]) -> bool
     xdr::same(text, &accounts[start..end])
 }
 
-// Whether a text login is this account's. Both texts are compared whatever the first is, so that the time tells nothing of
-// which failed.
-fn text_matches(accounts: &[u8], account: AccountPlace, id: &[u8], password: &[u8]) -> bool
-    requires { ⌜ StretchIn (now accounts) (account .id) × StretchIn (now accounts) (account .password) ⌝ }
-    ensures { λ r. ⌜ r ≡ textMatches (now (id .entry)) (now (password .entry)) (entryOf (now (accounts .entry)) account) ⌝ }
-{
-    let known = is_part(accounts, account.id, id);
-    let right = is_part(accounts, account.password, password);
-    if account.kind != codes::TEXT_AUTH {
-        return false;
-    }
-    if known {
-        return right;
-    }
-    false
-}
-
 // Whether a digest is that of a password. One that is empty or too long has none.
 fn is_digest(accounts: &[u8], password: Stretch, challenge: &[u8; 64], digest: &[u8]) -> bool
     requires { ⌜ StretchIn (now accounts) password ⌝ }
@@ -146,7 +129,8 @@ fn is_digest(accounts: &[u8], password: Stretch, challenge: &[u8; 64], digest: &
     xdr::same(digest, &wanted)
 }
 
-// Whether an MD5 login is this account's. The digest is made whatever the id is, so that the time tells nothing of it.
+// Whether an MD5 login is this account's. A text entry lets nobody in. The digest is made whatever the id is, so that the
+// time tells nothing of it.
 fn md5_matches(
     accounts: &[u8],
     account: AccountPlace,
@@ -166,27 +150,6 @@ fn md5_matches(
         return right;
     }
     false
-}
-
-// Whether a text login lets in. All accounts are looked at, also behind one that does.
-pub fn lets_in_by_text(accounts: &[u8], id: &[u8], password: &[u8]) -> bool
-    ensures { λ r. ⌜ r ≡ anyOf (textMatches (now (id .entry)) (now (password .entry))) (entriesIn (now (accounts .entry))) ⌝ }
-{
-    if !is_laid(accounts) {
-        return false;
-    }
-    let mut some = false;
-    let mut at: usize = 4;
-    let mut left = xdr::read_word(accounts, 0);
-    while 0 < left {
-        let account = account_at(accounts, at);
-        if text_matches(accounts, account, id, password) {
-            some = true;
-        }
-        at = account.next;
-        left -= 1;
-    }
-    some
 }
 
 // Whether an MD5 login lets in, judged by a challenge. All accounts are looked at, also behind one that does.

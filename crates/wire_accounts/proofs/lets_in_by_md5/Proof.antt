@@ -34,7 +34,7 @@ loop-holds : tie.Need-loop-holds Inv-loop μ-loop
 loop-holds c = going-first _ _ _ (c .read-word .ensures) (asked (c .before .before .is-laid .ensures) (not-false _ (c .before .if1 .left)))
 
 account-at-requires : tie.Need-account-at-requires Inv-loop μ-loop
-account-at-requires c κs = c .before .loop .inv .within
+account-at-requires c κs = c .before .loop .inv .ahead .within
 
 md5-matches-requires : tie.Need-md5-matches-requires Inv-loop μ-loop
 md5-matches-requires c κs = let r = c .account-at .ensures in (r .id, r .password)
