@@ -42,7 +42,7 @@ use Rattle.rules.specs.Judge.{Outcome, refuse, accept, judge, onto, Acce
 use Rattle.rules_parts.specs.Parts.{restMover, closedTape, dataPartnered, moverPartnered, addressWrong, dataJoined, moverJoined, afterMessage, shut}
 use Rattle.rules.specs.DataService.{pairsOf, dataState, dataListen, dataStart, dataEnvironment, dataStop, dataStep, variablesAfter}
 use Rattle.rules.specs.TapeService.{Loaded, tapeOpen, tapeClose, tapeState, tapeMtio, tapeWrite, tapeRead, deviceStep, withLoaded, withMover, tapeStep, moverPartStep}
-use Rattle.rules.specs.Connection.{rightText, rightDigest, clientAuth, connectStep}
+use Rattle.rules.specs.Connection.{rightDigest, clientAuth, connectStep}
 use Rattle.rules.specs.Relation.{dataWrong, moverWrong, sameFlag, keeps}
 use Rattle.rules.specs.Promises.{Keeps, JointKeeps, dataSide, partWrong, partSide}
 use Rattle.rules.specs.Answer.{Kept, Lent, held, Answered, guarded, roomOf, answered, requested, judged, isClose, settled, verdict, needsLogin, isLocked, outcome, refusing, isUnread}
@@ -402,7 +402,6 @@ unfolding isClose
 close-is Request.Unknown e = clash false refl e
 close-is Request.Bad e = clash false refl e
 close-is (Request.Connect (ConnectRequest.Open version)) e = clash false refl e
-close-is (Request.Connect (ConnectRequest.Auth id password)) e = clash false refl e
 close-is (Request.Connect (ConnectRequest.Md5Auth id digest)) e = clash false refl e
 close-is (Request.Connect ConnectRequest.OtherAuth) e = clash false refl e
 close-is (Request.Connect ConnectRequest.Close) e = refl
@@ -431,7 +430,6 @@ module _ (k : Kept) (l : Lent) (r : List ℕ) where
   close-accepted Request.Unknown e v = refl
   close-accepted Request.Bad e v = refl
   close-accepted (Request.Connect (ConnectRequest.Open version)) e v = refl
-  close-accepted (Request.Connect (ConnectRequest.Auth id password)) e v = refl
   close-accepted (Request.Connect (ConnectRequest.Md5Auth id digest)) e v = refl
   close-accepted (Request.Connect ConnectRequest.OtherAuth) e v = refl
   close-accepted (Request.Connect ConnectRequest.Close) e v =
@@ -464,12 +462,6 @@ module _ (k : Kept) (l : Lent) (r : List ℕ) where
   unfolding needsLogin outcome refusing isUnread choose
   undecoded h b = known Request.Bad 18 b h (verdict-free Request.Bad refl)
 
-  pub unproven : (id password : Text) → Heard k l r → requestIn r ≡ Request.Connect (ConnectRequest.Auth id password)
-      → rightText (l .accounts) (bytesAt (bodyOf r) id) (bytesAt (bodyOf r) password) ≡ false
-      → answered k l r ≡ replying r (l .time) (refusedIn r 4) [] k
-  unfolding needsLogin outcome connectStep clientAuth judge onto refusing isUnread choose
-  unproven id password h b w = known (Request.Connect (ConnectRequest.Auth id password)) 4 b h (verdict-free (Request.Connect (ConnectRequest.Auth id password)) refl ∙ rw w)
-
   pub undigested : (id digest : Text) → Heard k l r → requestIn r ≡ Request.Connect (ConnectRequest.Md5Auth id digest)
       → rightDigest (k .session .login) (l .accounts) (bytesAt (bodyOf r) id) (bytesAt (bodyOf r) digest) ≡ false
       → answered k l r ≡ replying r (l .time) (refusedIn r 4) [] k
@@ -478,7 +470,7 @@ module _ (k : Kept) (l : Lent) (r : List ℕ) where
       let q = Request.Connect (ConnectRequest.Md5Auth id digest) in
       known q 4 b h (verdict-free q refl ∙ rw w)
 
-  untyped : Heard k l r → requestIn r ≡ Request.Connect ConnectRequest.OtherAuth → answered k l r ≡ replying r (l .time) (refusedIn r 9) [] k
+  pub untyped : Heard k l r → requestIn r ≡ Request.Connect ConnectRequest.OtherAuth → answered k l r ≡ replying r (l .time) (refusedIn r 9) [] k
   unfolding needsLogin outcome connectStep onto refusing isUnread choose
   untyped h b = known (Request.Connect ConnectRequest.OtherAuth) 9 b h (verdict-free (Request.Connect ConnectRequest.OtherAuth) refl)
 
@@ -537,7 +529,6 @@ calls-keep =
         refusing = refusal-right;
         unhandled = unhandled;
         undecoded = undecoded;
-        unproven = unproven;
         undigested = undigested;
         untyped = untyped;
       };

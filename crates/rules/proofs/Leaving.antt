@@ -7,7 +7,7 @@ use native.Mathlib.Omega.{arith}
 use lib.ListN.{length}
 use lib.Dec.{eqb, ltb}
 use borrow.Author.Tests.{ne-eqb, eqb-true, le-ltb}
-use Rattle.codes.specs.Codes.{errors, textAuth, md5Auth, longestRecord, notAuthorized, illegalArguments, illegalState}
+use Rattle.codes.specs.Codes.{errors, md5Auth, longestRecord, notAuthorized, illegalArguments, illegalState}
 use Rattle.xdr.specs.Choose.{choose}
 use Rattle.xdr.specs.Xdr.{sameBytes}
 use Rattle.xdr.proofs.Tests.{by-test, yes}
@@ -52,7 +52,7 @@ use Rattle.rules.specs.Calls.{Heard, isRun, isDone, isNumber}
 use Rattle.rules.specs.Leaving.{Leaving, AtMark, mark-read, mark-spaced, AtEnd, end-read, end-written, end-spaced, OtherFields}
 use Rattle.rules.specs.Leaving.{no-body, zero-words, residue-word, InHeader, unknown-message, bad-body, beforeLogin, Replied, Closes}
 use Rattle.rules.specs.Leaving.{MayWrite, Touched, untouched, wrote, marked, CallsLeave}
-use Rattle.rules.proofs.Login.{login-holds, control, info, attributes-asked}
+use Rattle.rules.proofs.Login.{login-holds, control, info, attributes-asked, withdrawn-asked}
 use Rattle.rules.proofs.Environment.{stored, stores, environment-asked, unseen}
 use Rattle.rules.proofs.JudgeLaws.{judged-by, accepts, accepts-any, accepts-map, refusal-says, carried}
 use Rattle.rules.proofs.Numbers.{number-right, refusal-right, refusal-facts}
@@ -118,7 +118,6 @@ unheaded Reply.Plain h = refl
 unheaded Reply.Listening h = refl
 unheaded Reply.ListeningTcp h = refl
 unheaded Reply.ConnectionTypes h = refl
-unheaded Reply.TextAuth h = refl
 unheaded Reply.Challenge h = refl
 unheaded (Reply.ServerInfo known) h = refl
 unheaded Reply.ScsiState h = refl
@@ -373,27 +372,22 @@ module _ (k : Kept) (l : Lent) (r : List ℕ) where
   unfolding verdict isLocked judge choose
   stranger-verdict q h = rw (verdict, isLocked, h)
 
-  types-told : (c : List ℕ) (m t : Bool)
-      → toldBy (onto (withLogin k c)
-      (choose m (accept Reply.Challenge (challengedBy c (k .session .login))) (choose t (accept Reply.TextAuth (k .session .login)) (refuse illegalArguments))))
-      ≡ choose (choose t true (choose m true false)) 0 illegalArguments
+  types-told : (c : List ℕ) (m : Bool)
+      → toldBy (onto (withLogin k c) (choose m (accept Reply.Challenge (challengedBy c (k .session .login))) (refuse illegalArguments)))
+      ≡ choose m 0 illegalArguments
   unfolding onto numberOf choose
-  types-told c true true = refl
-  types-told c true false = refl
-  types-told c false true = refl
-  types-told c false false = refl
+  types-told c true = refl
+  types-told c false = refl
 
-  attributes-told : (c : List ℕ) (type : ℕ) → toldBy (onto (withLogin k c) (authAttributes (k .session .login) c type))
-      ≡ choose (isOneOf (textAuth ∷ md5Auth ∷ []) type) 0 illegalArguments
-  unfolding authAttributes isOneOf
-  attributes-told c type = types-told c (eqb type md5Auth) (eqb type textAuth)
+  attributes-told : (c : List ℕ) (type : ℕ) → toldBy (onto (withLogin k c) (authAttributes (k .session .login) c type)) ≡ choose (eqb type md5Auth) 0 illegalArguments
+  unfolding authAttributes
+  attributes-told c type = types-told c (eqb type md5Auth)
 
   unlocked-tells : (q : Request) → toldBy (choose (needsLogin q) (refuse notAuthorized) (outcome k l r q)) ≡ beforeLogin k l r q
   unfolding needsLogin outcome connectStep connectOpen configStep onto beforeLogin numberOf choose
   unlocked-tells Request.Unknown = refl
   unlocked-tells Request.Bad = refl
   unlocked-tells (Request.Connect (ConnectRequest.Open version)) = opens (k .session .first) (eqb version 4)
-  unlocked-tells (Request.Connect (ConnectRequest.Auth id password)) = proves _
   unlocked-tells (Request.Connect (ConnectRequest.Md5Auth id digest)) = proves _
   unlocked-tells (Request.Connect ConnectRequest.OtherAuth) = refl
   unlocked-tells (Request.Connect ConnectRequest.Close) = refl
@@ -537,7 +531,6 @@ module _ (k : Kept) (l : Lent) (r : List ℕ) where
   unclosed Request.Unknown n = refl
   unclosed Request.Bad n = refl
   unclosed (Request.Connect (ConnectRequest.Open version)) n = refl
-  unclosed (Request.Connect (ConnectRequest.Auth id password)) n = refl
   unclosed (Request.Connect (ConnectRequest.Md5Auth id digest)) n = refl
   unclosed (Request.Connect ConnectRequest.OtherAuth) n = refl
   unclosed (Request.Connect ConnectRequest.Close) n = absurd (n refl)
@@ -735,6 +728,7 @@ calls-leave =
       control = control;
       info = info;
       attributes = attributes-asked;
+      withdrawn = withdrawn-asked;
       touched = touched;
       writes = record { write = λ k l r bytes h q m. writes k l r h m bytes q; marks = λ k l r times h q m. marks k l r h m times q };
       stored = stored;

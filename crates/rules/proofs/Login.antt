@@ -7,12 +7,12 @@ use native.Mathlib.Omega.{arith}
 use lib.ListN.{length}
 use lib.Dec.{eqb, ltb, leb}
 use borrow.Author.Tests.{eqb-true, eqb-false, eq-eqb, ne-eqb, ltb-true, ltb-false, le-leb, lt-leb, leb-true}
-use Rattle.codes.specs.Codes.{textAuth, md5Auth, storeLength}
+use Rattle.codes.specs.Codes.{md5Auth, storeLength}
 use Rattle.xdr.specs.Choose.{choose}
 use Rattle.xdr.specs.Xdr.{word, be32, be32s}
 use Rattle.xdr.proofs.Tests.{by-test, yes}
-use Rattle.wire_accounts.specs.Accounts.{AccountEntry, entriesIn, textMatches, md5Matches, anyOf}
-use Rattle.wire_accounts.specs.Holds.{ByText, ByMd5}
+use Rattle.wire_accounts.specs.Accounts.{AccountEntry, entriesIn, md5Matches, anyOf}
+use Rattle.wire_accounts.specs.Holds.{ByMd5}
 use Rattle.wire_accounts.proofs.Holds.{accounts-hold}
 use Rattle.wire_layouts.specs.Layout.{partAt, single, fieldAt, andRead, andValue, readAs}
 use Rattle.wire_layouts.specs.Scans.{put, puts, summed, scanned}
@@ -29,7 +29,7 @@ use Rattle.wire_frame.specs.declared.JointKind.{JointKind}
 use Rattle.wire_frame.specs.declared.JointKind.the-variants as JointKind
 use Rattle.wire_frame.specs.declared.Message.{Message}
 use Rattle.wire_frame.specs.declared.Message.the-variants as Message
-use Rattle.wire_requests.specs.Bodies.{isMd5, attributeFields, layoutOf, requestOf, readBy, connectBody, configBody, jointBody, decoded}
+use Rattle.wire_requests.specs.Bodies.{layoutOf, requestOf, readBy, connectBody, configBody, jointBody, decoded}
 use Rattle.wire_requests.specs.Within.{bytesAt}
 use Rattle.wire_requests.specs.declared.ConnectRequest.{ConnectRequest}
 use Rattle.wire_requests.specs.declared.ConnectRequest.the-variants as ConnectRequest
@@ -47,18 +47,18 @@ use Rattle.rules_parts.specs.Names.{leastRoom}
 use Rattle.rules_parts.specs.Parts.{loggedIn, challengedBy}
 use Rattle.rules.specs.Judge.{Test, test, Outcome, refuse, accept, judge, onto, Accepts}
 use Rattle.rules.specs.Relation.{keeps}
-use Rattle.rules.specs.Connection.{rightText, rightDigest, connectOpen, clientAuth, connectStep, authAttributes, configStep}
+use Rattle.rules.specs.Connection.{rightDigest, connectOpen, clientAuth, connectStep, authAttributes, configStep}
 use Rattle.rules.specs.TapeService.{tapeStep, moverPartStep}
 use Rattle.rules.specs.Answer.{Kept, Lent, Answered, roomOf, answered, requested, judged, isClose, settled, verdict, needsLogin, isLocked, outcome, refusing, isUnread}
 use Rattle.rules.specs.Answer.{refusedIn, replying, noticed, Done, tapePart, withData, withPart, withTape, withChanger, withLogin, withEnds, requestIn}
 use Rattle.rules.specs.Order.{Service, DataService, TapeService, ScsiService, JointService, ControlService, serviceOf, Call, run}
 use Rattle.rules.specs.Calls.{Heard, opening}
 use Rattle.rules.specs.Login.{Newest, none, given, newestOf, isHeard, asksChallenge, gives, newer, newest, Among, here, later}
-use Rattle.rules.specs.Login.{LogsIn, by-text, by-md5, Entered, enters-here, enters-later, authorized, LoginHolds, AttributesAsked}
-use Rattle.rules.specs.Login.{LoginAlone, OfControl, of-open, of-text, of-md5, of-other, of-config, ControlLeaves}
+use Rattle.rules.specs.Login.{LogsIn, Entered, enters-here, enters-later, authorized, LoginHolds, AttributesAsked, WithdrawnAsked}
+use Rattle.rules.specs.Login.{LoginAlone, OfControl, of-open, of-md5, of-other, of-config, ControlLeaves}
 use Rattle.rules.proofs.JudgeLaws.{judged-by, accepts-any, carried}
 use Rattle.rules.proofs.Guarding.{by-guard, stored, roomy}
-use Rattle.rules.proofs.Calls.{heard, verdict-free, noticed-holds, unproven, undigested}
+use Rattle.rules.proofs.Calls.{heard, verdict-free, noticed-holds, undigested, untyped}
 use Rattle.rules.proofs.Owning.{Owned, of-data, of-tape, of-mover, of-scsi, of-joint, of-control, unknown, bad, owned}
 
 clash : {A : Type 0} → false ≡ true → A
@@ -133,8 +133,6 @@ module _ (k : Kept) (l : Lent) (r : List ℕ) where
   after Request.Unknown = g
   after Request.Bad = g
   after (Request.Connect (ConnectRequest.Open version)) = g
-  after (Request.Connect (ConnectRequest.Auth id password)) =
-      choose (rightText (l .accounts) (bytesAt (bodyOf r) id) (bytesAt (bodyOf r) password)) (loggedIn g) g
   after (Request.Connect (ConnectRequest.Md5Auth id digest)) =
       choose (rightDigest g (l .accounts) (bytesAt (bodyOf r) id) (bytesAt (bodyOf r) digest)) (loggedIn g) g
   after (Request.Connect ConnectRequest.OtherAuth) = g
@@ -193,25 +191,22 @@ module _ (k : Kept) (l : Lent) (r : List ℕ) where
   auth-login true = refl
   auth-login false = refl
 
-  types-login : (m t : Bool)
-      → loginIn (onto (withLogin k (l .challenge)) (choose m (accept Reply.Challenge (challengedBy (l .challenge) g)) (choose t (accept Reply.TextAuth g) (refuse 9))))
+  types-login : (m : Bool)
+      → loginIn (onto (withLogin k (l .challenge)) (choose m (accept Reply.Challenge (challengedBy (l .challenge) g)) (refuse 9)))
       ≡ choose m (challengedBy (l .challenge) g) g
   unfolding onto loginIn choose
-  types-login true t = refl
-  types-login false true = refl
-  types-login false false = refl
+  types-login true = refl
+  types-login false = refl
 
   attributes-login : (type : ℕ) → loginIn (onto (withLogin k (l .challenge)) (authAttributes g (l .challenge) type)) ≡ choose (eqb type md5Auth) (challengedBy (l .challenge) g) g
   unfolding authAttributes
-  attributes-login type = types-login (eqb type md5Auth) (eqb type textAuth)
+  attributes-login type = types-login (eqb type md5Auth)
 
   verdict-login : (q : Request) → loginIn (verdict k l r q) ≡ after q
   unfolding verdict outcome connectStep connectOpen configStep tapeStep moverPartStep needsLogin after
   verdict-login Request.Unknown = same-judged _ _ (bare-login 1)
   verdict-login Request.Bad = same-judged _ _ (bare-login 18)
   verdict-login (Request.Connect (ConnectRequest.Open version)) = same-judged _ _ (opened-login (k .session .first) (eqb version 4))
-  verdict-login (Request.Connect (ConnectRequest.Auth id password)) =
-      ap loginIn (verdict-free k l r (Request.Connect (ConnectRequest.Auth id password)) refl) ∙ auth-login _
   verdict-login (Request.Connect (ConnectRequest.Md5Auth id digest)) =
       ap loginIn (verdict-free k l r (Request.Connect (ConnectRequest.Md5Auth id digest)) refl) ∙ auth-login _
   verdict-login (Request.Connect ConnectRequest.OtherAuth) = same-judged _ _ (refused-login (withLogin k []) 9)
@@ -231,7 +226,6 @@ module _ (k : Kept) (l : Lent) (r : List ℕ) where
   close-after Request.Unknown h = refl
   close-after Request.Bad h = refl
   close-after (Request.Connect (ConnectRequest.Open version)) h = refl
-  close-after (Request.Connect (ConnectRequest.Auth id password)) h = clash h
   close-after (Request.Connect (ConnectRequest.Md5Auth id digest)) h = clash h
   close-after (Request.Connect ConnectRequest.OtherAuth) h = refl
   close-after (Request.Connect ConnectRequest.Close) h = refl
@@ -260,43 +254,25 @@ module _ (b : List ℕ) where
   asking type = Request.Config (ConfigRequest.AuthAttributes type)
 
   read-md5 : length b ≡ 4 → word b 0 ≡ 2 → attributes ≡ asking 2
-  unfolding decoded configBody isMd5 scanned readAs fieldAt andRead andValue summed puts put choose
-  read-md5 e w =
-      rw (eq-eqb (word b 0) 2 w, le-leb 4 (length b) (omega arith), eq-eqb (word b 0) 2 w, eq-eqb 4 (length b) (sym e), w)
+  unfolding decoded configBody scanned readAs fieldAt andRead andValue summed puts put choose
+  read-md5 e w = rw (le-leb 4 (length b) (omega arith), eq-eqb (word b 0) 2 w, eq-eqb 4 (length b) (sym e), w)
 
-  read-text : length b ≡ 4 → word b 0 ≡ 1 → attributes ≡ asking 1
-  unfolding decoded configBody isMd5 scanned readAs fieldAt andRead andValue summed puts put choose
-  read-text e w =
-      rw (ne-eqb (word b 0) 2 (λ z. omega arith), le-leb 4 (length b) (omega arith), eq-eqb (word b 0) 1 w, eq-eqb 4 (length b) (sym e), w)
-
-  read-other : 4 ≤ length b → (word b 0 ≡ 1 → ⊥) → (word b 0 ≡ 2 → ⊥) → attributes ≡ asking (word b 0)
-  unfolding decoded configBody isMd5 scanned readAs fieldAt andRead andValue summed puts put choose
-  read-other h t m = rw (ne-eqb (word b 0) 2 m, le-leb 4 (length b) h, ne-eqb (word b 0) 1 t)
-
-  -- by a layout that is chosen already
-  abbrev readBehind : Bool → Request
-  readBehind m =
-      let s = scanned (attributeFields m) b in
-      choose (s .ok) (requestOf (Message.Config ConfigKind.AuthAttributes) s) Request.Bad
-
-  short-behind : length b < 4 → (m : Bool) → readBehind m ≡ Request.Bad
-  unfolding scanned readAs fieldAt andRead summed choose
-  short-behind h true = rw (lt-leb 4 (length b) h)
-  short-behind h false = rw (lt-leb 4 (length b) h)
+  read-other : 4 ≤ length b → (word b 0 ≡ 2 → ⊥) → attributes ≡ asking (word b 0)
+  unfolding decoded configBody scanned readAs fieldAt andRead andValue summed puts put choose
+  read-other h m = rw (le-leb 4 (length b) h, ne-eqb (word b 0) 2 m)
 
   read-short : length b < 4 → attributes ≡ Request.Bad
-  unfolding decoded configBody
-  read-short h = short-behind h (isMd5 b)
+  unfolding decoded configBody scanned readAs fieldAt andRead summed choose
+  read-short h = rw (lt-leb 4 (length b) h)
 
-  read-long-md5 : 4 < length b → word b 0 ≡ 2 → attributes ≡ Request.Bad
-  unfolding decoded configBody isMd5 scanned readAs fieldAt andRead andValue summed choose
-  read-long-md5 h w =
-      rw (eq-eqb (word b 0) 2 w, le-leb 4 (length b) (omega arith), eq-eqb (word b 0) 2 w, ne-eqb 4 (length b) (λ e. omega arith))
+  read-long : 4 < length b → word b 0 ≡ 2 → attributes ≡ Request.Bad
+  unfolding decoded configBody scanned readAs fieldAt andRead andValue summed choose
+  read-long h w = rw (le-leb 4 (length b) (omega arith), eq-eqb (word b 0) 2 w, ne-eqb 4 (length b) (λ e. omega arith))
 
-  read-long-text : 4 < length b → word b 0 ≡ 1 → attributes ≡ Request.Bad
-  unfolding decoded configBody isMd5 scanned readAs fieldAt andRead andValue summed choose
-  read-long-text h w =
-      rw (ne-eqb (word b 0) 2 (λ z. omega arith), le-leb 4 (length b) (omega arith), eq-eqb (word b 0) 1 w, ne-eqb 4 (length b) (λ e. omega arith))
+  -- and 0x901 of another type
+  read-withdrawn : 4 ≤ length b → (word b 0 ≡ 2 → ⊥) → decoded (Message.Connect ConnectKind.Auth) b ≡ Request.Connect ConnectRequest.OtherAuth
+  unfolding decoded connectBody scanned readAs fieldAt andRead andValue summed puts put choose
+  read-withdrawn h m = rw (le-leb 4 (length b) h, ne-eqb (word b 0) 2 m, ne-eqb (word b 0) 2 m)
 
 -- ---- which requests give a challenge
 isChallenge : Request → Bool
@@ -416,14 +392,12 @@ attributes-challenge b =
   where
     whole : length b ≡ 4 → isChallenge (attributes b) ≡ eqb (word b 0) 2
     whole e =
-        by-eq (word b 0) 2 (λ w. ap isChallenge (read-md5 b e w) ∙ sym (eq-eqb _ _ w))
-        (λ m. by-eq (word b 0) 1 (λ w. ap isChallenge (read-text b e w) ∙ sym (ne-eqb _ _ m)) (λ t. ap isChallenge (read-other b (omega arith) t m)))
+        by-eq (word b 0) 2 (λ w. ap isChallenge (read-md5 b e w) ∙ sym (eq-eqb _ _ w)) (λ m. ap isChallenge (read-other b (omega arith) m))
 
     other : (length b ≡ 4 → ⊥) → isChallenge (attributes b) ≡ false
     other n =
         by-lt (length b) 4 (λ h. ap isChallenge (read-short b h))
-        (λ h. by-eq (word b 0) 2 (λ w. ap isChallenge (read-long-md5 b (omega arith) w))
-        (λ m. by-eq (word b 0) 1 (λ w. ap isChallenge (read-long-text b (omega arith) w)) (λ t. ap isChallenge (read-other b h t m) ∙ ne-eqb _ _ m)))
+        (λ h. by-eq (word b 0) 2 (λ w. ap isChallenge (read-long b (omega arith) w)) (λ m. ap isChallenge (read-other b h m) ∙ ne-eqb _ _ m))
 
 challenge-is : (r : List ℕ) → isChallenge (requestIn r) ≡ asksChallenge r
 unfolding asksChallenge rowOf look choose
@@ -453,7 +427,6 @@ module _ (k : Kept) (l : Lent) (r : List ℕ) where
   newest-after Request.Unknown = refl
   newest-after Request.Bad = refl
   newest-after (Request.Connect (ConnectRequest.Open version)) = refl
-  newest-after (Request.Connect (ConnectRequest.Auth id password)) = logged-newest (rightText (l .accounts) (bytesAt (bodyOf r) id) (bytesAt (bodyOf r) password))
   newest-after (Request.Connect (ConnectRequest.Md5Auth id digest)) = logged-newest (rightDigest was (l .accounts) (bytesAt (bodyOf r) id) (bytesAt (bodyOf r) digest))
   newest-after (Request.Connect ConnectRequest.OtherAuth) = refl
   newest-after (Request.Connect ConnectRequest.Close) = refl
@@ -514,19 +487,19 @@ module _ (k : Kept) (c : Call) where
   abbrev held : Newest
   held = newestOf (k .session .login)
 
-  text-in : (id password : Text) → requestIn (c .ask .request) ≡ Request.Connect (ConnectRequest.Auth id password)
-      → rightText (c .lent .accounts) (bytesAt body id) (bytesAt body password) ≡ true → LogsIn held c
-  unfolding rightText
-  text-in id password e h =
-      by-text id password e (any-among (textMatches (bytesAt body id) (bytesAt body password)) _ (λ x t. accounts-hold .text _ _ x t) _ h)
-
   md5-in : (id digest : Text) → requestIn (c .ask .request) ≡ Request.Connect (ConnectRequest.Md5Auth id digest)
       → rightDigest (k .session .login) (c .lent .accounts) (bytesAt body id) (bytesAt body digest) ≡ true → LogsIn held c
   unfolding rightDigest
   md5-in id digest e h =
       let z = both (k .session .login .challenged) _ h in
-      by-md5 id digest (k .session .login .challenge) e (newest-given (k .session .login) (z .0))
-      (any-among (md5Matches (bytesAt body id) (k .session .login .challenge) (bytesAt body digest)) _ (λ x t. accounts-hold .md5 _ _ _ x t) _ (z .1))
+      record {
+        id = id;
+        digest = digest;
+        challenge = k .session .login .challenge;
+        asked = e;
+        held = newest-given (k .session .login) (z .0);
+        entry = any-among (md5Matches (bytesAt body id) (k .session .login .challenge) (bytesAt body digest)) _ (λ x t. accounts-hold .md5 _ _ _ x t) _ (z .1);
+      }
 
   -- a request after which the client is authorized, and was not
   entering : authorized k ≡ false → (q : Request) → requestIn (c .ask .request) ≡ q → after k (c .lent) (c .ask .request) q .authorized ≡ true → LogsIn held c
@@ -534,9 +507,6 @@ module _ (k : Kept) (c : Call) where
   entering n Request.Unknown e t = clash (sym n ∙ t)
   entering n Request.Bad e t = clash (sym n ∙ t)
   entering n (Request.Connect (ConnectRequest.Open version)) e t = clash (sym n ∙ t)
-  entering n (Request.Connect (ConnectRequest.Auth id password)) e t =
-      by-test (λ (g : Login). g .authorized ≡ true → LogsIn held c) (rightText (c .lent .accounts) (bytesAt body id) (bytesAt body password)) _ _
-      (λ h _. text-in id password e h) (λ _ z. clash (sym n ∙ z)) t
   entering n (Request.Connect (ConnectRequest.Md5Auth id digest)) e t =
       by-test (λ (g : Login). g .authorized ≡ true → LogsIn held c)
       (rightDigest (k .session .login) (c .lent .accounts) (bytesAt body id) (bytesAt body digest)) _ _
@@ -559,7 +529,6 @@ module _ (k : Kept) (c : Call) where
   staying h Request.Unknown = h
   staying h Request.Bad = h
   staying h (Request.Connect (ConnectRequest.Open version)) = h
-  staying h (Request.Connect (ConnectRequest.Auth id password)) = by-test (λ (g : Login). g .authorized ≡ true) (rightText _ _ _) _ _ (λ _. refl) (λ _. h)
   staying h (Request.Connect (ConnectRequest.Md5Auth id digest)) = by-test (λ (g : Login). g .authorized ≡ true) (rightDigest _ _ _ _) _ _ (λ _. refl) (λ _. h)
   staying h (Request.Connect ConnectRequest.OtherAuth) = h
   staying h (Request.Connect ConnectRequest.Close) = h
@@ -592,20 +561,11 @@ module _ (k : Kept) (c : Call) where
           ap (λ (g : Login). g .authorized) (login-after k (c .lent) (c .ask .request) (heard-facts k c h)) ∙ staying a (requestIn (c .ask .request))
       by-heard false h = ap (λ (g : Login). g .authorized) (unheard k c h) ∙ a
 
-  text-enters : (id password : Text) → requestIn (c .ask .request) ≡ Request.Connect (ConnectRequest.Auth id password)
-      → rightText (c .lent .accounts) (bytesAt body id) (bytesAt body password) ≡ true → after k (c .lent) (c .ask .request) (requestIn (c .ask .request)) .authorized ≡ true
-  unfolding after choose
-  text-enters id password e h = rw (e, h)
-
   md5-enters : (id digest : Text) → requestIn (c .ask .request) ≡ Request.Connect (ConnectRequest.Md5Auth id digest)
       → rightDigest (k .session .login) (c .lent .accounts) (bytesAt body id) (bytesAt body digest) ≡ true
       → after k (c .lent) (c .ask .request) (requestIn (c .ask .request)) .authorized ≡ true
   unfolding after choose
   md5-enters id digest e h = rw (e, h)
-
-  right-text : (id password : List ℕ) → Among (ByText id password) (entriesIn (c .lent .accounts)) → rightText (c .lent .accounts) id password ≡ true
-  unfolding rightText
-  right-text id password a = among-any (textMatches id password) _ (λ x t. accounts-hold .text-enters _ _ x t) _ a
 
   right-digest : (id digest challenge : List ℕ) → held ≡ given challenge → Among (ByMd5 id challenge digest) (entriesIn (c .lent .accounts))
       → rightDigest (k .session .login) (c .lent .accounts) id digest ≡ true
@@ -615,10 +575,9 @@ module _ (k : Kept) (c : Call) where
       rw (z .0, z .1) (among-any (md5Matches id challenge digest) _ (λ x t. accounts-hold .md5-enters _ _ _ x t) _ a)
 
   enters : Heard k (c .lent) (c .ask .request) → LogsIn held c → authorized next ≡ true
-  enters h (by-text id password e a) =
-      ap (λ (g : Login). g .authorized) (login-after k (c .lent) (c .ask .request) h) ∙ text-enters id password e (right-text _ _ a)
-  enters h (by-md5 id digest challenge e n a) =
-      ap (λ (g : Login). g .authorized) (login-after k (c .lent) (c .ask .request) h) ∙ md5-enters id digest e (right-digest _ _ challenge n a)
+  enters h i =
+      ap (λ (g : Login). g .authorized) (login-after k (c .lent) (c .ask .request) h)
+      ∙ md5-enters (i .id) (i .digest) (i .asked) (right-digest _ _ (i .challenge) (i .held) (i .entry))
 
 now-or-later : (k : Kept) (c : Call) (cs : List Call) → authorized k ≡ false → (b : Bool) → authorized (answered k (c .lent) (c .ask .request) .next) ≡ b
     → (authorized (answered k (c .lent) (c .ask .request) .next) ≡ false
@@ -640,6 +599,13 @@ stays k [] h = h
 stays k (c ∷ cs) h = stays _ cs (call-stays k c h)
 
 -- ---- the replies to a login
+refused-login-body : (k : Kept) (l : Lent) (r : List ℕ) (e : ℕ) → messageWord r ≡ 0x901 → answered k l r ≡ replying r (l .time) (refusedIn r e) [] k
+    → bodyIn (answered k l r .reply) ≡ be32 e
+unfolding rowOf look choose be32
+refused-login-body k l r e m a =
+    let told = numbers-told .refused (k .session .sequence) (l .time) (messageWord r) (sequenceOf r) (rowOf (messageWord r) .before) e (rowOf (messageWord r) .after) [] in
+    ap (λ (x : Answered). bodyIn (x .reply)) a ∙ told ∙ rw m refl
+
 plain-body : (s t m c : ℕ) (shown : List ℕ) → bodyIn (replyBytes s t m c Reply.Plain shown) ≡ be32 0
 unfolding replyBytes shapeOf bodyBytes opaques be32s be32
 plain-body s t m c shown = body-sent s t m c _ _
@@ -651,12 +617,6 @@ module _ (k : Kept) (c : Call) where
   abbrev ask : List ℕ
   ask = c .ask .request
 
-  text-right : (id password : Text) → Heard k lent ask → requestIn ask ≡ Request.Connect (ConnectRequest.Auth id password)
-      → rightText (lent .accounts) (bytesAt (bodyOf ask) id) (bytesAt (bodyOf ask) password) ≡ true
-      → answered k lent ask .reply ≡ replyBytes (k .session .sequence) (lent .time) (messageWord ask) (sequenceOf ask) Reply.Plain []
-  unfolding judged isClose outcome connectStep clientAuth judge settled onto needsLogin noticed choose
-  text-right id password h e t = rw (heard k lent ask h, e, judged, verdict-free k lent ask (Request.Connect (ConnectRequest.Auth id password)) refl, t)
-
   md5-right : (id digest : Text) → Heard k lent ask → requestIn ask ≡ Request.Connect (ConnectRequest.Md5Auth id digest)
       → rightDigest (k .session .login) (lent .accounts) (bytesAt (bodyOf ask) id) (bytesAt (bodyOf ask) digest) ≡ true
       → answered k lent ask .reply ≡ replyBytes (k .session .sequence) (lent .time) (messageWord ask) (sequenceOf ask) Reply.Plain []
@@ -664,22 +624,11 @@ module _ (k : Kept) (c : Call) where
   md5-right id digest h e t = rw (heard k lent ask h, e, judged, verdict-free k lent ask (Request.Connect (ConnectRequest.Md5Auth id digest)) refl, t)
 
   right : Heard k lent ask → LogsIn (newestOf (k .session .login)) c → bodyIn (answered k lent ask .reply) ≡ be32 0
-  right h (by-text id password e a) = ap bodyIn (text-right id password h e (right-text k c _ _ a)) ∙ plain-body _ _ _ _ []
-  right h (by-md5 id digest challenge e n a) = ap bodyIn (md5-right id digest h e (right-digest k c _ _ challenge n a)) ∙ plain-body _ _ _ _ []
+  right h i = ap bodyIn (md5-right (i .id) (i .digest) h (i .asked) (right-digest k c _ _ (i .challenge) (i .held) (i .entry))) ∙ plain-body _ _ _ _ []
 
-  refused-four : messageWord ask ≡ 0x901 → answered k lent ask ≡ replying ask (lent .time) (refusedIn ask 4) [] k → bodyIn (answered k lent ask .reply) ≡ be32 4
-  unfolding rowOf look choose be32
-  refused-four m e =
-      let told = numbers-told .refused (k .session .sequence) (lent .time) (messageWord ask) (sequenceOf ask) (rowOf (messageWord ask) .before) 4 (rowOf (messageWord ask) .after) [] in
-      ap (λ (a : Answered). bodyIn (a .reply)) e ∙ told ∙ rw m refl
-
-  wrong-text : (id password : Text) → Heard k lent ask → messageWord ask ≡ 0x901 → requestIn ask ≡ Request.Connect (ConnectRequest.Auth id password)
+  wrong : (id digest : Text) → Heard k lent ask → messageWord ask ≡ 0x901 → requestIn ask ≡ Request.Connect (ConnectRequest.Md5Auth id digest)
       → (LogsIn (newestOf (k .session .login)) c → ⊥) → bodyIn (answered k lent ask .reply) ≡ be32 4
-  wrong-text id password h m e n = refused-four m (unproven k lent ask id password h e (of-test _ (λ t. n (text-in k c id password e t))))
-
-  wrong-md5 : (id digest : Text) → Heard k lent ask → messageWord ask ≡ 0x901 → requestIn ask ≡ Request.Connect (ConnectRequest.Md5Auth id digest)
-      → (LogsIn (newestOf (k .session .login)) c → ⊥) → bodyIn (answered k lent ask .reply) ≡ be32 4
-  wrong-md5 id digest h m e n = refused-four m (undigested k lent ask id digest h e (of-test _ (λ t. n (md5-in k c id digest e t))))
+  wrong id digest h m e n = refused-login-body k lent ask 4 m (undigested k lent ask id digest h e (of-test _ (λ t. n (md5-in k c id digest e t))))
 
 -- ---- a new session
 stranger : (time room : ℕ) → authorized (opening time room .next) ≡ false
@@ -697,8 +646,7 @@ login-holds =
       stays = stays;
       enters = enters;
       right = right;
-      wrong-text = wrong-text;
-      wrong-md5 = wrong-md5;
+      wrong = wrong;
       stranger = stranger;
       fresh = fresh;
       newest-held = newest-held;
@@ -754,7 +702,6 @@ module _ (k : Kept) (l : Lent) (r : List ℕ) where
   verdict-control : (q : Request) → OfControl q → Accepts IsLogin (verdict k l r q)
   unfolding verdict outcome
   verdict-control q (of-open version) = judged-by IsLogin _ _ (λ _. login-outcome [] _)
-  verdict-control q (of-text id password) = judged-by IsLogin _ _ (λ _. login-outcome [] _)
   verdict-control q (of-md5 id digest) = judged-by IsLogin _ _ (λ _. login-outcome [] _)
   verdict-control q of-other = judged-by IsLogin _ _ (λ _. login-outcome [] _)
   verdict-control q (of-config x) = judged-by IsLogin _ _ (λ _. login-outcome (l .challenge) _)
@@ -762,7 +709,6 @@ module _ (k : Kept) (l : Lent) (r : List ℕ) where
   control-open : (q : Request) → OfControl q → isClose q ≡ false
   unfolding isClose
   control-open q (of-open version) = refl
-  control-open q (of-text id password) = refl
   control-open q (of-md5 id digest) = refl
   control-open q of-other = refl
   control-open q (of-config x) = refl
@@ -813,10 +759,6 @@ module _ (k : Kept) (l : Lent) (r : List ℕ) where
   unfolding replyBytes shapeOf bodyBytes opaques be32s be32
   challenge-body s t m c shown = body-sent s t m c _ _ ∙ ap (λ (x : List ℕ). be32 0 ++ (be32 2 ++ x)) (append-nil shown)
 
-  text-body : (s t m c : ℕ) (shown : List ℕ) → bodyIn (replyBytes s t m c Reply.TextAuth shown) ≡ be32 0 ++ be32 1
-  unfolding replyBytes shapeOf bodyBytes opaques be32s be32
-  text-body s t m c shown = body-sent s t m c _ _
-
   refused-body : (s t c e : ℕ) → messageWord r ≡ 0x103 → bodyIn (replyBytes s t (messageWord r) c (refusedIn r e) []) ≡ be32 e ++ be32 0
   unfolding rowOf look choose be32
   refused-body s t c e m =
@@ -827,13 +769,9 @@ module _ (k : Kept) (l : Lent) (r : List ℕ) where
   unfolding authAttributes choose
   gives-md5 = refl
 
-  gives-text : authAttributes (k .session .login) (l .challenge) 1 ≡ accept Reply.TextAuth (k .session .login)
+  gives-none : (type : ℕ) → (type ≡ 2 → ⊥) → authAttributes (k .session .login) (l .challenge) type ≡ refuse 9
   unfolding authAttributes choose
-  gives-text = refl
-
-  gives-none : (type : ℕ) → (type ≡ 1 → ⊥) → (type ≡ 2 → ⊥) → authAttributes (k .session .login) (l .challenge) type ≡ refuse 9
-  unfolding authAttributes choose
-  gives-none type t m = rw (ne-eqb type 2 m, ne-eqb type 1 t)
+  gives-none type m = rw (ne-eqb type 2 m)
 
 pub attributes-asked : (k : Kept) (l : Lent) (r : List ℕ) → Heard k l r → messageWord r ≡ 0x103 → AttributesAsked k l r
 attributes-asked k l r h m =
@@ -841,9 +779,25 @@ attributes-asked k l r h m =
     let q = asked k l r m in
     record {
       md5 = λ e w. ap bodyIn (replied k l r h 2 (q ∙ read-md5 b e w) Reply.Challenge _ (gives-md5 k l r)) ∙ challenge-body k l r _ _ _ _ (l .challenge);
-      text = λ e w. ap bodyIn (replied k l r h 1 (q ∙ read-text b e w) Reply.TextAuth _ (gives-text k l r)) ∙ text-body k l r _ _ _ _ (l .challenge);
-      other = λ s t d. ap bodyIn (refused k l r h (word b 0) (q ∙ read-other b s t d) (gives-none k l r (word b 0) t d)) ∙ refused-body k l r _ _ _ 9 m;
+      other = λ s d. ap bodyIn (refused k l r h (word b 0) (q ∙ read-other b s d) (gives-none k l r (word b 0) d)) ∙ refused-body k l r _ _ _ 9 m;
       short = λ s. q ∙ read-short b s;
-      long-text = λ s w. q ∙ read-long-text b s w;
-      long-md5 = λ s w. q ∙ read-long-md5 b s w;
+      long = λ s w. q ∙ read-long b s w;
     }
+
+-- ---- 0x901 of another type
+module _ (k : Kept) (l : Lent) (r : List ℕ) (h : Heard k l r) (m : messageWord r ≡ 0x901) (s : 4 ≤ length (bodyOf r)) (t : word (bodyOf r) 0 ≡ 2 → ⊥) where
+  withdrawn-is : requestIn r ≡ Request.Connect ConnectRequest.OtherAuth
+  unfolding rowOf look choose
+  withdrawn-is = ap (λ (n : ℕ). decoded (messageOf n) (bodyOf r)) m ∙ read-withdrawn (bodyOf r) s t
+
+  login-left : (q : Request) → requestIn r ≡ q → q ≡ Request.Connect ConnectRequest.OtherAuth → after k l r (requestIn r) ≡ k .session .login
+  unfolding after
+  login-left q e f = rw (e, f)
+
+  pub withdrawn-asked : WithdrawnAsked k l r
+  withdrawn-asked =
+      record {
+        told = refused-login-body k l r 9 m (untyped k l r h withdrawn-is);
+        leaves = control k l r h (rw withdrawn-is of-other);
+        login = login-after k l r h ∙ login-left _ refl withdrawn-is;
+      }

@@ -43,7 +43,7 @@ use Rattle.rules_parts.specs.declared.types.Mover.{Mover}
 use Rattle.rules_parts.specs.declared.types.Tape.{Tape}
 use Rattle.rules_parts.specs.declared.types.Changer.{Changer}
 use Rattle.rules_parts.specs.declared.types.Login.{Login}
-use Rattle.codes.specs.Codes.{textAuth, md5Auth, longestRecord, deviceOpened, permissionDenied, notOpen, illegalArguments, badFile, noDevice, illegalState}
+use Rattle.codes.specs.Codes.{md5Auth, longestRecord, deviceOpened, permissionDenied, notOpen, illegalArguments, badFile, noDevice, illegalState}
 use Rattle.rules.specs.Judge.{test, refuse, accept, judge, Accepts, Refuses}
 use Rattle.rules.specs.DataService.{dataState, dataListen, dataStart, dataEnvironment, dataStop, dataStep}
 use Rattle.rules.specs.MoverService.{moverState, moverListen, moverContinue, moverStop, setWindow, moverRead, setSize, moverStep}
@@ -107,7 +107,6 @@ scsi-zero c (ScsiRequest.Cdb cdb room) body = judged-by Zero _ _ (λ _. run-zero
 connect-zero : (fresh : Bool) (g : Login) (a : List ℕ) (q : ConnectRequest) (body : List ℕ) → Accepts Zero (connectStep fresh g a q body)
 unfolding connectStep connectOpen clientAuth numberOf Accepts
 connect-zero fresh g a (ConnectRequest.Open version) body = accepts Zero _ _ _ (λ _. refl)
-connect-zero fresh g a (ConnectRequest.Auth id password) body = accepts Zero _ _ _ (λ _. refl)
 connect-zero fresh g a (ConnectRequest.Md5Auth id digest) body = accepts Zero _ _ _ (λ _. refl)
 connect-zero fresh g a ConnectRequest.OtherAuth body = tt
 connect-zero fresh g a ConnectRequest.Close body = refl
@@ -116,7 +115,7 @@ config-zero : (g : Login) (c : List ℕ) (q : ConfigRequest) → Accepts Zero (c
 unfolding configStep authAttributes numberOf Accepts
 config-zero g c ConfigRequest.ConnectionType = refl
 config-zero g c (ConfigRequest.AuthAttributes type) =
-    by-test (Accepts Zero) (eqb type md5Auth) _ _ (λ _. refl) (λ _. by-test (Accepts Zero) (eqb type textAuth) _ _ (λ _. refl) (λ _. tt))
+    by-test (Accepts Zero) (eqb type md5Auth) _ _ (λ _. refl) (λ _. tt)
 config-zero g c ConfigRequest.ServerInfo = refl
 
 -- of the tape: 0, or what the last test lets pass
@@ -199,7 +198,6 @@ scsi-refuses c (ScsiRequest.Cdb cdb room) body = refuses-behind isNumber _ (run-
 connect-refuses : (fresh : Bool) (g : Login) (a : List ℕ) (q : ConnectRequest) (body : List ℕ) → Refuses Refusal (connectStep fresh g a q body)
 unfolding connectStep connectOpen clientAuth isNumber isOneOf isRefusal Refuses choose
 connect-refuses fresh g a (ConnectRequest.Open version) body = accepts-all isNumber _ _ _ refl
-connect-refuses fresh g a (ConnectRequest.Auth id password) body = accepts-all isNumber _ _ _ refl
 connect-refuses fresh g a (ConnectRequest.Md5Auth id digest) body = accepts-all isNumber _ _ _ refl
 connect-refuses fresh g a ConnectRequest.OtherAuth body = refl
 connect-refuses fresh g a ConnectRequest.Close body = tt
@@ -208,7 +206,7 @@ config-refuses : (g : Login) (c : List ℕ) (q : ConfigRequest) → Refuses Refu
 unfolding configStep authAttributes isNumber isOneOf isRefusal Refuses choose
 config-refuses g c ConfigRequest.ConnectionType = tt
 config-refuses g c (ConfigRequest.AuthAttributes type) =
-    by-test (Refuses Refusal) (eqb type md5Auth) _ _ (λ _. tt) (λ _. by-test (Refuses Refusal) (eqb type textAuth) _ _ (λ _. tt) (λ _. refl))
+    by-test (Refuses Refusal) (eqb type md5Auth) _ _ (λ _. tt) (λ _. refl)
 config-refuses g c ConfigRequest.ServerInfo = tt
 
 -- ---- the tape's: its own number is given only where it is a refusal

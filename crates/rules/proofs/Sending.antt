@@ -7,7 +7,7 @@ use mathlib.Core.List.{List, []}
 use lib.ListN.{length, getD}
 use lib.Dec.{eqb}
 use borrow.Author.Tests.{eqb-true, ltb-false}
-use Rattle.codes.specs.Codes.{senseBytes, tcpAddress, textAuth, md5Auth, mostLent, storeLength, challengeLength}
+use Rattle.codes.specs.Codes.{senseBytes, tcpAddress, md5Auth, mostLent, storeLength, challengeLength}
 use Rattle.xdr.specs.Choose.{choose, least}
 use Rattle.xdr.proofs.Tests.{by-test, least-right, yes}
 use Rattle.wire_layouts.specs.AddressLists.{lendable}
@@ -105,7 +105,6 @@ scsi-sends c (ScsiRequest.Cdb cdb room) body = judged-by Sends _ _ (λ _. run-se
 pub connect-sends : (fresh : Bool) (g : Login) (a : List ℕ) (q : ConnectRequest) (body : List ℕ) → Accepts Sends (connectStep fresh g a q body)
 unfolding connectStep connectOpen clientAuth Sendable Accepts
 connect-sends fresh g a (ConnectRequest.Open version) body = accepts Sends _ _ _ (λ _. tt)
-connect-sends fresh g a (ConnectRequest.Auth id password) body = accepts Sends _ _ _ (λ _. tt)
 connect-sends fresh g a (ConnectRequest.Md5Auth id digest) body = accepts Sends _ _ _ (λ _. tt)
 connect-sends fresh g a ConnectRequest.OtherAuth body = tt
 connect-sends fresh g a ConnectRequest.Close body = tt
@@ -116,7 +115,7 @@ unfolding configStep authAttributes Sendable Accepts
 config-sends g c ConfigRequest.ConnectionType h = tt
 config-sends g c (ConfigRequest.AuthAttributes type) h =
     let P : Outcome Login → Type 0 = Accepts (λ r _. Sendable r c) in
-    by-test P (eqb type md5Auth) _ _ (λ _. h) (λ _. by-test P (eqb type textAuth) _ _ (λ _. tt) (λ _. tt))
+    by-test P (eqb type md5Auth) _ _ (λ _. h) (λ _. tt)
 config-sends g c ConfigRequest.ServerInfo h = tt
 
 -- of the mover, with the list that it is lent

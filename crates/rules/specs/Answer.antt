@@ -216,7 +216,6 @@ unfoldable pub isClose : Request → Bool
 isClose Request.Unknown = false
 isClose Request.Bad = false
 isClose (Request.Connect (ConnectRequest.Open version)) = false
-isClose (Request.Connect (ConnectRequest.Auth id password)) = false
 isClose (Request.Connect (ConnectRequest.Md5Auth id digest)) = false
 isClose (Request.Connect ConnectRequest.OtherAuth) = false
 isClose (Request.Connect ConnectRequest.Close) = true

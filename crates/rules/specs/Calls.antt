@@ -26,7 +26,7 @@ use Rattle.rules_parts.specs.Names.{leastRoom}
 use Rattle.rules.specs.Judge.{refuse, Accepts, Refuses}
 use Rattle.rules_parts.specs.Parts.{newSession}
 use Rattle.rules.specs.TapeService.{isRefusal}
-use Rattle.rules.specs.Connection.{rightText, rightDigest}
+use Rattle.rules.specs.Connection.{rightDigest}
 use Rattle.rules.specs.Relation.{keeps}
 use Rattle.rules.specs.Answer.{Kept, Lent, held, Answered, answered, silent, closing, replying, messageIn, requestIn, verdict, refusing, refusedIn}
 use Rattle.rules.specs.Order.{isOneOf, Call, run}
@@ -109,15 +109,11 @@ pub record RefusalsOfCalls : Type 0 where
   pub accepted : (k : Kept) (l : Lent) (r : List ℕ) (q : Request) → Accepts (λ reply _. isDone q (numberOf reply) ≡ true) (verdict k l r q)
   -- and that of a refused one is a refusal of the table: not 0, and no outcome of the tape
   pub refusing : (k : Kept) (l : Lent) (r : List ℕ) (q : Request) → Refuses (λ e. isNumber e ≡ true) (verdict k l r q)
-  -- 1 and 18 in the header, 4 at a wrong login by text or by MD5, and 9 at one of another type, whatever is behind it
+  -- 1 and 18 in the header, 4 at a wrong login by MD5, and 9 at one of another type, whatever is behind it
   pub unhandled : (k : Kept) (l : Lent) (r : List ℕ) → Heard k l r → messageIn r ≡ Message.Unknown
       → answered k l r ≡ replying r (l .time) (Reply.Header notSupported) [] k
   pub undecoded : (k : Kept) (l : Lent) (r : List ℕ) → Heard k l r → requestIn r ≡ Request.Bad
       → answered k l r ≡ replying r (l .time) (Reply.Header undecodable) [] k
-  pub unproven : (k : Kept) (l : Lent) (r : List ℕ) (id password : Text) → Heard k l r
-      → requestIn r ≡ Request.Connect (ConnectRequest.Auth id password)
-      → rightText (l .accounts) (bytesAt (bodyOf r) id) (bytesAt (bodyOf r) password) ≡ false
-      → answered k l r ≡ replying r (l .time) (refusedIn r notAuthorized) [] k
   pub undigested : (k : Kept) (l : Lent) (r : List ℕ) (id digest : Text) → Heard k l r
       → requestIn r ≡ Request.Connect (ConnectRequest.Md5Auth id digest)
       → rightDigest (k .session .login) (l .accounts) (bytesAt (bodyOf r) id) (bytesAt (bodyOf r) digest) ≡ false

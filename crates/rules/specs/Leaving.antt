@@ -6,9 +6,9 @@ use mathlib.Core.List.{List, [], _∷_, _++_}
 use mathlib.Core.Path.{_≡_}
 use lib.ListN.{length}
 use lib.Dec.{eqb}
-use Rattle.codes.specs.Codes.{longestRecord, notSupported, notAuthorized, ioError, illegalArguments, illegalState, undecodable, versionFour, textAuth, md5Auth, atMark, atEnd, writeMarks}
+use Rattle.codes.specs.Codes.{longestRecord, notSupported, notAuthorized, ioError, illegalArguments, illegalState, undecodable, versionFour, md5Auth, atMark, atEnd, writeMarks}
 use Rattle.xdr.specs.Choose.{choose}
-use Rattle.xdr.specs.Xdr.{be32}
+use Rattle.xdr.specs.Xdr.{be32, word}
 use Rattle.tape_image.specs.Image.{capacity, count, entryLen, faulty}
 use Rattle.tape_spacing.specs.Spacing.{goesForward, PassedMark, endOf}
 use Rattle.tape_writing.specs.Writing.{roomFor, written, withMarks}
@@ -32,12 +32,12 @@ use Rattle.wire_replies.specs.Replies.{numberOf, headerError, bodyBytes, shapeO
 use Rattle.wire_replies.specs.Numbers.{placeOf, numberIn, bodyIn, bare}
 use Rattle.rules_parts.specs.declared.types.Session.{Session}
 use Rattle.rules_parts.specs.Names.{dataHalted, dataConnected, moverListening, moverActive}
-use Rattle.rules.specs.Connection.{rightText, rightDigest}
+use Rattle.rules.specs.Connection.{rightDigest}
 use Rattle.rules.specs.Environment.{dumpBytes, Starts, Answering}
 use Rattle.rules.specs.Answer.{Kept, Lent, held, Answered, answered, requestIn}
 use Rattle.rules.specs.Order.{isOneOf}
 use Rattle.rules.specs.Calls.{Heard}
-use Rattle.rules.specs.Login.{LoginHolds, OfControl, ControlLeaves, AttributesAsked}
+use Rattle.rules.specs.Login.{LoginHolds, OfControl, ControlLeaves, AttributesAsked, WithdrawnAsked}
 
 -- ---- what a number leaves
 -- n is k after one message more, with the "first request" mark gone and the tape at a position of which P holds, and nothing else changed
@@ -83,14 +83,12 @@ beforeLogin k l r Request.Unknown = notSupported
 beforeLogin k l r Request.Bad = undecodable
 beforeLogin k l r (Request.Connect (ConnectRequest.Open version)) =
     choose (k .session .first) (choose (eqb version versionFour) 0 illegalArguments) illegalState
-beforeLogin k l r (Request.Connect (ConnectRequest.Auth id password)) =
-    choose (rightText (l .accounts) (bytesAt (bodyOf r) id) (bytesAt (bodyOf r) password)) 0 notAuthorized
 beforeLogin k l r (Request.Connect (ConnectRequest.Md5Auth id digest)) =
     choose (rightDigest (k .session .login) (l .accounts) (bytesAt (bodyOf r) id) (bytesAt (bodyOf r) digest)) 0 notAuthorized
 beforeLogin k l r (Request.Connect ConnectRequest.OtherAuth) = illegalArguments
 beforeLogin k l r (Request.Connect ConnectRequest.Close) = 0
 beforeLogin k l r (Request.Config ConfigRequest.ConnectionType) = notAuthorized
-beforeLogin k l r (Request.Config (ConfigRequest.AuthAttributes type)) = choose (isOneOf (textAuth ∷ md5Auth ∷ []) type) 0 illegalArguments
+beforeLogin k l r (Request.Config (ConfigRequest.AuthAttributes type)) = choose (eqb type md5Auth) 0 illegalArguments
 beforeLogin k l r (Request.Config ConfigRequest.ServerInfo) = 0
 beforeLogin k l r (Request.Scsi q) = notAuthorized
 beforeLogin k l r (Request.Tape q) = notAuthorized
@@ -204,6 +202,8 @@ pub record CallsLeave : Type 0 where
       → bodyIn (answered k l r .reply) ≡ bodyBytes (shapeOf (ServerInfo (k .session .login .authorized)) [])
   -- 0x103, of any client, by its bytes
   pub attributes : (k : Kept) (l : Lent) (r : List ℕ) → Heard k l r → messageWord r ≡ 0x103 → AttributesAsked k l r
+  -- and so 0x901 of every type but 2, "Text login is withdrawn"
+  pub withdrawn : (k : Kept) (l : Lent) (r : List ℕ) → Heard k l r → messageWord r ≡ 0x901 → 4 ≤ length (bodyOf r) → (word (bodyOf r) 0 ≡ 2 → ⊥) → WithdrawnAsked k l r
   -- no request but TAPE write and MTIO 5 changes the image
   pub touched : (k : Kept) (l : Lent) (r : List ℕ) → Touched k (requestIn r) (bodyOf r) (answered k l r .next .image)
   pub writes : Writes

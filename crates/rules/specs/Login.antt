@@ -1,6 +1,6 @@
 -- Who becomes authorized, and by which challenge (02 No. 2): "The newest challenge is the one judged." It is said by the calls alone: a request
 -- of 0x103 is taken by its bytes, a login as it is decoded (`requestIn`) and the accounts that are lent with it as they are read (`entriesIn`). Against it the
--- definitions of a login are held, not those of decoding, nor those of reading accounts.
+-- definitions of a login are held, not those of decoding, nor those of reading accounts. That text login is withdrawn (02 No. 10) is said by the bytes.
 use Prim.Native.Nat.{ℕ, _+_, _%_, _^_, _≤_, _<_}
 use mathlib.Core.Bool.{Bool, true, false}
 use mathlib.Core.List.{List, [], _∷_, _++_}
@@ -12,7 +12,7 @@ use Rattle.xdr.specs.Choose.{choose}
 use Rattle.xdr.specs.Xdr.{word, be32}
 use Rattle.wire_frame.specs.Frame.{wellFramed, kindOf, messageWord, bodyOf}
 use Rattle.wire_accounts.specs.Accounts.{AccountEntry, entriesIn}
-use Rattle.wire_accounts.specs.Holds.{ByText, ByMd5}
+use Rattle.wire_accounts.specs.Holds.{ByMd5}
 use Rattle.wire_layouts.specs.declared.Text.{Text}
 use Rattle.wire_requests.specs.Within.{bytesAt}
 use Rattle.wire_requests.specs.declared.ConnectRequest.the-variants as ConnectRequest
@@ -73,13 +73,14 @@ pub data Among {A : Type 0} (P : A → Type 0) : List A → Type 0 where
   here : {x : A} {xs : List A} → P x → Among P (x ∷ xs)
   later : {x : A} {xs : List A} → Among P xs → Among P (x ∷ xs)
 
--- CONNECT auth of type 1 with the id and the password of a text entry of the accounts that are lent with it, or of type 2 with the id of an MD5 entry and
--- the digest of its password and the newest challenge
-pub data LogsIn (n : Newest) (c : Call) : Type 0 where
-  by-text : (id password : Text) → requestIn (c .ask .request) ≡ Request.Connect (ConnectRequest.Auth id password)
-      → Among (ByText (bytesAt (bodyOf (c .ask .request)) id) (bytesAt (bodyOf (c .ask .request)) password)) (entriesIn (c .lent .accounts)) → LogsIn n c
-  by-md5 : (id digest : Text) (challenge : List ℕ) → requestIn (c .ask .request) ≡ Request.Connect (ConnectRequest.Md5Auth id digest) → n ≡ given challenge
-      → Among (ByMd5 (bytesAt (bodyOf (c .ask .request)) id) challenge (bytesAt (bodyOf (c .ask .request)) digest)) (entriesIn (c .lent .accounts)) → LogsIn n c
+-- CONNECT auth of type 2 with the id of an MD5 entry of the accounts that are lent with it, and the digest of its password and the newest challenge
+pub record LogsIn (n : Newest) (c : Call) : Type 0 where
+  pub id : Text
+  pub digest : Text
+  pub challenge : List ℕ
+  pub asked : requestIn (c .ask .request) ≡ Request.Connect (ConnectRequest.Md5Auth id digest)
+  pub held : n ≡ given challenge
+  pub entry : Among (ByMd5 (bytesAt (bodyOf (c .ask .request)) id) challenge (bytesAt (bodyOf (c .ask .request)) digest)) (entriesIn (c .lent .accounts))
 
 -- a call among these logs in, with the challenge that is the newest there
 pub data Entered : Newest → Kept → List Call → Type 0 where
@@ -98,10 +99,7 @@ pub record LoginHolds : Type 0 where
   -- the replies to a login, whether the client is logged in already or not
   pub right : (k : Kept) (c : Call) → Heard k (c .lent) (c .ask .request) → LogsIn (newestOf (k .session .login)) c
       → bodyIn (answered k (c .lent) (c .ask .request) .reply) ≡ be32 0
-  pub wrong-text : (k : Kept) (c : Call) (id password : Text) → Heard k (c .lent) (c .ask .request) → messageWord (c .ask .request) ≡ 0x901
-      → requestIn (c .ask .request) ≡ Request.Connect (ConnectRequest.Auth id password) → (LogsIn (newestOf (k .session .login)) c → ⊥)
-      → bodyIn (answered k (c .lent) (c .ask .request) .reply) ≡ be32 notAuthorized
-  pub wrong-md5 : (k : Kept) (c : Call) (id digest : Text) → Heard k (c .lent) (c .ask .request) → messageWord (c .ask .request) ≡ 0x901
+  pub wrong : (k : Kept) (c : Call) (id digest : Text) → Heard k (c .lent) (c .ask .request) → messageWord (c .ask .request) ≡ 0x901
       → requestIn (c .ask .request) ≡ Request.Connect (ConnectRequest.Md5Auth id digest) → (LogsIn (newestOf (k .session .login)) c → ⊥)
       → bodyIn (answered k (c .lent) (c .ask .request) .reply) ≡ be32 notAuthorized
   -- a new session is nobody's, and no challenge was given
@@ -126,7 +124,6 @@ pub record LoginAlone (k n : Kept) : Type 0 where
 -- the requests of CONNECT but a close, and those of CONFIG
 pub data OfControl : Request → Type 0 where
   of-open : (version : ℕ) → OfControl (Request.Connect (ConnectRequest.Open version))
-  of-text : (id password : Text) → OfControl (Request.Connect (ConnectRequest.Auth id password))
   of-md5 : (id digest : Text) → OfControl (Request.Connect (ConnectRequest.Md5Auth id digest))
   of-other : OfControl (Request.Connect ConnectRequest.OtherAuth)
   of-config : (q : ConfigRequest) → OfControl (Request.Config q)
@@ -138,11 +135,16 @@ pub record ControlLeaves (k : Kept) (a : Answered) : Type 0 where
 -- ---- 0x103, by its bytes
 pub record AttributesAsked (k : Kept) (l : Lent) (r : List ℕ) : Type 0 where
   pub md5 : length (bodyOf r) ≡ 4 → word (bodyOf r) 0 ≡ 2 → bodyIn (answered k l r .reply) ≡ be32 0 ++ (be32 2 ++ l .challenge)
-  pub text : length (bodyOf r) ≡ 4 → word (bodyOf r) 0 ≡ 1 → bodyIn (answered k l r .reply) ≡ be32 0 ++ be32 1
-  -- "9 for a type other than 1 and 2, its rest unread"
-  pub other : 4 ≤ length (bodyOf r) → (word (bodyOf r) 0 ≡ 1 → ⊥) → (word (bodyOf r) 0 ≡ 2 → ⊥)
-      → bodyIn (answered k l r .reply) ≡ be32 illegalArguments ++ be32 0
-  -- a body that is short, and one with a byte behind the types 1 and 2, does not decode
+  -- "9 for type 1, at 0x103 too, its rest unread", as for every type but 2
+  pub other : 4 ≤ length (bodyOf r) → (word (bodyOf r) 0 ≡ 2 → ⊥) → bodyIn (answered k l r .reply) ≡ be32 illegalArguments ++ be32 0
+  -- a body that is short, and one with a byte behind the type 2, does not decode
   pub short : length (bodyOf r) < 4 → requestIn r ≡ Request.Bad
-  pub long-text : 4 < length (bodyOf r) → word (bodyOf r) 0 ≡ 1 → requestIn r ≡ Request.Bad
-  pub long-md5 : 4 < length (bodyOf r) → word (bodyOf r) 0 ≡ 2 → requestIn r ≡ Request.Bad
+  pub long : 4 < length (bodyOf r) → word (bodyOf r) 0 ≡ 2 → requestIn r ≡ Request.Bad
+
+-- ---- 0x901, by its bytes
+-- "9 for type 1, .. its rest unread, before any account is looked at", as for every type but 2: the reply is 9 alone, and what follows hangs on no
+-- account and on no byte behind the type; of the session only the counter and the mark change, so that who is logged in stays so
+pub record WithdrawnAsked (k : Kept) (l : Lent) (r : List ℕ) : Type 0 where
+  pub told : bodyIn (answered k l r .reply) ≡ be32 illegalArguments
+  pub leaves : ControlLeaves k (answered k l r)
+  pub login : answered k l r .next .session .login ≡ k .session .login

@@ -5,7 +5,7 @@ ghost use Prim.Native.Nat.{ℕ};
 ghost use Rattle.wire_requests.specs.Within.{bytesAt, Within, textsWithin};
 ghost use Rattle.wire_requests.specs.declared.Request.the-variants as Request;
 ghost use Rattle.rules_parts.specs.declared.types.Login.{Login};
-ghost use Rattle.rules.specs.Connection.{connectOpen, rightText, rightDigest, clientAuth, connectStep, authAttributes, configStep};
+ghost use Rattle.rules.specs.Connection.{connectOpen, rightDigest, clientAuth, connectStep, authAttributes, configStep};
 ghost use Rattle.rules.specs.Answer.{needsLogin, isLocked, isClose};
 ghost use Rattle.serve_connect.specs.Done.{changed, outcomeOf};
 use rules_parts::types::Login;
@@ -52,18 +52,6 @@ fn open(fresh: bool, version: u32) -> LoginDone
     LoginDone::Accept(Reply::Plain, LoginChange::Nothing)
 }
 
-// Whether a text login is right.
-fn is_text_right(accounts: &[u8], body: &[u8], id: Text, password: Text) -> bool
-    requires { ⌜ Within (now body) id × Within (now body) password ⌝ }
-    ensures { λ r. ⌜ r ≡ rightText (now (accounts .entry)) (bytesAt (now (body .entry)) id) (bytesAt (now (body .entry)) password) ⌝ }
-{
-    let id_at = id.start;
-    let id_end = id_at + id.len;
-    let at = password.start;
-    let end = at + password.len;
-    wire_accounts::lets_in_by_text(accounts, &body[id_at..id_end], &body[at..end])
-}
-
 // Whether an MD5 login is right, judged by the challenge that the client was given last.
 fn is_digest_right(g: Login, accounts: &[u8], body: &[u8], id: Text, digest: Text) -> bool
     requires { ⌜ Within (now body) id × Within (now body) digest ⌝ }
@@ -97,10 +85,6 @@ pub fn serve(fresh: bool, g: Login, q: ConnectRequest, body: &[u8], accounts: &[
 {
     match q {
         ConnectRequest::Open(version) => open(fresh, version),
-        ConnectRequest::Auth(id, password) => {
-            let right = is_text_right(accounts, body, id, password);
-            auth(right)
-        }
         ConnectRequest::Md5Auth(id, digest) => {
             let right = is_digest_right(g, accounts, body, id, digest);
             auth(right)
@@ -110,15 +94,12 @@ pub fn serve(fresh: bool, g: Login, q: ConnectRequest, body: &[u8], accounts: &[
     }
 }
 
-// The attributes of an auth type: those of MD5 are the challenge.
+// The attributes of an auth type: those of MD5 are the challenge, and every other type is refused.
 fn attributes(auth: u32) -> LoginDone
     ensures { λ r. ⌜ ((g : Login) (challenge : List ℕ) → outcomeOf g challenge r ≡ authAttributes g challenge auth) ⌝ }
 {
     if auth == codes::MD5_AUTH {
         return LoginDone::Accept(Reply::Challenge, LoginChange::Challenged);
-    }
-    if auth == codes::TEXT_AUTH {
-        return LoginDone::Accept(Reply::TextAuth, LoginChange::Nothing);
     }
     LoginDone::Refuse(codes::ILLEGAL_ARGUMENTS)
 }
@@ -145,7 +126,6 @@ pub fn is_close(q: ConnectRequest) -> bool
 {
     match q {
         ConnectRequest::Open(_) => false,
-        ConnectRequest::Auth(_, _) => false,
         ConnectRequest::Md5Auth(_, _) => false,
         ConnectRequest::OtherAuth => false,
         ConnectRequest::Close => true,

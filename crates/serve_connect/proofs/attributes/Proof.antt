@@ -13,9 +13,5 @@ returns-2 : tie.Need-returns-2
 unfolding authAttributes
 returns-2 c = search picking depth 10
 
-returns-3 : tie.Need-returns-3
-unfolding authAttributes
-returns-3 c = search picking depth 10
-
 pub attributes-spec : {M : Type 1} → statement M
-attributes-spec = tie.close (tie.spec returns returns-2 returns-3)
+attributes-spec = tie.close (tie.spec returns returns-2)

@@ -19,9 +19,6 @@ enum-told-3 c = search needs
 enum-told-4 : tie.Need-enum-told-4
 enum-told-4 c = search needs
 
-enum-told-5 : tie.Need-enum-told-5
-enum-told-5 c = search needs
-
 returns : tie.Need-returns
 unfolding isClose
 returns c = rw (c .enum-told .given .1) refl
@@ -38,10 +35,6 @@ returns-4 : tie.Need-returns-4
 unfolding isClose
 returns-4 c = rw (c .enum-told4 .given .1) refl
 
-returns-5 : tie.Need-returns-5
-unfolding isClose
-returns-5 c = rw (c .enum-told5 .given .1) refl
-
 pub is-close-spec : {M : Type 1} → statement M
 is-close-spec =
     tie.close
@@ -50,9 +43,7 @@ is-close-spec =
     enum-told-2
     enum-told-3
     enum-told-4
-    enum-told-5
     returns
     returns-2
     returns-3
-    returns-4
-    returns-5)
+    returns-4)

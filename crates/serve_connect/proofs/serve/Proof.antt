@@ -9,7 +9,6 @@ use Rattle.serve_connect.proofs.serve.Reads as reads
 use Rattle.serve_connect.proofs.serve.Lts as lts
 use Rattle.serve_connect.proofs.auth.Reads as auth-reads
 use Rattle.serve_connect.proofs.is_digest_right.Reads as is-digest-right-reads
-use Rattle.serve_connect.proofs.is_text_right.Reads as is-text-right-reads
 use Rattle.serve_connect.proofs.open.Reads as open-reads
 
 enum-known-q : tie.Need-enum-known-q
@@ -21,22 +20,12 @@ open-requires c κs = search needs
 enum-known-q-2 : tie.Need-enum-known-q-2
 enum-known-q-2 c = search needs
 
-is-text-right-requires : tie.Need-is-text-right-requires
+is-digest-right-requires : tie.Need-is-digest-right-requires
 unfolding textsWithin
-is-text-right-requires c κs = rw (c .before .q2 .given .1) at (c .before .before .before .before .before .pre)
+is-digest-right-requires c κs = rw (c .before .q2 .given .1) at (c .before .before .before .before .before .pre)
 
 auth-requires : tie.Need-auth-requires
 auth-requires c κs = search needs
-
-enum-known-q-3 : tie.Need-enum-known-q-3
-enum-known-q-3 c = search needs
-
-is-digest-right-requires : tie.Need-is-digest-right-requires
-unfolding textsWithin
-is-digest-right-requires c κs = rw (c .before .q3 .given .1) at (c .before .before .before .before .before .pre)
-
-auth-requires-2 : tie.Need-auth-requires-2
-auth-requires-2 c κs = search needs
 
 enum-told : tie.Need-enum-told
 enum-told c = search needs
@@ -50,19 +39,15 @@ returns c = λ challenge. rw (c .before .before .q .given .1) (c .«open» .ensu
 
 returns-2 : tie.Need-returns-2
 unfolding connectStep
-returns-2 c = λ challenge. rw (c .before .before .before .q2 .given .1, ← (c .before .is-text-right .ensures)) (c .auth .ensures _ challenge)
+returns-2 c = λ challenge. rw (c .before .before .before .q2 .given .1, ← (c .before .is-digest-right .ensures)) (c .auth .ensures _ challenge)
 
 returns-3 : tie.Need-returns-3
 unfolding connectStep
-returns-3 c = λ challenge. rw (c .before .before .before .q3 .given .1, ← (c .before .is-digest-right .ensures)) (c .auth2 .ensures _ challenge)
+returns-3 c = λ challenge. rw (c .enum-told .given .1) refl
 
 returns-4 : tie.Need-returns-4
 unfolding connectStep
-returns-4 c = λ challenge. rw (c .enum-told .given .1) refl
-
-returns-5 : tie.Need-returns-5
-unfolding connectStep
-returns-5 c = λ challenge. rw (c .enum-told2 .given .1) refl
+returns-4 c = λ challenge. rw (c .enum-told2 .given .1) refl
 
 pub serve-spec : {M : Type 1} → statement M
 serve-spec =
@@ -71,15 +56,11 @@ serve-spec =
     enum-known-q
     open-requires
     enum-known-q-2
-    is-text-right-requires
-    auth-requires
-    enum-known-q-3
     is-digest-right-requires
-    auth-requires-2
+    auth-requires
     enum-told
     enum-told-2
     returns
     returns-2
     returns-3
-    returns-4
-    returns-5)
+    returns-4)
