@@ -20,7 +20,7 @@ def connect_open(version):  # line 13106
     return word(version)
 
 
-def auth_text(name, password):  # lines 13144 and 13132: NDMP_AUTH_TEXT 1
+def auth_text(name, password):  # lines 13144 and 13132: NDMP_AUTH_TEXT 1, which is withdrawn
     return word(1) + opaque(name) + opaque(password)
 
 
@@ -128,8 +128,8 @@ CLOSE = header(1, TIME, 0, 0x902, 0, 0)  # a request with no body
 HANDLED = [
     # every handled message (004, line 13015, the numbers) with a good body
     ('connect_open', request(1, 0x900, connect_open(4)), '1 CONNECT_OPEN version 4'),
-    ('connect_client_auth', request(2, 0x901, auth_text(b'admin', b'secret')),
-     '2 CONNECT_CLIENT_AUTH id 8+5=61646d696e password 20+6=736563726574'),
+    ('connect_client_auth', request(2, 0x901, auth_md5(b'vault', DIGEST)),
+     '2 CONNECT_CLIENT_AUTH id 8+5=7661756c74 digest 16+16=000102030405060708090a0b0c0d0e0f'),
     ('connect_close', request(3, 0x902), '3 CONNECT_CLOSE'),
     ('config_get_connection_type', request(4, 0x102), '4 CONFIG_GET_CONNECTION_TYPE'),
     ('config_get_auth_attr', request(308, 0x103, auth_attr(2)), '308 CONFIG_GET_AUTH_ATTR type 2'),
@@ -222,7 +222,8 @@ UNKNOWN = [
 ]
 
 # "Bytes left over make error 18, except after an address type other than 0 or an auth type other than 1: there the rest is not read."
-# (paper 02, 14: "type 1 no longer leaves bytes unread", of address types; and 2: "9 for a type other than 1 and 2, its rest unread")
+# (paper 02, 14: "type 1 no longer leaves bytes unread", of address types; 2: "9 for a type other than 1 and 2, its rest unread"; and 10: "9 for type
+# 1, at 0x103 too, its rest unread")
 CONNECT = [
     ('open_65540', request(70, 0x900, connect_open(65540)), '70 CONNECT_OPEN version 65540'),
     ('open_all_ones', request(71, 0x900, connect_open(4294967295)), '71 CONNECT_OPEN version 4294967295'),
@@ -239,16 +240,21 @@ CONNECT = [
     ('auth_type_all_ones', request(81, 0x901, word(4294967295)), '81 CONNECT_CLIENT_AUTH other'),
     ('auth_empty', request(82, 0x901), '82 bad'),
     ('auth_type_cut', request(83, 0x901, word(2)[:3]), '83 bad'),
-    ('auth_no_id', request(84, 0x901, word(1)), '84 bad'),
-    ('auth_no_password', request(85, 0x901, word(1) + opaque(b'admin')), '85 bad'),
-    ('auth_password_cut', request(86, 0x901, word(1) + opaque(b'admin') + word(6) + b'secr'), '86 bad'),
-    ('auth_password_no_fill', request(87, 0x901, auth_text(b'admin', b'secret')[:-2]), '87 bad'),
-    ('auth_left_over', request(88, 0x901, auth_text(b'admin', b'secret') + word(0)), '88 bad'),
-    ('auth_empty_texts', request(89, 0x901, auth_text(b'', b'')), '89 CONNECT_CLIENT_AUTH id 8+0= password 12+0='),
-    ('auth_any_bytes', request(90, 0x901, auth_text(b'a\0b', b'\xff\x80\n')),
-     '90 CONNECT_CLIENT_AUTH id 8+3=610062 password 16+3=ff800a'),
+    ('auth_text', request(337, 0x901, auth_text(b'admin', b'secret')), '337 CONNECT_CLIENT_AUTH other'),
+    ('auth_text_bare', request(84, 0x901, word(1)), '84 CONNECT_CLIENT_AUTH other'),
+    ('auth_text_no_password', request(85, 0x901, word(1) + opaque(b'admin')), '85 CONNECT_CLIENT_AUTH other'),
+    ('auth_text_password_cut', request(86, 0x901, word(1) + opaque(b'admin') + word(6) + b'secr'), '86 CONNECT_CLIENT_AUTH other'),
+    ('auth_text_password_no_fill', request(87, 0x901, auth_text(b'admin', b'secret')[:-2]), '87 CONNECT_CLIENT_AUTH other'),
+    ('auth_text_left_over', request(88, 0x901, auth_text(b'admin', b'secret') + word(0)), '88 CONNECT_CLIENT_AUTH other'),
+    ('auth_text_left_over_1', request(338, 0x901, auth_text(b'admin', b'secret') + b'\0'), '338 CONNECT_CLIENT_AUTH other'),
+    ('auth_text_empty_texts', request(89, 0x901, auth_text(b'', b'')), '89 CONNECT_CLIENT_AUTH other'),
+    ('auth_text_rubbish', request(339, 0x901, word(1) + b'\xff\xfe\xfd'), '339 CONNECT_CLIENT_AUTH other'),
+    ('auth_text_length_all_ones', request(340, 0x901, word(1, 0xFFFFFFFF)), '340 CONNECT_CLIENT_AUTH other'),
+    ('auth_text_cut', request(341, 0x901, word(1)[:3]), '341 bad'),
+    ('auth_any_bytes', request(90, 0x901, auth_md5(b'a\0b', b'\xff\x80\n\0' * 4)),
+     '90 CONNECT_CLIENT_AUTH id 8+3=610062 digest 12+16=ff800a00ff800a00ff800a00ff800a00'),
     # paper 02, 6: "Fill bytes that are not zero, after any string or opaque field we read, shall not decode."
-    ('auth_fill_not_zero', request(91, 0x901, word(1) + opaque(b'admin', b'\xff\xff\xff') + opaque(b'secret', b'\x01\x02')), '91 bad'),
+    ('auth_fill_not_zero', request(91, 0x901, word(2) + opaque(b'admin', b'\xff\xff\xff') + DIGEST), '91 bad'),
 ]
 
 # a body on a message without arguments
@@ -404,8 +410,8 @@ def recover_of(*texts):  # a recover of one name, by its four texts
 
 # paper 02, 6: one byte of fill set, in each field that is read and in each place; where the rest is not read, neither is its fill
 FILL = [
-    ('fill_auth_id_last_of_three', request(232, 0x901, word(1) + opaque(b'admin', b'\0\0\1') + opaque(b'noon')), '232 bad'),
-    ('fill_auth_password', request(233, 0x901, word(1) + opaque(b'admin') + opaque(b'secret', b'\0\1')), '233 bad'),
+    ('fill_auth_id_last_of_three', request(232, 0x901, word(2) + opaque(b'admin', b'\0\0\1') + DIGEST), '232 bad'),
+    ('fill_auth_id_of_one', request(233, 0x901, word(2) + opaque(b'adm', b'\1') + DIGEST), '233 bad'),
     ('fill_scsi_device_of_one', request(234, 0x200, opaque(b'changer', b'\1')), '234 bad'),
     ('fill_cdb_first_of_two', request(235, 0x206, word(1, 2, 18) + opaque(CDB, b'\1\0') + opaque(b'')), '235 bad'),
     ('fill_cdb_data_out_middle_of_three', request(236, 0x206, word(1, 2, 18) + opaque(CDB) + opaque(b'x', b'\0\1\0')), '236 bad'),
@@ -422,6 +428,9 @@ FILL = [
     ('fill_recover_name_fourth', request(247, 0x402, recover_of(word(0, 0, 0), opaque(b'abcde', b'\0\0\1'))), '247 bad'),
     ('fill_recover_method', request(248, 0x402, listed([]) + listed([]) + opaque(b'dum', b'\1')), '248 bad'),
     ('fill_behind_auth_type_unread', request(249, 0x901, word(3) + opaque(b'admin', b'\0\0\1')), '249 CONNECT_CLIENT_AUTH other'),
+    ('fill_of_auth_text_id_unread', request(342, 0x901, word(1) + opaque(b'admin', b'\0\0\1') + opaque(b'noon')), '342 CONNECT_CLIENT_AUTH other'),
+    ('fill_of_auth_text_password_unread', request(343, 0x901, word(1) + opaque(b'admin') + opaque(b'secret', b'\0\1')),
+     '343 CONNECT_CLIENT_AUTH other'),
     ('fill_behind_address_type_unread', request(250, 0x409, data_listen(3) + opaque(b'a', b'\0\0\1')), '250 DATA_LISTEN address 3'),
 ]
 
@@ -507,7 +516,8 @@ ENVIRONMENT = [
      '307 DATA_START_RECOVER method 2572+4=64756d70 pairs 4+0'),
 ]
 
-# paper 02, 2: a login by MD5, whose digest is an opaque[16] with no length before it, and the auth type that 0x103 asks about
+# paper 02, 2: a login by MD5, whose digest is an opaque[16] with no length before it, and the auth type that 0x103 asks about; 10: nothing behind type 1
+# is read
 AUTH = [
     ('auth_md5_no_id', request(309, 0x901, auth_md5(b'', DIGEST)), '309 CONNECT_CLIENT_AUTH id 8+0= digest 8+16=000102030405060708090a0b0c0d0e0f'),
     ('auth_md5_length_word', request(310, 0x901, word(2) + opaque(b'admin') + opaque(DIGEST)), '310 bad'),
@@ -521,7 +531,7 @@ AUTH = [
     ('auth_md5_password_12', request(317, 0x901, word(2) + opaque(b'admin') + opaque(b'secretsecret')),
      '317 CONNECT_CLIENT_AUTH id 8+5=61646d696e digest 16+16=0000000c736563726574736563726574'),
     ('auth_md5_password_6', request(318, 0x901, word(2) + opaque(b'admin') + opaque(b'secret')), '318 bad'),
-    ('auth_text_digest', request(319, 0x901, word(1) + opaque(b'admin') + DIGEST), '319 bad'),
+    ('auth_text_digest', request(319, 0x901, word(1) + opaque(b'admin') + DIGEST), '319 CONNECT_CLIENT_AUTH other'),
     ('auth_3_md5_body', request(320, 0x901, word(3) + opaque(b'admin') + DIGEST), '320 CONNECT_CLIENT_AUTH other'),
     ('auth_3_rubbish', request(321, 0x901, word(3) + b'\xff\xfe\xfd'), '321 CONNECT_CLIENT_AUTH other'),
     ('auth_258', request(322, 0x901, word(258)), '322 CONNECT_CLIENT_AUTH other'),
@@ -531,8 +541,10 @@ AUTH = [
     ('auth_attr_none_word', request(326, 0x103, auth_attr(0) + word(2)), '326 CONFIG_GET_AUTH_ATTR type 0'),
     ('auth_attr_258', request(327, 0x103, auth_attr(258)), '327 CONFIG_GET_AUTH_ATTR type 258'),
     ('auth_attr_all_ones', request(328, 0x103, auth_attr(4294967295)), '328 CONFIG_GET_AUTH_ATTR type 4294967295'),
-    ('auth_attr_text_left_over_1', request(329, 0x103, auth_attr(1) + b'\0'), '329 bad'),
-    ('auth_attr_text_left_over_4', request(330, 0x103, auth_attr(1) + word(0)), '330 bad'),
+    ('auth_attr_text_left_over_1', request(329, 0x103, auth_attr(1) + b'\0'), '329 CONFIG_GET_AUTH_ATTR type 1'),
+    ('auth_attr_text_left_over_4', request(330, 0x103, auth_attr(1) + word(0)), '330 CONFIG_GET_AUTH_ATTR type 1'),
+    ('auth_attr_text_rubbish', request(344, 0x103, auth_attr(1) + b'\xff\xfe\xfd'), '344 CONFIG_GET_AUTH_ATTR type 1'),
+    ('auth_attr_text_cut', request(345, 0x103, auth_attr(1)[:3]), '345 bad'),
     ('auth_attr_md5_left_over_1', request(331, 0x103, auth_attr(2) + b'\0'), '331 bad'),
     ('auth_attr_md5_left_over_4', request(332, 0x103, auth_attr(2) + word(0)), '332 bad'),
     ('auth_attr_empty', request(333, 0x103), '333 bad'),

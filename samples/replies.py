@@ -28,7 +28,7 @@ def tcp_addr(address, port, pairs):  # ndmp_tcp_addr, line 13579: ip_addr, port,
     return bytes(int(part) for part in address.split('.')) + word(port) + listed(env)
 
 
-NONE, TEXT, MD5 = 0, 1, 2  # ndmp_auth_type, line 13116
+NONE, MD5 = 0, 2  # ndmp_auth_type, line 13116
 CHALLENGE = b'ABCDEFGHIJKLMNOPQRSTUVWXYZabcdefghijklmnopqrstuvwxyz0123456789+/'  # 64 bytes, no two alike
 
 
@@ -116,9 +116,10 @@ SAMPLES = [
     # paper 02: "Connection types lists 0 and 1"; refused, the list is empty
     ('connection_types', reply(7, 1007, 0x102, 507, connection_type(0, [0, 1]))),
     ('connection_types_refused', reply(8, 1008, 0x102, 508, connection_type(4, []))),
-    # "empty strings before auth, then `vault`, `tape`, `1`"; paper 02: "Server info lists 1 and 2"
-    ('server_info_before_auth', reply(9, 1009, 0x108, 509, server_info(0, b'', b'', b'', [TEXT, MD5]))),
-    ('server_info', reply(10, 1010, 0x108, 510, server_info(0, b'vault', b'tape', b'1', [TEXT, MD5]))),
+    # "empty strings before auth, then `vault`, `tape`, `1`"; paper 02: "Server info lists 1 and 2", and later: "Auth type 1 is
+    # refused and leaves the server info list"
+    ('server_info_before_auth', reply(9, 1009, 0x108, 509, server_info(0, b'', b'', b'', [MD5]))),
+    ('server_info', reply(10, 1010, 0x108, 510, server_info(0, b'vault', b'tape', b'1', [MD5]))),
     ('scsi_state', reply(11, 1011, 0x202, 511, scsi_state(0, 0, 0, 0))),
     ('scsi_state_refused', reply(12, 1012, 0x202, 512, scsi_state(6, 0, 0, 0))),
     ('cdb', reply(13, 1013, 0x206, 513, execute_cdb(0, 0, 0, b'', b''))),
@@ -175,9 +176,8 @@ SAMPLES = [
         0, [(b'TYPE', b'tar'), (b'FILESYSTEM', b'/home'), (b'', b''), (b'PATHNAME_SEPARATOR', b'/')]))),
     ('environment_named', reply(53, 1053, 0x404, 553, get_env(0, [(b'PATHNAME_SEPARATOR', b':'), (b'TYPE', b'tar')]))),
     ('environment_refused', reply(54, 1054, 0x404, 554, get_env(19, []))),
-    # paper 02: "the auth attribute request (0x103), which gives a 64-byte challenge that the host lends"; behind type
-    # TEXT there is nothing; "9 for a type other than 1 and 2"
-    ('auth_attr_text', reply(55, 1055, 0x103, 555, auth_attr(0, TEXT))),
+    # paper 02: "the auth attribute request (0x103), which gives a 64-byte challenge that the host lends"; "9 for type 1, at
+    # 0x103 too", and for all others but MD5
     ('auth_attr_md5', reply(56, 1056, 0x103, 556, auth_attr(0, MD5, CHALLENGE))),
     ('auth_attr_refused', reply(57, 1057, 0x103, 557, auth_attr(9, NONE))),
 ]

@@ -11,16 +11,14 @@ use Rattle.tape_writing.specs.Writing.{kept, roomFor, written, fillTo}
 use Rattle.tape_ops.specs.Operations.{writeStep, mtioStep}
 use Rattle.wire_pairs.specs.Pairs.{textIn, behind, pairsFrom}
 use Rattle.wire_pairs.specs.Store.{pairWords, pairTexts, storeBytes, storing, textBytes, fits, emptied}
-use Rattle.wire_accounts.specs.Accounts.{isKind, withPassword, withId, accountAt, withAccount, andThen, accountsFrom, accountsIn, entriesOf, textMatches, anyOf}
 use Rattle.wire_frame.specs.Frame.{wellFramed, recordBytes}
 use Rattle.wire_frame.specs.Messages.{look, rowOf}
 use Rattle.wire_layouts.specs.Layout as layout
 use Rattle.wire_layouts.specs.Scans.{put, puts, summed, scanned}
 use Rattle.wire_layouts.specs.AddressLists.{isTcp}
-use Rattle.wire_requests.specs.Bodies.{decoded, isMd5, connectBody, tapeBody, dataBody, moverBody, jointBody}
+use Rattle.wire_requests.specs.Bodies.{decoded, tapeBody, dataBody, moverBody, jointBody}
 use Rattle.wire_replies.specs.Replies.{opaques, bodyBytes, shapeOf, headerError, replyBytes}
 use Rattle.rules.specs.Answer.{guarded, roomOf, noticed, outcome, needsLogin, isLocked, verdict, isUnread, refusing, settled, isClose, judged, requested, answered}
-use Rattle.rules.specs.Connection.{connectOpen, rightText, clientAuth, connectStep}
 use Rattle.rules.specs.DataService.{dump, dataStart, dataStop, dataStep, variablesAfter, dataShown}
 use Rattle.rules.specs.Addresses.{listening, unmet}
 use Rattle.rules.specs.Joint.{moverAwaits, dataConnect, jointStep}
@@ -42,16 +40,15 @@ unfolding
     choose allOf be32 be32s word be64 hyper overlay sameBytes allZero opaqueAt opaque headerOk
     tableOk isSound faulty kept roomFor withEntry entryBytes written fillTo least writeStep mtioStep wellFramed
     recordBytes look rowOf layout.pieceOf layout.partAt layout.prepend layout.andPart layout.andGot layout.partsAt layout.timesAt layout.single
-    layout.counted layout.fieldAt layout.andValue layout.andRead layout.readAs put puts summed scanned decoded isMd5 connectBody tapeBody dataBody moverBody jointBody
+    layout.counted layout.fieldAt layout.andValue layout.andRead layout.readAs put puts summed scanned decoded tapeBody dataBody moverBody jointBody
     opaques bodyBytes shapeOf headerError replyBytes guarded noticed outcome needsLogin isLocked verdict isUnread refusing settled isClose judged
-    requested answered connectOpen rightText clientAuth connectStep dump dataStart dataStop dataStep dataConnect jointStep judge onto isAccepted offsetWrong
+    requested answered dump dataStart dataStop dataStep dataConnect jointStep judge onto isAccepted offsetWrong
     moverListen moverContinue moverStop moverRead busy elsewhere setWindow setSize moverStep windowEnd pastTop lengthWrong dataJoined moverJoined holdsTape unwritable dataWrong
     numbersWrong windowWrong startWrong holdWrong strays resumeWrong placeWrong originWrong moverWrong sameFlag keeps tape0 tapeOpen isRefusal
     protects tapeMtio tapeWrite deviceStep tapeStep moverPartStep movedToTape movedFromTape idle streamEnds scant windowUsed filling toTape
     outside seekFrom amount reading onFound seeking fromTape step runs isHeard moverAsked dataAsked jointAsked asked moveShown seen trace recordsIn sum
     padding filledUp handedOver moverNote note noted askedAfter endAfter call blank
     dataPartnered moverPartnered addressWrong listening unmet moverAwaits isTcp fedBy haltsWith untouched asideRequest aside asides atSize lasts backs inTurn recovers
-    isKind withPassword withId accountAt withAccount andThen accountsFrom accountsIn entriesOf textMatches anyOf
     roomOf variablesAfter dataShown textIn behind pairsFrom pairWords pairTexts storeBytes storing textBytes fits emptied
 example-holds =
     record {

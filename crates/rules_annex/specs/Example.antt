@@ -1,11 +1,11 @@
--- A computed instance of the premises: a stream of 10 bytes at record size 4, from the opening of the session on, over two windows there and two
--- windows back, the second of each with no end. Each request is a record as it stands on the wire.
+-- A computed instance of the premises: a stream of 10 bytes at record size 4, from a client's login on, over two windows there and two windows back, the
+-- second of each with no end. Each request is a record as it stands on the wire.
 use Prim.Native.Nat.{ℕ}
 use mathlib.Core.Bool.{Bool, true, false}
 use mathlib.Core.List.{List, [], _∷_, _++_}
 use mathlib.Core.Path.{_≡_}
 use lib.ListN.{replicate}
-use Rattle.codes.specs.Codes.{localAddress, textAuth, versionFour, rewindTape}
+use Rattle.codes.specs.Codes.{localAddress, rewindTape}
 use Rattle.xdr.specs.Xdr.{be32s, be64}
 use Rattle.xdr_opaque.specs.Put.{opaque}
 use Rattle.tape_image.specs.Image.{count, used}
@@ -13,10 +13,8 @@ use Rattle.wire_frame.specs.Frame.{recordBytes}
 use Rattle.rules_parts.specs.Names.{toTapeMode, fromTapeMode, readWrite, endless}
 use Rattle.rules.specs.Answer.{Kept, held}
 use Rattle.rules.specs.Order.{Call}
-use Rattle.rules.specs.Calls.{openedSession}
-use Rattle.rules_moves.specs.Cases.{noVariables}
+use Rattle.rules_moves.specs.Cases.{lending, noVariables, knownSession}
 use Rattle.rules_moves.specs.Sequence.{Event, Asked, ToTape, FromTape, runs}
-use Rattle.rules_moves.specs.Cases.{lending}
 use Rattle.rules_moves.specs.Counts.{trace, recordsIn, sum}
 use Rattle.rules_annex.specs.Used.{Feeds}
 use Rattle.rules_annex.specs.RoundTrip.{Trip, calls, handedOver}
@@ -49,18 +47,16 @@ unfoldable pub blank : List ℕ
 blank = be32s (1 ∷ 4 ∷ 0 ∷ 0 ∷ []) ++ replicate 48 0
 
 abbrev pub started : Kept
-started = held openedSession blank noVariables
+started = held knownSession blank noVariables
 
--- ---- the backup: open, auth, tape open for writing, set record size 4; window (0, 8), listen, connect, start; two records, EOW; from 8 on
+-- ---- the backup: tape open for writing, set record size 4; window (0, 8), listen, connect, start; two records, EOW; from 8 on
 -- a window with no end, continue; a tape write, which is refused; the last two bytes; the end
 abbrev pub stream : List ℕ
 stream = 11 ∷ 12 ∷ 13 ∷ 14 ∷ 15 ∷ 16 ∷ 17 ∷ 18 ∷ 19 ∷ 20 ∷ []
 
 abbrev pub backup : List Event
 backup =
-    asks 0x900 (be32s (versionFour ∷ []))
-    ∷ asks 0x901 (be32s (textAuth ∷ []) ++ (opaque (0x76 ∷ []) ++ opaque (0x70 ∷ 0x77 ∷ [])))
-    ∷ asks 0x300 (opaque (0x74 ∷ 0x61 ∷ 0x70 ∷ 0x65 ∷ 0x30 ∷ []) ++ be32s (readWrite ∷ []))
+    asks 0x300 (opaque (0x74 ∷ 0x61 ∷ 0x70 ∷ 0x65 ∷ 0x30 ∷ []) ++ be32s (readWrite ∷ []))
     ∷ asks 0xA08 (be32s (4 ∷ []))
     ∷ window 0 8
     ∷ asks 0xA01 (be32s (toTapeMode ∷ localAddress ∷ []))

@@ -11,17 +11,16 @@ use Rattle.tape_writing.specs.Writing.{kept, roomFor, written, fillTo}
 use Rattle.tape_ops.specs.Operations.{mtioStep, standingAt}
 use Rattle.wire_pairs.specs.Pairs.{textIn, behind, pairsFrom, separatorName, separator, isNamed, withSeparator, textsOf}
 use Rattle.wire_pairs.specs.Store.{pairWords, pairTexts, storeBytes, storing, textBytes, fits, emptied, laidFrom, isLaid, keptFrom, keptPairs, environmentOf}
-use Rattle.wire_accounts.specs.Accounts.{isKind, withPassword, withId, accountAt, withAccount, andThen, accountsFrom, accountsIn, entriesOf, textMatches, anyOf}
 use Rattle.wire_frame.specs.Frame.{wellFramed, recordBytes}
 use Rattle.wire_frame.specs.Messages.{look, rowOf}
 use Rattle.wire_layouts.specs.Layout as layout
 use Rattle.wire_layouts.specs.Scans.{put, puts, summed, scanned}
 use Rattle.wire_layouts.specs.AddressLists.{isTcp, lendable}
-use Rattle.wire_requests.specs.Bodies.{decoded, isMd5, connectBody, configBody, tapeBody, dataBody, moverBody, jointBody}
+use Rattle.wire_requests.specs.Bodies.{decoded, connectBody, configBody, tapeBody, dataBody, moverBody, jointBody}
 use Rattle.wire_replies.specs.Replies.{opaques, bodyBytes, addressWords, shapeOf, headerError, replyBytes, noticeNumber, noticeWords, noticeBytes}
 use Rattle.rules.specs.Answer.{guarded, roomOf, noticed, outcome, needsLogin, isLocked, verdict, isUnread, refusing, settled, isClose, judged, requested, answered}
 use Rattle.rules.specs.Calls.{opening}
-use Rattle.rules.specs.Connection.{connectOpen, rightText, clientAuth, connectStep, configStep}
+use Rattle.rules.specs.Connection.{connectOpen, connectStep, configStep}
 use Rattle.rules.specs.Addresses.{listening, unmet}
 use Rattle.rules.specs.DataService.{dump, dataListen, dataStart, dataState, hasRun, dataEnvironment, dataStop, dataStep, variablesAfter, dataShown}
 use Rattle.rules.specs.Joint.{dataAwaits, moverAwaits, dataConnect, moverConnect, atRest, dataAborted, dataAbort, moverAborted, moverAbort, moverClosed, moverClose, jointStep}
@@ -32,12 +31,12 @@ use Rattle.rules_parts.specs.Parts.{windowEnd, pastTop, lengthWrong, toldIn, da
 use Rattle.rules.specs.Relation.{dataWrong, numbersWrong, windowWrong, startWrong, holdWrong, strays, resumeWrong, placeWrong}
 use Rattle.rules.specs.Relation.{originWrong, moverWrong, sameFlag, keeps}
 use Rattle.rules.specs.TapeService.{tape0, tapeOpen, isRefusal, protects, tapeState, tapeMtio, deviceStep, tapeStep, moverPartStep}
-use Rattle.rules_moves.specs.Cases.{wordsBytes, wire, wide, runLine, runCase, notices, expect, streamed}
+use Rattle.rules_moves.specs.Cases.{wordsBytes, wire, wide, runLine, runCase, keptAfter, notices, expect, streamed}
 use Rattle.rules_moves.specs.Events.{movedToTape, movedFromTape, methodEnded, connectionMade, connectionLost}
 use Rattle.rules_cases.specs.Examples.{ExamplesHold}
 use Rattle.rules_cases.specs.FirstSizeCases.{FirstSizeCasesHold}
 use Rattle.rules_cases.specs.EndlessCases.{EndlessCasesHold}
-use Rattle.rules_cases.specs.EnvironmentCases.{storeAfter, EnvironmentCasesHold}
+use Rattle.rules_cases.specs.EnvironmentCases.{EnvironmentCasesHold}
 use Rattle.rules_moves.specs.Moves.{idle, streamEnds, scant, windowUsed, filling, toTape, outside, seekFrom, amount, reading, onFound, seeking, fromTape, methodEnd, fedBy, haltsWith, atTcp, madeAt, lostAt}
 
 pub cases-hold : ExamplesHold × FirstSizeCasesHold × EndlessCasesHold × EnvironmentCasesHold
@@ -46,9 +45,9 @@ unfolding
     entryBytes headerOk tableOk isSound faulty marksBefore recordsSince aheadOf passes positionAfter leftAfter stops walk spacing
     kept roomFor withEntry written fillTo least mtioStep standingAt wellFramed recordBytes look rowOf layout.pieceOf layout.partAt layout.prepend
     layout.andPart layout.andGot layout.partsAt layout.timesAt layout.single layout.counted layout.itemsOf layout.elementAt layout.fieldAt layout.andValue layout.andRead
-    layout.readAs put puts summed scanned decoded isMd5 connectBody tapeBody dataBody moverBody jointBody opaques bodyBytes shapeOf headerError
+    layout.readAs put puts summed scanned decoded connectBody tapeBody dataBody moverBody jointBody opaques bodyBytes shapeOf headerError
     replyBytes noticeNumber noticeWords noticeBytes guarded noticed outcome needsLogin isLocked verdict isUnread refusing settled
-    isClose judged requested answered opening connectOpen rightText clientAuth connectStep dump dataStart dataState dataStop
+    isClose judged requested answered opening connectOpen connectStep dump dataStart dataState dataStop
     dataStep dataConnect moverClose jointStep judge onto recordNumber moverState offsetWrong moverListen moverContinue moverStop
     busy elsewhere setWindow moverRead setSize moverStep windowEnd pastTop lengthWrong toldIn dataJoined moverJoined holdsTape unwritable dataWrong
     numbersWrong windowWrong startWrong holdWrong strays resumeWrong placeWrong originWrong moverWrong sameFlag keeps tape0
@@ -57,12 +56,11 @@ unfolding
     seeking fromTape methodEnd moverConnect atRest dataAborted dataAbort moverAborted moverAbort moverClosed dataAwaits moverAwaits dataListen
     addressWrong dataPartnered moverPartnered listening unmet isTcp lendable addressWords configBody configStep fedBy haltsWith atTcp madeAt lostAt
     connectionMade connectionLost
-    isKind withPassword withId accountAt withAccount andThen accountsFrom accountsIn entriesOf textMatches anyOf
     roomOf variablesAfter dataShown hasRun dataEnvironment textIn behind pairsFrom separatorName separator isNamed withSeparator textsOf
-    pairWords pairTexts storeBytes storing textBytes fits emptied laidFrom isLaid keptFrom keptPairs environmentOf storeAfter
+    pairWords pairTexts storeBytes storing textBytes fits emptied laidFrom isLaid keptFrom keptPairs environmentOf keptAfter
 cases-hold = (
   refl,
   record { fresh = refl; handed-in = refl },
   record { cases = refl; legal = (refl, refl); record-more = refl; empty-part = refl; short-part = refl; stream-over = refl },
-  record { cases = refl; lent-rubbish = refl; lent-a-pair = refl; kept = refl; emptied = refl },
+  record { cases = refl; before-auth = refl; lent-rubbish = refl; lent-a-pair = refl; kept = refl; emptied = refl },
 )

@@ -7,16 +7,16 @@ use Rattle.xdr_opaque.specs.Put.{opaque}
 use Rattle.md5.specs.Md5 as md5
 use Rattle.md5.specs.Login.{loginString, loginDigest}
 use Rattle.wire_accounts.specs.Accounts.{isKind, withPassword, withId, accountAt, withAccount, andThen, accountsFrom, accountsIn, entriesOf}
-use Rattle.wire_accounts.specs.Accounts.{textMatches, isDigestible, isDigest, md5Matches, anyOf}
+use Rattle.wire_accounts.specs.Accounts.{isDigestible, isDigest, md5Matches, anyOf}
 use Rattle.wire_frame.specs.Frame.{wellFramed, recordBytes}
 use Rattle.wire_frame.specs.Messages.{look, rowOf}
 use Rattle.wire_layouts.specs.Layout as layout
 use Rattle.wire_layouts.specs.Scans.{put, puts, summed, scanned}
-use Rattle.wire_requests.specs.Bodies.{decoded, isMd5, connectBody, configBody}
+use Rattle.wire_requests.specs.Bodies.{decoded, connectBody, configBody}
 use Rattle.wire_replies.specs.Replies.{opaques, bodyBytes, serverTexts, shapeOf, headerError, replyBytes, noticeNumber, noticeWords, noticeBytes}
 use Rattle.rules_parts.specs.Parts.{windowEnd, pastTop, lengthWrong, dataJoined, moverJoined, dataPartnered, moverPartnered, addressWrong, holdsTape, unwritable}
 use Rattle.rules.specs.Judge.{judge, onto}
-use Rattle.rules.specs.Connection.{connectOpen, rightText, rightDigest, clientAuth, connectStep, authAttributes, configStep}
+use Rattle.rules.specs.Connection.{connectOpen, rightDigest, clientAuth, connectStep, authAttributes, configStep}
 use Rattle.rules.specs.Relation.{dataWrong, numbersWrong, windowWrong, startWrong, holdWrong, strays, resumeWrong, placeWrong}
 use Rattle.rules.specs.Relation.{originWrong, moverWrong, sameFlag, keeps}
 use Rattle.rules.specs.Answer.{guarded, roomOf, noticed, outcome, needsLogin, isLocked, verdict, isUnread, refusing, settled, isClose, judged, requested, answered}
@@ -29,12 +29,12 @@ unfolding
     choose allOf be32 be32s word sameBytes allZero opaqueAt opaque
     md5.indexOf md5.shiftOf md5.md5 md5.le32 md5.md5Registers md5.processed md5.padding md5.compressed md5.operations md5.stepped
     md5.auxiliaryOf md5.rotated md5.leWord loginString loginDigest
-    isKind withPassword withId accountAt withAccount andThen accountsFrom accountsIn entriesOf textMatches isDigestible isDigest md5Matches anyOf
+    isKind withPassword withId accountAt withAccount andThen accountsFrom accountsIn entriesOf isDigestible isDigest md5Matches anyOf
     wellFramed recordBytes look rowOf layout.pieceOf layout.partAt layout.prepend layout.andPart layout.andGot layout.partsAt layout.timesAt
     layout.single layout.counted layout.itemsOf layout.elementAt layout.fieldAt layout.andValue layout.andRead layout.readAs
-    put puts summed scanned decoded isMd5 connectBody configBody opaques bodyBytes serverTexts shapeOf headerError replyBytes noticeNumber noticeWords noticeBytes
+    put puts summed scanned decoded connectBody configBody opaques bodyBytes serverTexts shapeOf headerError replyBytes noticeNumber noticeWords noticeBytes
     windowEnd pastTop lengthWrong dataJoined moverJoined dataPartnered moverPartnered addressWrong holdsTape unwritable
-    judge onto connectOpen rightText rightDigest clientAuth connectStep authAttributes configStep
+    judge onto connectOpen rightDigest clientAuth connectStep authAttributes configStep
     dataWrong numbersWrong windowWrong startWrong holdWrong strays resumeWrong placeWrong originWrong moverWrong sameFlag keeps
     guarded roomOf noticed outcome needsLogin isLocked verdict isUnread refusing settled isClose judged requested answered opening
     wordsBytes wire runLogin runLogins replied expectLogins
@@ -45,7 +45,7 @@ login-cases-hold =
       newest-counts = refl;
       not-used-up = refl;
       lent-only = refl;
-      other-kind = refl;
+      withdrawn = refl;
       two-of-one-id = refl;
       login-bodies = refl;
       asked-bodies = refl;

@@ -1,18 +1,17 @@
--- A third list of cases, beside a to j: windows with no end (02 No. 1), from a new session on; and four from a session near the top of the
--- stream, where no list of calls would come in time.
+-- A third list of cases, beside a to j: windows with no end (02 No. 1), from a login on; and four from a session near the top of the stream, where no list
+-- of calls would come in time.
 use Prim.Native.Nat.{ℕ}
 use mathlib.Core.Bool.{Bool, true, false}
 use mathlib.Core.List.{List, [], _∷_, _++_}
 use mathlib.Core.Path.{_≡_}
 use lib.ListN.{take, replicate}
 use Rattle.rules_parts.specs.declared.types.Session.{Session}
-use Rattle.rules_parts.specs.Parts.{noLogin, loggedIn, closedChanger}
+use Rattle.rules_parts.specs.Parts.{closedChanger}
 use Rattle.rules.specs.Relation.{keeps}
-use Rattle.rules.specs.Answer.{held}
-use Rattle.rules_moves.specs.Cases.{CaseLine, Feed, Fetch, Case, Final, runCase, expect, allPlayed, allWanted, toTapeMode, fromTapeMode, noMode, eom, eof, seek, eow}
-use Rattle.rules_moves.specs.Cases.{connectClosed, successful, backupRuns, fsr, login, sizeLine, windowLine, openTape, listen, connectLine, startBackup, startRecover}
+use Rattle.rules_moves.specs.Cases.{CaseLine, Feed, Fetch, Case, Final, runCase, allPlayed, allWanted, toTapeMode, fromTapeMode, noMode, eom, eof, seek, eow}
+use Rattle.rules_moves.specs.Cases.{connectClosed, successful, backupRuns, fsr, sizeLine, windowLine, openTape, listen, connectLine, startBackup, startRecover}
 use Rattle.rules_moves.specs.Cases.{read, continueLine, pauseNotices, haltNotices, moverIdleWords, active, pausedFor, haltedFor, counts, reads, windowWords, moverIs, dataActiveWords, dataHaltedFor, dataIs}
-use Rattle.rules_moves.specs.Cases.{noVariables, streamed, cartridge}
+use Rattle.rules_moves.specs.Cases.{noVariables, knownSession, begins, wantedFrom, streamed, cartridge}
 use Rattle.rules_cases.specs.Examples.{prepared, blank, asking, streaming, threeRecords}
 use Rattle.rules_moves.specs.RecoverCases.{full, recovering, recoverCase, small, twoRecords, backingUp, backupCase}
 
@@ -25,16 +24,16 @@ abbrev pub told : ℕ → ℕ → ℕ → List CaseLine
 told size offset length = windowLine offset length 0 ∷ moverIs noMode moverIdleWords (counts size 0 0) (reads 0 0) (windowWords offset length) ∷ []
 
 -- "whatever the record size; the offset must still be a multiple"; "Get state gives the length as sent"; the last offset is f's, which is
--- refused with the length 1024; a void window is 0, 0
+-- refused with the length 1024; a void window is 0, 0. The tape is open only so that antt computes this faster
 abbrev pub asked : List CaseLine
 asked =
-    told 1024 0 ones
+    openTape 1 ∷ told 1024 0 ones
     ++ (windowLine 512 ones 9 ∷ windowLine 1 ones 9 ∷ windowLine ones ones 9 ∷ told 1024 18446744073709550592 ones
     ++ (sizeLine 1024 ∷ moverIs noMode moverIdleWords (counts 1024 0 0) (reads 0 0) (windowWords 0 0) ∷ []))
 
 -- With the first record size it may be the first that a client asks of the mover (No. 9).
 abbrev pub firstAsked : Case
-firstAsked = record { image = blank; stream = []; lines = login ++ told 10240 0 ones; last = blank; position = 0 }
+firstAsked = record { image = blank; stream = []; lines = told 10240 0 ones; last = blank; position = 0 }
 
 -- Every other length is as it was: all ones less one, and less 1,023.
 abbrev pub others : List CaseLine
@@ -79,9 +78,8 @@ wholeRead =
 -- At a record size that divides 2^64 - 1 the window may begin there. Then it is empty: from tape every position is outside.
 abbrev pub emptyWindow : List CaseLine
 emptyWindow =
-    login
-    ++ (sizeLine 3 ∷ openTape 0 ∷ windowLine ones ones 0 ∷ listen fromTapeMode 0 ∷ connectLine ∷ startRecover
-    ∷ read 18446744073709551614 1 ∷ Fetch 8 [] (pauseNotices seek 18446744073709551614) ∷ [])
+    sizeLine 3 ∷ openTape 0 ∷ windowLine ones ones 0 ∷ listen fromTapeMode 0 ∷ connectLine ∷ startRecover
+    ∷ read 18446744073709551614 1 ∷ Fetch 8 [] (pauseNotices seek 18446744073709551614) ∷ []
 
 -- A position below the end is inside, and the read is cut by 2^64 - 1 before the window is: past its last byte nothing is asked for.
 abbrev pub lastBytes : List CaseLine
@@ -110,7 +108,7 @@ nearTop moved =
     record {
       closed = false;
       first = false;
-      login = loggedIn noLogin;
+      login = knownSession .login;
       sequence = 9;
       source = record { state = 1; operation = backupRuns; reason = 0; address = 0; processed = moved };
       mover = record {
@@ -132,10 +130,10 @@ nearTop moved =
     }
 
 abbrev pub ranNear : ℕ → List CaseLine → Final
-ranNear moved lines = runCase (record { kept = held (nearTop moved) blank noVariables; stream = streamed 2048 0 }) lines
+ranNear moved lines = runCase (begins (nearTop moved) blank noVariables (streamed 2048 0)) lines
 
 abbrev pub wantedNear : List CaseLine → List ℕ → ℕ → Final
-wantedNear lines last position = record { shown = expect 9 lines; image = last; position = position }
+wantedNear lines last position = wantedFrom 9 lines last position
 
 abbrev pub lastWritten : List ℕ
 lastWritten = cartridge (1 ∷ 4 ∷ 1 ∷ 1024 ∷ 1024 ∷ 0 ∷ replicate 6 0) (take 1024 (streamed 2048 0) ++ replicate 3072 0)

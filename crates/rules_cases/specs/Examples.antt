@@ -1,16 +1,17 @@
--- Paper 01, "Examples to hold": cases a to j in one list, and one statement over it.
+-- Paper 01, "Examples to hold": cases a to j in one list, and one statement over it. Text login is withdrawn (02 No. 10), so each begins from the session
+-- that a login by MD5 gives (`KnownSession`), and its first reply is number 5, where it was 4. No other value that is expected changed.
 use Prim.Native.Nat.{ℕ}
 use mathlib.Core.Bool.{true, false}
 use mathlib.Core.List.{List, [], _∷_, _++_}
 use mathlib.Core.Path.{_≡_}
 use lib.ListN.{take, replicate}
 use Rattle.rules_moves.specs.Cases.{CaseLine, Feed, Case, allPlayed, allWanted, toTapeMode, eow, connectClosed, successful, backupRuns, fsr}
-use Rattle.rules_moves.specs.Cases.{login, sizeLine, windowLine, openTape, mtio, listen, connectLine, startBackup, continueLine, pauseNotices, haltNotices}
+use Rattle.rules_moves.specs.Cases.{sizeLine, windowLine, openTape, mtio, listen, connectLine, startBackup, continueLine, pauseNotices, haltNotices}
 use Rattle.rules_moves.specs.Cases.{active, pausedFor, haltedFor, counts, reads, windowWords, moverIs, dataActiveWords, dataHaltedFor, dataIs, streamed, cartridge}
 
 -- "record size 1,024 where unsaid"
 abbrev pub prepared : List CaseLine
-prepared = login ++ (sizeLine 1024 ∷ [])
+prepared = sizeLine 1024 ∷ []
 
 -- an empty cartridge: C 4, B 4,096
 abbrev pub blank : List ℕ
@@ -81,7 +82,7 @@ cases =
     ∷ streaming linesH threeRecords 3
     ∷ streaming linesI threeRecords 3
     -- j. "Entries record, mark, record; position 0; FSR 3: 12, position 2, residue 2."
-    ∷ record { image = marked; stream = []; lines = login ++ (openTape 1 ∷ mtio fsr 3 12 2 ∷ []); last = marked; position = 2 }
+    ∷ record { image = marked; stream = []; lines = openTape 1 ∷ mtio fsr 3 12 2 ∷ []; last = marked; position = 2 }
     ∷ []
 
 abbrev pub ExamplesHold : Type 0

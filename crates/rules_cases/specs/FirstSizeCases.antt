@@ -5,10 +5,8 @@ use mathlib.Core.Bool.{true}
 use mathlib.Core.List.{List, [], _∷_, _++_}
 use mathlib.Core.Path.{_≡_}
 use lib.ListN.{replicate}
-use Rattle.rules.specs.Answer.{held}
-use Rattle.rules.specs.Calls.{openedSession}
-use Rattle.rules_moves.specs.Cases.{CaseLine, Ask, Feed, Case, Final, tell, allPlayed, allWanted, runCase, expect, toTapeMode, fromTapeMode, noMode, connectClosed, successful}
-use Rattle.rules_moves.specs.Cases.{says, login, sizeLine, windowLine, openTape, listen, connectLine, startBackup, stopMover, stopData, haltNotices}
+use Rattle.rules_moves.specs.Cases.{CaseLine, Ask, Feed, Case, Final, tell, allPlayed, allWanted, runCase, toTapeMode, fromTapeMode, noMode, connectClosed, successful}
+use Rattle.rules_moves.specs.Cases.{knownSession, nextNumber, begins, wantedFrom, says, sizeLine, windowLine, openTape, listen, connectLine, startBackup, stopMover, stopData, haltNotices}
 use Rattle.rules_moves.specs.Cases.{noVariables, moverIdleWords, active, counts, reads, windowWords, moverIs, streamed, cartridge}
 use Rattle.rules_cases.specs.Examples.{blank}
 use Rattle.rules_moves.specs.FirstSize.{unsized}
@@ -37,13 +35,12 @@ noSizeSet =
     record {
       image = roomy;
       stream = streamed 5 0;
-      lines = login
-          ++ (rests 10240 ∷ openTape 1 ∷ listen toTapeMode 26 ∷ connectMover fromTapeMode 26
+      lines = rests 10240 ∷ openTape 1 ∷ listen toTapeMode 26 ∷ connectMover fromTapeMode 26
           ∷ windowLine 0 1024 9 ∷ windowLine 0 10240 0 ∷ listen toTapeMode 0 ∷ connectLine ∷ startBackup
           ∷ Feed 5 true 5 []
           ∷ moverIs toTapeMode active (counts 10240 1 10240) (reads 0 0) (windowWords 0 10240)
           ∷ Feed 0 true 0 (haltNotices successful connectClosed)
-          ∷ stopMover ∷ stopData ∷ rests 10240 ∷ []);
+          ∷ stopMover ∷ stopData ∷ rests 10240 ∷ [];
       last = oneRecord;
       position = 1;
     }
@@ -54,9 +51,8 @@ sizeStays =
     record {
       image = blank;
       stream = [];
-      lines = login
-          ++ (says 0xA08 (0 ∷ []) 9 ∷ rests 10240 ∷ sizeLine 512 ∷ openTape 0 ∷ windowLine 0 512 0 ∷ listen fromTapeMode 0 ∷ abortMover ∷ stopMover
-          ∷ rests 512 ∷ []);
+      lines = says 0xA08 (0 ∷ []) 9 ∷ rests 10240 ∷ sizeLine 512 ∷ openTape 0 ∷ windowLine 0 512 0 ∷ listen fromTapeMode 0 ∷ abortMover ∷ stopMover
+          ∷ rests 512 ∷ [];
       last = blank;
       position = 0;
     }
@@ -64,16 +60,15 @@ sizeStays =
 -- "a size 0 handed in still gets it": at set window, listen and connect, in either mode; set record size ends it
 abbrev pub unsizedLines : List CaseLine
 unsizedLines =
-    login
-    ++ (rests 0 ∷ openTape 1 ∷ windowLine 0 1024 26 ∷ windowLine 0 0 26 ∷ listen toTapeMode 26 ∷ listen fromTapeMode 26
+    rests 0 ∷ openTape 1 ∷ windowLine 0 1024 26 ∷ windowLine 0 0 26 ∷ listen toTapeMode 26 ∷ listen fromTapeMode 26
     ∷ connectMover toTapeMode 26 ∷ connectMover fromTapeMode 26 ∷ says 0xA08 (0 ∷ []) 9 ∷ windowLine 0 1024 26
-    ∷ sizeLine 1024 ∷ windowLine 0 1024 0 ∷ listen toTapeMode 0 ∷ [])
+    ∷ sizeLine 1024 ∷ windowLine 0 1024 0 ∷ listen toTapeMode 0 ∷ []
 
 abbrev pub unsizedPlayed : Final
-unsizedPlayed = runCase (record { kept = held (unsized openedSession) blank noVariables; stream = [] }) unsizedLines
+unsizedPlayed = runCase (begins (unsized knownSession) blank noVariables []) unsizedLines
 
 abbrev pub unsizedWanted : Final
-unsizedWanted = record { shown = expect 2 unsizedLines; image = blank; position = 0 }
+unsizedWanted = wantedFrom nextNumber unsizedLines blank 0
 
 pub record FirstSizeCasesHold : Type 0 where
   pub fresh : allPlayed (noSizeSet ∷ sizeStays ∷ []) ≡ allWanted (noSizeSet ∷ sizeStays ∷ [])

@@ -3,3 +3,4 @@ pub mod EndlessCases
 pub mod FirstSizeCases
 pub mod EnvironmentCases
 pub mod LoginCases
+pub mod KnownSession

@@ -1,4 +1,4 @@
--- Cases of logins (paper 02, No. 2), as those of paper 01: each a list of requests on a new session, each request with the accounts and the challenge that are
+-- Cases of logins (paper 02, No. 2 and No. 10), as those of paper 01: each a list of requests on a new session, each request with the accounts and the challenge that are
 -- lent with it. All that is sent is compared, byte for byte, and whether the client is logged in at the end. Bodies are words, after 004's structures.
 use Prim.Native.Nat.{ℕ, _+_}
 use mathlib.Core.Bool.{Bool, true, false}
@@ -114,22 +114,22 @@ abbrev pub damaged : List ℕ
 damaged = wordsBytes (2 ∷ 1 ∷ 4 ∷ ndmp ∷ 4 ∷ ndmp ∷ 2 ∷ 4 ∷ ndmp ∷ 4 ∷ ndmp ∷ []) ++ (0 ∷ [])
 
 -- ---- lines, by what is lent
--- 0x103 of a type that gives the challenge, or tells of text; one whose body has more behind the type
+-- 0x103 of the type that gives the challenge, or of text, "9 for type 1, at 0x103 too"; one whose body has more behind the type
 abbrev pub challenged : List ℕ → LoginLine
 challenged challenge = asks byMd5 challenge 0x103 (2 ∷ []) (tells (0 ∷ 2 ∷ challenge))
 
 abbrev pub askedText : List ℕ → LoginLine
-askedText challenge = asks byMd5 challenge 0x103 (1 ∷ []) (tells (0 ∷ 1 ∷ []))
+askedText challenge = asks byMd5 challenge 0x103 (1 ∷ []) (tells (9 ∷ 0 ∷ []))
 
 abbrev pub askedType : List ℕ → List ℕ → Told → LoginLine
 askedType challenge body told = asks byMd5 challenge 0x103 body told
 
--- CLIENT AUTH: of MD5 with a digest; of text with a password; any other body. The error word is the reply
+-- CLIENT AUTH: of MD5 with a digest; of text with a password, which is 9 whatever is lent; any other body. The error word is the reply
 abbrev pub md5Login : List ℕ → List ℕ → List ℕ → ℕ → LoginLine
 md5Login accounts challenge digest e = asks accounts challenge 0x901 (2 ∷ 4 ∷ ndmp ∷ digest) (tells (e ∷ []))
 
-abbrev pub textLogin : List ℕ → ℕ → ℕ → LoginLine
-textLogin accounts password e = asks accounts seenChallenge 0x901 (1 ∷ 4 ∷ ndmp ∷ 4 ∷ password ∷ []) (tells (e ∷ []))
+abbrev pub textLogin : List ℕ → ℕ → LoginLine
+textLogin accounts password = asks accounts seenChallenge 0x901 (1 ∷ 4 ∷ ndmp ∷ 4 ∷ password ∷ []) (tells (9 ∷ []))
 
 abbrev pub authOf : List ℕ → Told → LoginLine
 authOf body told = asks byMd5 seenChallenge 0x901 body told
@@ -144,9 +144,9 @@ served = asks byMd5 otherChallenge 0x102 [] (tells (0 ∷ 2 ∷ 0 ∷ 1 ∷ []))
 abbrev pub unserved : LoginLine
 unserved = asks byMd5 otherChallenge 0x102 [] (tells (4 ∷ 0 ∷ []))
 
--- server info: vendor, product and revision, empty before auth, then `vault`, `tape`, `1`; "Server info lists 1 and 2"
+-- server info: vendor, product and revision, empty before auth, then `vault`, `tape`, `1`; type 1 "leaves the server info list"
 abbrev pub infoIs : List ℕ → LoginLine
-infoIs texts = asks byMd5 otherChallenge 0x108 [] (tells (0 ∷ texts ++ (2 ∷ 1 ∷ 2 ∷ [])))
+infoIs texts = asks byMd5 otherChallenge 0x108 [] (tells (0 ∷ texts ++ (1 ∷ 2 ∷ [])))
 
 abbrev pub noTexts : List ℕ
 noTexts = 0 ∷ 0 ∷ 0 ∷ []
@@ -163,7 +163,7 @@ seenLogin =
       known = true;
     }
 
--- "4 if no challenge was given": the digest of zeros, and that of the challenge that is lent, before 0x103, and after one of type 1 or of another type
+-- "4 if no challenge was given": the digest of zeros, and that of the challenge that is lent, before 0x103, and after a refused one, of type 1 or another
 abbrev pub ungiven : LoginCase
 ungiven =
     record {
@@ -187,12 +187,12 @@ abbrev pub notUsedUp : LoginCase
 notUsedUp =
     record {
       lines = challenged seenChallenge ∷ md5Login byMd5 seenChallenge wrongDigest 4 ∷ md5Login byMd5 seenChallenge seenDigest 0
-          ∷ md5Login byMd5 seenChallenge seenDigest 0 ∷ textLogin byMd5 ndmp 4 ∷ md5Login byMd5 seenChallenge wrongDigest 4
+          ∷ md5Login byMd5 seenChallenge seenDigest 0 ∷ textLogin byMd5 ndmp ∷ md5Login byMd5 seenChallenge wrongDigest 4
           ∷ challenged otherChallenge ∷ md5Login byMd5 seenChallenge seenDigest 4 ∷ md5Login byMd5 seenChallenge otherDigest 0 ∷ served ∷ [];
       known = true;
     }
 
--- a challenge that is lent with the login itself, with 0x103 of type 1 or with a refused one, is not judged
+-- a challenge that is lent with the login itself, or with a refused 0x103, is not judged
 abbrev pub lentOnly : LoginCase
 lentOnly =
     record {
@@ -201,29 +201,32 @@ lentOnly =
       known = false;
     }
 
--- "login by the other kind is a wrong password"
-abbrev pub otherKind : LoginCase
-otherKind =
+-- "Text login is withdrawn": with the right password of a text entry too, which "never lets anyone in", by its digest neither; and who is logged in stays so
+abbrev pub withdrawn : LoginCase
+withdrawn =
     record {
-      lines = challenged seenChallenge ∷ md5Login byText seenChallenge seenDigest 4 ∷ textLogin byMd5 ndmp 4 ∷ unserved ∷ textLogin byText ndmp 0 ∷ served ∷ [];
+      lines = textLogin byText ndmp ∷ challenged seenChallenge ∷ md5Login byText seenChallenge seenDigest 4 ∷ unserved
+          ∷ md5Login byMd5 seenChallenge seenDigest 0 ∷ textLogin byText ndmp ∷ served ∷ [];
       known = true;
     }
 
--- "where an id stands twice any entry may match", each by its own kind
+-- "where an id stands twice any entry may match": beside a text entry of the same id the MD5 entry lets in, and the text entry's password does not
 abbrev pub twoOfOneId : LoginCase
 twoOfOneId =
     record {
-      lines = challenged seenChallenge ∷ textLogin both ndmp 4 ∷ unserved ∷ md5Login both seenChallenge seenDigest 0 ∷ textLogin both noon 0 ∷ served ∷ [];
+      lines = challenged seenChallenge ∷ textLogin both noon ∷ unserved ∷ md5Login both seenChallenge seenDigest 0 ∷ textLogin both noon ∷ served ∷ [];
       known = true;
     }
 
--- the digest has no length before it: 18, also where no challenge was given; nor is it shorter or longer. "9 for a type other than 1 and 2, its rest unread"
+-- the digest has no length before it: 18, also where no challenge was given; nor is it shorter or longer. "9 for a type other than 1 and 2, its rest unread",
+-- and for type 1: with nothing behind it, and with more than a login
 abbrev pub loginBodies : LoginCase
 loginBodies =
     record {
       lines = authOf (2 ∷ 4 ∷ ndmp ∷ 16 ∷ seenDigest) (heads 18) ∷ challenged seenChallenge ∷ authOf (2 ∷ 4 ∷ ndmp ∷ 16 ∷ seenDigest) (heads 18)
           ∷ authOf (2 ∷ 4 ∷ ndmp ∷ 0x5DA7_AC73 ∷ 0x24B9_7CAF ∷ 0x774D_6EA4 ∷ []) (heads 18)
-          ∷ authOf (3 ∷ 4 ∷ ndmp ∷ 16 ∷ seenDigest) (tells (9 ∷ [])) ∷ authOf (0 ∷ []) (tells (9 ∷ [])) ∷ unserved ∷ [];
+          ∷ authOf (3 ∷ 4 ∷ ndmp ∷ 16 ∷ seenDigest) (tells (9 ∷ [])) ∷ authOf (0 ∷ []) (tells (9 ∷ []))
+          ∷ authOf (1 ∷ []) (tells (9 ∷ [])) ∷ authOf (1 ∷ 4 ∷ ndmp ∷ 4 ∷ ndmp ∷ 7 ∷ []) (tells (9 ∷ [])) ∷ unserved ∷ [];
       known = false;
     }
 
@@ -231,16 +234,16 @@ loginBodies =
 abbrev pub askedBodies : LoginCase
 askedBodies =
     record {
-      lines = askedType seenChallenge [] (heads 18) ∷ askedType seenChallenge (1 ∷ 0 ∷ []) (heads 18) ∷ askedType seenChallenge (2 ∷ 0 ∷ []) (heads 18)
+      lines = askedType seenChallenge [] (heads 18) ∷ askedType seenChallenge (1 ∷ 0 ∷ []) (tells (9 ∷ 0 ∷ [])) ∷ askedType seenChallenge (2 ∷ 0 ∷ []) (heads 18)
           ∷ askedType seenChallenge (0 ∷ 1 ∷ []) (tells (9 ∷ 0 ∷ [])) ∷ askedType seenChallenge (3 ∷ []) (tells (9 ∷ 0 ∷ [])) ∷ unserved ∷ [];
       known = false;
     }
 
--- "Open is legal as the first answered request only (else 19)": 0x103 is answered before auth too
+-- "Open is legal as the first answered request only (else 19)": 0x103 is answered before auth too, with 9 or
 abbrev pub askedFirst : LoginCase
 askedFirst = record { lines = askedText seenChallenge ∷ opens 19 ∷ infoIs noTexts ∷ []; known = false }
 
--- of either type
+-- with a challenge
 abbrev pub challengedFirst : LoginCase
 challengedFirst = record { lines = challenged seenChallenge ∷ opens 19 ∷ infoIs noTexts ∷ []; known = false }
 
@@ -248,8 +251,8 @@ challengedFirst = record { lines = challenged seenChallenge ∷ opens 19 ∷ inf
 abbrev pub brokenAccounts : LoginCase
 brokenAccounts =
     record {
-      lines = challenged seenChallenge ∷ md5Login damaged seenChallenge seenDigest 4 ∷ textLogin damaged ndmp 4 ∷ md5Login [] seenChallenge seenDigest 4
-          ∷ textLogin [] ndmp 4 ∷ unserved ∷ [];
+      lines = challenged seenChallenge ∷ md5Login damaged seenChallenge seenDigest 4 ∷ textLogin damaged ndmp ∷ md5Login [] seenChallenge seenDigest 4
+          ∷ textLogin [] ndmp ∷ unserved ∷ [];
       known = false;
     }
 
@@ -259,7 +262,7 @@ pub record LoginCasesHold : Type 0 where
   pub newest-counts : loginPlayed newestCounts ≡ loginWanted newestCounts
   pub not-used-up : loginPlayed notUsedUp ≡ loginWanted notUsedUp
   pub lent-only : loginPlayed lentOnly ≡ loginWanted lentOnly
-  pub other-kind : loginPlayed otherKind ≡ loginWanted otherKind
+  pub withdrawn : loginPlayed withdrawn ≡ loginWanted withdrawn
   pub two-of-one-id : loginPlayed twoOfOneId ≡ loginWanted twoOfOneId
   pub login-bodies : loginPlayed loginBodies ≡ loginWanted loginBodies
   pub asked-bodies : loginPlayed askedBodies ≡ loginWanted askedBodies

@@ -1,11 +1,12 @@
--- What a case is: a list of calls on a new session, each request a record as it stands on the wire, each line with what comes of it. All that
--- is sent is compared, byte for byte, and so are the bytes taken or handed over, the destination, the cartridge and the tape's position. What
--- is expected is written out here, from 004's structures and numbers, and not by the definitions of replies, notices and codes.
+-- What a case is: a list of calls on a session whose client has just logged in, each request a record as it stands on the wire, each line with what comes of
+-- it. All that is sent is compared, byte for byte, and so are the bytes taken or handed over, the destination, the cartridge and the tape's position. What is
+-- expected is written out here, from 004's structures and numbers, and not by the definitions of replies, notices and codes.
 use Prim.Native.Nat.{ℕ, zero, suc, _+_, _-_, _/_, _%_}
-use mathlib.Core.Bool.{Bool, false}
+use mathlib.Core.Bool.{Bool, true, false}
 use mathlib.Core.List.{List, [], _∷_, _++_}
 use lib.ListN.{length, take, drop, replicate}
 use Rattle.codes.specs.Codes.{storeLength}
+use Rattle.rules_parts.specs.declared.types.Session.{Session}
 use Rattle.rules.specs.Answer.{Kept, Lent, held, Answered, answered}
 use Rattle.rules.specs.Calls.{opening}
 use Rattle.rules_moves.specs.Events.{Moving, movedToTape, movedFromTape, methodEnded, connectionMade, connectionLost}
@@ -76,16 +77,22 @@ pub record Ran : Type 0 where
   pub shown : Shown
   pub world : World
 
--- what is lent: one text account, `v` and `pw`; no challenge; the time stamp; an output of 36,864 bytes
+-- what is lent: one account by MD5, `v` and `pw`; a challenge, in words, the bytes 1 to 64; the time stamp; an output of 36,864 bytes
 abbrev pub oneAccount : List ℕ
 oneAccount =
-    0 ∷ 0 ∷ 0 ∷ 1 ∷ 0 ∷ 0 ∷ 0 ∷ 1 ∷ 0 ∷ 0 ∷ 0 ∷ 1 ∷ 0x76 ∷ 0 ∷ 0 ∷ 0 ∷ 0 ∷ 0 ∷ 0 ∷ 2 ∷ 0x70 ∷ 0x77 ∷ 0 ∷ 0 ∷ []
+    0 ∷ 0 ∷ 0 ∷ 1 ∷ 0 ∷ 0 ∷ 0 ∷ 2 ∷ 0 ∷ 0 ∷ 0 ∷ 1 ∷ 0x76 ∷ 0 ∷ 0 ∷ 0 ∷ 0 ∷ 0 ∷ 0 ∷ 2 ∷ 0x70 ∷ 0x77 ∷ 0 ∷ 0 ∷ []
+
+abbrev pub knownChallenge : List ℕ
+knownChallenge =
+    0x0102_0304 ∷ 0x0506_0708 ∷ 0x090A_0B0C ∷ 0x0D0E_0F10 ∷ 0x1112_1314 ∷ 0x1516_1718 ∷ 0x191A_1B1C ∷ 0x1D1E_1F20
+    ∷ 0x2122_2324 ∷ 0x2526_2728 ∷ 0x292A_2B2C ∷ 0x2D2E_2F30 ∷ 0x3132_3334 ∷ 0x3536_3738 ∷ 0x393A_3B3C ∷ 0x3D3E_3F40 ∷ []
 
 abbrev pub stamp : ℕ
 stamp = 33
 
 abbrev pub lentWith : List ℕ → Bool → Lent
-lentWith list made = record { accounts = oneAccount; challenge = []; time = stamp; room = 36864; addresses = list; made = made }
+lentWith list made =
+    record { accounts = oneAccount; challenge = wordsBytes knownChallenge; time = stamp; room = 36864; addresses = list; made = made }
 
 abbrev pub lending : Lent
 lending = lentWith [] false
@@ -133,13 +140,43 @@ runCase w (l ∷ ls) =
     let r = runCase (n .world) ls in
     record { shown = n .shown ∷ r .shown; image = r .image; position = r .position }
 
-abbrev pub played : Case → Final
-played c =
-    let a = opening (lending .time) (lending .room) in
-    let r = runCase (record { kept = held (a .next .session) (c .image) noVariables; stream = c .stream }) (c .lines) in
-    record { shown = showing a 0 [] ∷ r .shown; image = r .image; position = r .position }
+-- what is passed on after so many lines
+unfoldable pub keptAfter : World → List CaseLine → Kept
+keptAfter w [] = w .kept
+keptAfter w (l ∷ ls) = keptAfter (runLine w l .world) ls
 
--- ---- what they should give. "The vault numbers what it sends from 1": n is the next number
+-- ---- where a case begins
+-- a new session, of which nothing was asked
+abbrev pub freshSession : Session
+freshSession = opening (lending .time) (lending .room) .next .session
+
+-- "The vault numbers what it sends from 1": connection status, and the replies to CONNECT open, 0x103 and auth
+abbrev pub nextNumber : ℕ
+nextNumber = 5
+
+-- the session of a client that has just logged in by MD5: both ends IDLE, no mode (2), the first record size, nothing open. `KnownSessionHolds` of
+-- `rules_cases` says that those calls give it
+abbrev pub knownSession : Session
+knownSession =
+    record {
+      closed = false;
+      first = false;
+      login = record { authorized = true; challenged = true; challenge = wordsBytes knownChallenge };
+      sequence = nextNumber;
+      source = record { state = 0; operation = 0; reason = 0; address = 0; processed = 0 };
+      mover = record { state = 0; mode = 2; pause = 0; halt = 0; size = 10240; address = 0; offset = 0; length = 0; moved = 0; seek = 0; left = 0; origin = 0 };
+      tape = record { opened = false; writable = false; position = 0 };
+      changer = record { opened = false; pending = false };
+    }
+
+-- a session, and what is handed in with it: a cartridge, a store and a stream
+abbrev pub begins : Session → List ℕ → List ℕ → List ℕ → World
+begins s image variables stream = record { kept = held s image variables; stream = stream }
+
+abbrev pub played : Case → Final
+played c = runCase (begins knownSession (c .image) noVariables (c .stream)) (c .lines)
+
+-- ---- what they should give: n is the next number
 -- notices: "type 0 with reply sequence 0"
 unfoldable pub notices : ℕ → List Notified → List ℕ
 notices n [] = []
@@ -162,14 +199,11 @@ expect n (Fetch m handed told ∷ ls) =
 expect n (End ok told ∷ ls) = shows (notices n told) 0 [] ∷ expect (n + length told) ls
 expect n (Insert out image ∷ ls) = shows [] 0 out ∷ expect n ls
 
--- "Opening a session sends connection status (connected 0, version 4, empty text) as number 1."
+abbrev pub wantedFrom : ℕ → List CaseLine → List ℕ → ℕ → Final
+wantedFrom n lines last position = record { shown = expect n lines; image = last; position = position }
+
 abbrev pub wanted : Case → Final
-wanted c =
-    record {
-      shown = shows (notices 1 (tell 0x502 (0 ∷ 4 ∷ 0 ∷ []) ∷ [])) 0 [] ∷ expect 2 (c .lines);
-      image = c .last;
-      position = c .position;
-    }
+wanted c = wantedFrom nextNumber (c .lines) (c .last) (c .position)
 
 abbrev pub allPlayed : List Case → List Final
 allPlayed [] = []
@@ -241,10 +275,6 @@ rew = 4
 -- a request that gets the error word e and no more
 abbrev pub says : ℕ → List ℕ → ℕ → CaseLine
 says message body e = Ask message body (e ∷ []) []
-
--- CONNECT open with version 4, and auth in text
-abbrev pub login : List CaseLine
-login = says 0x900 (4 ∷ []) 0 ∷ says 0x901 (1 ∷ 1 ∷ 0x7600_0000 ∷ 2 ∷ 0x7077_0000 ∷ []) 0 ∷ []
 
 abbrev pub sizeLine : ℕ → CaseLine
 sizeLine n = says 0xA08 (n ∷ []) 0

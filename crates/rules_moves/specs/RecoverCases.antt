@@ -6,7 +6,7 @@ use mathlib.Core.Path.{_≡_}
 use lib.ListN.{replicate}
 use Rattle.rules_moves.specs.Cases.{CaseLine, Feed, Fetch, End, Insert, Case, allPlayed, allWanted, toTapeMode, fromTapeMode, noMode, eom, eof, seek, eow}
 use Rattle.rules_moves.specs.Cases.{connectClosed, mediaError, successful, internalError, connectError, backupRuns, recoverRuns, fsf, fsr, rew}
-use Rattle.rules_moves.specs.Cases.{login, sizeLine, windowLine, openTape, mtio, listen, connectLine, startBackup, startRecover, read, continueLine, stopMover, stopData}
+use Rattle.rules_moves.specs.Cases.{sizeLine, windowLine, openTape, mtio, listen, connectLine, startBackup, startRecover, read, continueLine, stopMover, stopData}
 use Rattle.rules_moves.specs.Cases.{pauseNotices, haltNotices, closeMover, moverIdleWords, active, pausedFor, haltedFor, counts, reads, windowWords, moverIs}
 use Rattle.rules_moves.specs.Cases.{dataIdleWords, dataActiveWords, dataHaltedFor, dataIs, tapeIs, streamed, cartridge}
 
@@ -30,8 +30,7 @@ small = cartridge (1 ∷ 2 ∷ 0 ∷ 0 ∷ 0 ∷ 0 ∷ 0 ∷ 0 ∷ []) (replicat
 -- a recover begins: a record size, the tape spaced (an operation of MTIO and its count), a window, both ends joined
 abbrev pub recovering : ℕ → ℕ → ℕ → ℕ → ℕ → List CaseLine
 recovering size op n offset length =
-    login
-    ++ (sizeLine size ∷ openTape 0 ∷ mtio op n 0 0 ∷ windowLine offset length 0 ∷ listen fromTapeMode 0 ∷ connectLine ∷ startRecover ∷ [])
+    sizeLine size ∷ openTape 0 ∷ mtio op n 0 0 ∷ windowLine offset length 0 ∷ listen fromTapeMode 0 ∷ connectLine ∷ startRecover ∷ []
 
 abbrev pub recoverCase : List CaseLine → List ℕ → ℕ → Case
 recoverCase lines last position = record { image = full; stream = []; lines = lines; last = last; position = position }
@@ -86,10 +85,9 @@ badCartridge image =
 -- The method's end does nothing before the start; then it halts both; then it does nothing.
 abbrev pub methodFails : List CaseLine
 methodFails =
-    login
-    ++ (sizeLine 4 ∷ openTape 0 ∷ windowLine 0 4 0 ∷ listen fromTapeMode 0 ∷ connectLine
+    sizeLine 4 ∷ openTape 0 ∷ windowLine 0 4 0 ∷ listen fromTapeMode 0 ∷ connectLine
     ∷ End false [] ∷ startRecover ∷ End false (haltNotices internalError connectClosed) ∷ End true []
-    ∷ dataIs recoverRuns (dataHaltedFor internalError) 0 ∷ [])
+    ∷ dataIs recoverRuns (dataHaltedFor internalError) 0 ∷ []
 
 -- ---- to tape
 -- two records; and the last one, of three bytes, alone
@@ -102,7 +100,7 @@ lastRecord = cartridge (1 ∷ 2 ∷ 1 ∷ 4 ∷ 4 ∷ 0 ∷ 0 ∷ 0 ∷ []) (9 �
 -- a backup begins: nothing is taken before its start
 abbrev pub backingUp : ℕ → List CaseLine
 backingUp length =
-    login ++ (sizeLine 4 ∷ openTape 1 ∷ windowLine 0 length 0 ∷ listen toTapeMode 0 ∷ connectLine ∷ Feed 4 false 0 [] ∷ startBackup ∷ [])
+    sizeLine 4 ∷ openTape 1 ∷ windowLine 0 length 0 ∷ listen toTapeMode 0 ∷ connectLine ∷ Feed 4 false 0 [] ∷ startBackup ∷ []
 
 abbrev pub backupCase : List CaseLine → List ℕ → ℕ → Case
 backupCase lines last position = record { image = small; stream = streamed 11 1; lines = lines; last = last; position = position }

@@ -6,7 +6,7 @@ use mathlib.Core.List.{List, [], _∷_, _++_}
 use mathlib.Core.Path.{_≡_}
 use lib.ListN.{replicate}
 use Rattle.rules_moves.specs.Cases.{CaseLine, Ask, AskLent, Make, Lose, Feed, Fetch, End, Case, tell, allPlayed, allWanted, toTapeMode, fromTapeMode, noMode}
-use Rattle.rules_moves.specs.Cases.{connectClosed, successful, connectError, backupRuns, eow, fsr, says, login, sizeLine, windowLine, openTape, mtio, startBackup}
+use Rattle.rules_moves.specs.Cases.{connectClosed, successful, connectError, backupRuns, eow, fsr, says, sizeLine, windowLine, openTape, mtio, startBackup}
 use Rattle.rules_moves.specs.Cases.{read, continueLine, stopMover, stopData, pauseNotices, moverIdleWords, active, pausedFor, haltedFor, counts, reads, windowWords}
 use Rattle.rules_moves.specs.Cases.{moverIs, dataIdleWords, dataActiveWords, dataHaltedFor, dataIs, streamed, cartridge}
 
@@ -53,8 +53,7 @@ comesByTcp =
     record {
       image = small;
       stream = streamed 10 0;
-      lines = login
-          ++ (sizeLine 4 ∷ openTape 1 ∷ windowLine 0 8 0 ∷ listenTcp toTapeMode oneAddress (0 ∷ 1 ∷ oneAddress)
+      lines = sizeLine 4 ∷ openTape 1 ∷ windowLine 0 8 0 ∷ listenTcp toTapeMode oneAddress (0 ∷ 1 ∷ oneAddress)
           ∷ moverTcpIs toTapeMode moverListens (counts 4 0 0) (reads 0 0) (windowWords 0 8)
           ∷ Feed 4 false 0 [] ∷ Make false ∷ Feed 4 false 0 [] ∷ Lose true [] ∷ Make true
           ∷ Feed 4 false 4 [] ∷ Feed 4 false 4 [] ∷ Feed 2 false 0 (pauseNotices eow 0)
@@ -62,7 +61,7 @@ comesByTcp =
           ∷ windowLine 8 4 0 ∷ continueLine ∷ Feed 2 true 2 [] ∷ Feed 0 true 0 (tell 0x503 (connectClosed ∷ []) ∷ [])
           ∷ moverTcpIs toTapeMode (haltedFor connectClosed) (counts 4 3 12) (reads 0 0) (windowWords 8 4)
           ∷ Lose true [] ∷ Make true ∷ dataIs 0 dataIdleWords 0
-          ∷ stopMover ∷ moverIs noMode moverIdleWords (counts 4 0 0) (reads 0 0) (windowWords 0 0) ∷ []);
+          ∷ stopMover ∷ moverIs noMode moverIdleWords (counts 4 0 0) (reads 0 0) (windowWords 0 0) ∷ [];
       last = threeRecords;
       position = 3;
     }
@@ -74,8 +73,7 @@ twoStrangers =
     record {
       image = small;
       stream = streamed 10 0;
-      lines = login
-          ++ (Ask 0x102 [] (0 ∷ 2 ∷ 0 ∷ 1 ∷ []) []
+      lines = Ask 0x102 [] (0 ∷ 2 ∷ 0 ∷ 1 ∷ []) []
           ∷ Ask 0x409 (2 ∷ 7 ∷ []) (9 ∷ 0 ∷ []) [] ∷ listenData [] (9 ∷ 0 ∷ []) ∷ listenData (0 ∷ []) (9 ∷ 0 ∷ []) ∷ listenData (oneAddress ++ (0 ∷ [])) (9 ∷ 0 ∷ [])
           ∷ listenData oneAddress (0 ∷ 1 ∷ oneAddress) ∷ dataTcpIs 0 dataListens ∷ Lose false [] ∷ listenData oneAddress (19 ∷ 0 ∷ [])
           ∷ sizeLine 4 ∷ openTape 1 ∷ windowLine 0 8 0 ∷ says 0xA09 (0 ∷ 0 ∷ []) 23
@@ -87,7 +85,7 @@ twoStrangers =
           ∷ moverTcpIs toTapeMode active (counts 4 1 4) (reads 0 0) (windowWords 0 8)
           ∷ Ask 0xA03 [] (0 ∷ []) (tell 0x503 (2 ∷ []) ∷ []) ∷ stopData
           ∷ says 0x40A (1 ∷ oneAddress) 23 ∷ AskLent [] true 0x40A (1 ∷ 0 ∷ []) (9 ∷ []) [] ∷ AskLent [] true 0x40A (1 ∷ oneAddress) (0 ∷ []) []
-          ∷ startBackup ∷ End true (tell 0x501 (successful ∷ []) ∷ []) ∷ stopMover ∷ []);
+          ∷ startBackup ∷ End true (tell 0x501 (successful ∷ []) ∷ []) ∷ stopMover ∷ [];
       last = cartridge (1 ∷ 4 ∷ 1 ∷ 4 ∷ 4 ∷ 0 ∷ replicate 6 0) (streamed 4 0 ++ replicate 12 0);
       position = 1;
     }
@@ -98,10 +96,9 @@ goesByTcp =
     record {
       image = threeRecords;
       stream = [];
-      lines = login
-          ++ (sizeLine 4 ∷ openTape 0 ∷ mtio fsr 1 0 0 ∷ windowLine 0 8 0 ∷ listenTcp fromTapeMode oneAddress (0 ∷ 1 ∷ oneAddress) ∷ Make true
+      lines = sizeLine 4 ∷ openTape 0 ∷ mtio fsr 1 0 0 ∷ windowLine 0 8 0 ∷ listenTcp fromTapeMode oneAddress (0 ∷ 1 ∷ oneAddress) ∷ Make true
           ∷ read 0 4 ∷ Fetch 3 (4 ∷ 5 ∷ 6 ∷ []) [] ∷ Fetch 3 (7 ∷ []) [] ∷ dataIs 0 dataIdleWords 0
-          ∷ Lose true (tell 0x503 (connectClosed ∷ []) ∷ []) ∷ Lose true [] ∷ stopMover ∷ []);
+          ∷ Lose true (tell 0x503 (connectClosed ∷ []) ∷ []) ∷ Lose true [] ∷ stopMover ∷ [];
       last = threeRecords;
       position = 2;
     }

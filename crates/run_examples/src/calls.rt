@@ -35,38 +35,45 @@ pub fn ask(
     answer(s, image, store, &record[..end])
 }
 
-// A record, and the body of its reply. A list of one address is lent, 127.0.0.1 and port 10,000: only a listen by TCP looks at it; and one account, v with the
-// password pw by text. The challenge is zeros, since nothing here asks for it.
+// One account, v with the password pw by MD5: a count, the kind, the id and the password.
+fn accounts() -> [u8; 24] {
+    let mut lent = [0u8; 24];
+    let words = [1, 2, 1, 0x7600_0000, 2, 0x7077_0000];
+    xdr::write_words(&mut lent, 0, &words);
+    lent
+}
+
+// The challenge, the bytes 1 to 64, so that the digest is known: a host that serves is to lend fresh randomness instead.
+fn challenge() -> [u8; 64] {
+    let mut lent = [0u8; 64];
+    let words = [
+        0x0102_0304,
+        0x0506_0708,
+        0x090A_0B0C,
+        0x0D0E_0F10,
+        0x1112_1314,
+        0x1516_1718,
+        0x191A_1B1C,
+        0x1D1E_1F20,
+        0x2122_2324,
+        0x2526_2728,
+        0x292A_2B2C,
+        0x2D2E_2F30,
+        0x3132_3334,
+        0x3536_3738,
+        0x393A_3B3C,
+        0x3D3E_3F40,
+    ];
+    xdr::write_words(&mut lent, 0, &words);
+    lent
+}
+
+// A record, and the body of its reply. A list of one address is lent, 127.0.0.1 and port 10,000: only a listen by TCP looks at it.
 fn answer(s: Session, image: &mut [u8], store: &mut [u8], record: &[u8]) -> Session {
     let mut out = [0u8; codes::LARGEST_MESSAGE];
     let list = [0, 0, 0, 1, 127, 0, 0, 1, 0, 0, 39, 16, 0, 0, 0, 0];
-    let accounts = [
-        0,
-        0,
-        0,
-        1,
-        0,
-        0,
-        0,
-        1,
-        0,
-        0,
-        0,
-        1,
-        118,
-        0,
-        0,
-        0,
-        0,
-        0,
-        0,
-        2,
-        112,
-        119,
-        0,
-        0,
-    ];
-    let challenge = [0u8; 64];
+    let accounts = accounts();
+    let challenge = challenge();
     let a = call_request::request(
         s,
         &accounts,
@@ -84,18 +91,32 @@ fn answer(s: Session, image: &mut [u8], store: &mut [u8], record: &[u8]) -> Sess
     a.session
 }
 
-// A new session that has logged in.
-pub fn login(image: &mut [u8], store: &mut [u8]) -> Session {
+// A new session that was given the challenge.
+fn begin(image: &mut [u8], store: &mut [u8]) -> Session {
     let mut out = [0u8; codes::LARGEST_MESSAGE];
     let a = call_request::open(0, &mut out);
     let s = ask(b"  connect open", a.session, image, store, 2304, &[4]);
+    ask(b"  auth attributes", s, image, store, 259, &[2])
+}
+
+// A new session that has logged in by MD5: the digest is of pw, 60 zeros, the challenge and pw again.
+pub fn login(image: &mut [u8], store: &mut [u8]) -> Session {
+    let s = begin(image, store);
     ask(
         b"  client auth",
         s,
         image,
         store,
         2305,
-        &[1, 1, 1979711488, 2, 1886846976],
+        &[
+            2,
+            1,
+            0x7600_0000,
+            0x9733_4DE0,
+            0x287B_B2B9,
+            0x0F66_90EF,
+            0x6316_5FD9,
+        ],
     )
 }
 

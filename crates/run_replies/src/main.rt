@@ -350,18 +350,9 @@ fn environments() {
     refuse(b"environment_refused", 54, 1054, 0x404, 554, 0, 19, 1);
 }
 
-// A challenge of 64 bytes, no two alike; a login by text is not shown it.
+// A challenge of 64 bytes, no two alike.
 fn auth_types() {
     let challenge = b"ABCDEFGHIJKLMNOPQRSTUVWXYZabcdefghijklmnopqrstuvwxyz0123456789+/";
-    send(
-        b"auth_attr_text",
-        55,
-        1055,
-        0x103,
-        555,
-        Reply::TextAuth,
-        challenge,
-    );
     send(
         b"auth_attr_md5",
         56,

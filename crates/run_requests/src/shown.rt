@@ -21,10 +21,6 @@ pub fn unknown(number: u32) {
 pub fn connect(r: ConnectRequest, body: &[u8]) {
     match r {
         ConnectRequest::Open(version) => put_word(b" CONNECT_OPEN version ", version),
-        ConnectRequest::Auth(id, password) => {
-            put_text(b" CONNECT_CLIENT_AUTH id ", body, id);
-            put_text(b" password ", body, password);
-        }
         ConnectRequest::Md5Auth(id, digest) => {
             put_text(b" CONNECT_CLIENT_AUTH id ", body, id);
             put_text(b" digest ", body, digest);
