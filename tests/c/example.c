@@ -1,6 +1,6 @@
-/* A login by MD5. Then a backup of 3,000 bytes in records of 1,024, from C: the examples g, h and i of the rules, with a login by text and with a variable that
- * is given back. Then ends by TCP: a record that comes to the mover from a peer, and a data end that connects to one, with more variables than fit. Each step
- * is checked, and the first that is not as the rules say ends the program with 1. */
+/* A login by MD5, logins by text, which are refused, and the accounts listed. Then a backup of 3,000 bytes in records of 1,024, from C: the examples g, h and i
+ * of the rules, with a variable that is given back. Then ends by TCP: a record that comes to the mover from a peer, and a data end that connects to one, with
+ * more variables than fit. Each step is checked, and the first that is not as the rules say ends the program with 1. */
 #include "../../include/mossgoblin.h"
 #include "wire.h"
 
@@ -57,13 +57,14 @@ static size_t ask(const char *what, uint32_t message, const uint32_t *body, size
 /* The bytes of a login by MD5 that a real client sent, in a session of its own: refused before a challenge, and right with the one that it was given. */
 static void by_md5(void)
 {
-    const uint32_t login[] = {MD5_LOGIN}, by_md5[] = {2}, by_text[] = {1}, by_three[] = {3}, text_of_md5[] = {1, 4, 0x6E646D70, 4, 0x6E646D70};
+    const uint32_t login[] = {MD5_LOGIN}, by_md5[] = {2}, by_text[] = {1}, by_three[] = {3};
+    const uint32_t text_of_md5[] = {1, 4, 0x6E646D70, 4, 0x6E646D70}, text_of_text[] = {1, 1, 0x76000000, 2, 0x70770000};
     uint32_t wrong[] = {MD5_LOGIN};
     session = mossgoblin_open(0, out, sizeof out).session;
     check(!session.login.authorized && !session.login.challenged, "a new session has no login, and no challenge");
     ask_lent("client auth by MD5 before a challenge is 4", 4, NULL, 0, false, 0x901, login, 7);
-    size_t n = ask("auth attributes of type 1", 0x103, by_text, 1);
-    check(n == 36 && word(out + 32) == 1 && !session.login.challenged, "they are the type alone");
+    size_t n = ask_lent("auth attributes of type 1 are 9", 9, NULL, 0, false, 0x103, by_text, 1);
+    check(n == 36 && word(out + 32) == 0 && !session.login.challenged, "with no type, and no challenge");
     n = ask_lent("auth attributes of type 3 are 9", 9, NULL, 0, false, 0x103, by_three, 1);
     check(n == 36 && word(out + 32) == 0, "with no type");
     n = ask("auth attributes of type 2", 0x103, by_md5, 1);
@@ -72,10 +73,43 @@ static void by_md5(void)
     check(session.login.challenged && memcmp(session.login.challenge, given_challenge, MOSSGOBLIN_CHALLENGE) == 0, "the session keeps it");
     wrong[6] ^= 1;
     ask_lent("client auth by MD5 with another digest is 4", 4, NULL, 0, false, 0x901, wrong, 7);
-    ask_lent("client auth by text of an account by MD5 is 4", 4, NULL, 0, false, 0x901, text_of_md5, 5);
+    ask_lent("client auth by text is 9, with the right password of an account by MD5", 9, NULL, 0, false, 0x901, text_of_md5, 5);
+    ask_lent("and of an account by text, which lets nobody in", 9, NULL, 0, false, 0x901, text_of_text, 5);
     check(!session.login.authorized && session.login.challenged, "nobody has logged in, and the challenge stays");
     ask("client auth by MD5", 0x901, login, 7);
     check(session.login.authorized, "the client has logged in");
+    ask_lent("client auth by text is 9 then too", 9, NULL, 0, false, 0x901, by_text, 1);
+    check(session.login.authorized, "and takes nothing away");
+}
+
+/* Lists accounts into an output of 97 bytes that are all x, and compares all of it: these lines, then every x that was there. */
+static void listed(const char *what, const uint8_t *list, size_t list_len, const char *lines)
+{
+    static uint8_t to[MOSSGOBLIN_LEAST_LISTING + 1], wanted[sizeof to];
+    memset(to, 'x', sizeof to);
+    memset(wanted, 'x', sizeof wanted);
+    memcpy(wanted, lines, strlen(lines));
+    struct mossgoblin_listed l = mossgoblin_accounts(list, list_len, to, sizeof to);
+    check(l.code == 0 && l.len == strlen(lines) && memcmp(to, wanted, sizeof to) == 0, what);
+}
+
+/* The accounts of all logins here, then none, a buffer that is cut, and eight by text, which fill the least output; and an output that is a byte shorter. */
+static void listings(void)
+{
+    const uint8_t none[4] = {0};
+    uint8_t eight[4 + 8 * 12] = {0, 0, 0, 8}, to[MOSSGOBLIN_LEAST_LISTING];
+    for (size_t i = 0; i < 8; i++)
+        put_word(eight + 4 + 12 * i, 1);
+    listed("a line for each account: its number, and its kind", accounts, sizeof accounts, "0 withdrawn\n1 md5\n");
+    listed("no account, no line", none, sizeof none, "");
+    listed("a buffer that is cut has no line", accounts, sizeof accounts - 1, "");
+    listed("eight accounts by text", eight, sizeof eight,
+           "0 withdrawn\n1 withdrawn\n2 withdrawn\n3 withdrawn\n4 withdrawn\n5 withdrawn\n6 withdrawn\n7 withdrawn\n");
+    memset(to, 'x', sizeof to);
+    struct mossgoblin_listed l = mossgoblin_accounts(accounts, sizeof accounts, to, sizeof to - 1);
+    check(l.code == 1001 && l.len == 0 && to[0] == 'x', "a listing into 95 bytes is refused, and nothing is written");
+    l = mossgoblin_accounts(eight, sizeof eight, to, sizeof to);
+    check(l.code == 0 && l.len == sizeof to && to[sizeof to - 1] == '\n', "into 96 bytes it is not, and ends with its last line");
 }
 
 static struct mossgoblin_moved feed(const uint8_t *stream, size_t n, bool last)
@@ -212,6 +246,7 @@ int main(void)
     put_word(image, 1);
     put_word(image + 4, 4);
     by_md5();
+    listings();
 
     struct mossgoblin_answer a = mossgoblin_open(0, out, sizeof out - 1);
     check(a.code == 1001 && a.len == 0 && a.session.closed, "open: a short output is refused");
@@ -221,7 +256,8 @@ int main(void)
     session = a.session;
 
     ASK("connect open", 0x900, 4);
-    ASK("client auth", 0x901, 1, 1, 0x76000000, 2, 0x70770000);
+    ASK("auth attributes", 0x103, 2);
+    ASK("client auth", 0x901, MD5_LOGIN);
     ASK("tape open", 0x300, 5, 0x74617065, 0x30000000, 1);
     ASK("set record size", 0xA08, 1024);
     ASK("set window", 0xA05, 0, 0, 0, 2048);

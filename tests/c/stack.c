@@ -51,11 +51,17 @@ static struct mossgoblin_addresses no_addresses(const uint8_t *input, size_t inp
     return (struct mossgoblin_addresses){0};
 }
 
+static struct mossgoblin_listed no_accounts(const uint8_t *a, size_t a_len, uint8_t *o, size_t o_len)
+{
+    return (struct mossgoblin_listed){0};
+}
+
 static __typeof__(mossgoblin_request) *volatile request;
 static __typeof__(mossgoblin_move_to_tape) *volatile to_tape;
 static __typeof__(mossgoblin_move_from_tape) *volatile from_tape;
 static __typeof__(mossgoblin_made) *volatile event;
 static __typeof__(mossgoblin_addresses) *volatile reader;
+static __typeof__(mossgoblin_accounts) *volatile lister;
 
 /* What a listen by TCP is lent: one address with the pair of A and 1. */
 static const uint8_t list[] = {0, 0, 0, 1, 10, 0, 0, 1, 0, 0, 39, 16, 0, 0, 0, 1,
@@ -66,6 +72,7 @@ static bool last, of_mover;
 static struct mossgoblin_answer answer;
 static struct mossgoblin_moved moved;
 static struct mossgoblin_addresses given;
+static struct mossgoblin_listed lines;
 
 static void do_request(void)
 {
@@ -81,6 +88,11 @@ static void do_event(void)
 static void do_reader(void)
 {
     given = reader(record, record_len);
+}
+
+static void do_lister(void)
+{
+    lines = lister(accounts, sizeof accounts, out, sizeof out);
 }
 
 static void do_to_tape(void)
@@ -124,7 +136,7 @@ static size_t written(void (*f)(void))
 }
 
 /* ---- the calls, each with the greatest use so far */
-static size_t most_request, most_to_tape, most_from_tape, most_made, most_lost, most_addresses;
+static size_t most_request, most_to_tape, most_from_tape, most_made, most_lost, most_addresses, most_accounts;
 
 static size_t beyond(size_t with, size_t without, size_t *most)
 {
@@ -219,6 +231,16 @@ static void look(uint32_t message, const uint32_t *body, size_t words)
     check(given.count == 1 && given.ports[0] == 10000, "the reader does not give the address");
 }
 
+/* The accounts, listed: one by text, and one by MD5. */
+static void list_accounts(void)
+{
+    lister = no_accounts;
+    size_t without = written(do_lister);
+    lister = mossgoblin_accounts;
+    beyond(written(do_lister), without, &most_accounts);
+    check(lines.code == 0 && lines.len == 12 + 6, "the accounts are not listed");
+}
+
 /* ---- the run */
 /* Entries of one byte, and a mark at every second place. */
 static void make_table(uint32_t n)
@@ -267,7 +289,6 @@ static void log_in(void)
     session = mossgoblin_open(0, out, sizeof out).session;
     ASK(0x900, 4);
     ASK(0x108);
-    ASK(0x901, 1, 1, 0x76000000, 2, 0x70770000);
     ASK(0x103, 2);
     ASK(0x901, MD5_LOGIN);
     ASK(0x102);
@@ -353,12 +374,14 @@ int main(void)
     back_up();
     recover();
     by_tcp();
+    list_accounts();
     printf("mossgoblin_request %zu\n", most_request);
     printf("mossgoblin_move_to_tape %zu\n", most_to_tape);
     printf("mossgoblin_move_from_tape %zu\n", most_from_tape);
     printf("mossgoblin_made %zu\n", most_made);
     printf("mossgoblin_lost %zu\n", most_lost);
     printf("mossgoblin_addresses %zu\n", most_addresses);
+    printf("mossgoblin_accounts %zu\n", most_accounts);
     fprintf(stderr, "a session has %zu bytes, an answer %zu, what a move returns %zu, a list of addresses %zu\n",
             sizeof session, sizeof answer, sizeof moved, sizeof given);
     fprintf(stderr, "a spacing call takes %zu bytes of stack, over four entries and over 4,096\n", spacing);

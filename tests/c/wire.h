@@ -30,7 +30,7 @@ static size_t put_request(uint8_t *record, uint32_t message, const uint32_t *bod
     return 28 + 4 * words;
 }
 
-/* What a host lends for a login: v with the password pw by text, ndmp with the password ndmp by MD5. */
+/* What a host lends for a login: v with the password pw by text, which lets nobody in, ndmp with the password ndmp by MD5. */
 static const uint8_t accounts[] = {0, 0, 0, 2, 0, 0, 0, 1, 0, 0, 0, 1, 'v', 0, 0, 0, 0, 0, 0, 2, 'p', 'w', 0, 0,
                                    0, 0, 0, 2, 0, 0, 0, 4, 'n', 'd', 'm', 'p', 0, 0, 0, 4, 'n', 'd', 'm', 'p'};
 

@@ -14,6 +14,9 @@ pub use types::{Answer, Changer, Data, Login, Moved, Mover, Session, Tape};
 /// The least output that the calls take.
 pub const OUTPUT: usize = codes::LARGEST_MESSAGE;
 
+/// The least output that a listing of accounts takes, as `crates/call_accounts` has it (`tests/names.rs` compares both).
+pub const LEAST_LISTING: usize = 96;
+
 /// What a login by MD5 answers.
 pub type Challenge = [u8; codes::CHALLENGE_LENGTH];
 
@@ -96,6 +99,7 @@ unsafe extern "C" {
     fn mossgoblin_made(s: Session, mover: bool, time: u32, out: *mut u8, n: usize) -> Answer;
     fn mossgoblin_lost(s: Session, mover: bool, time: u32, out: *mut u8, n: usize) -> Answer;
     fn mossgoblin_addresses(input: *const u8, n: usize) -> Addresses;
+    fn mossgoblin_accounts(accounts: *const u8, n: usize, out: *mut u8, k: usize) -> Listed;
     fn mossgoblin_sound(image: *const u8, n: usize) -> bool;
     fn mossgoblin_entry(image: *const u8, n: usize, i: usize) -> Entry;
 }
@@ -119,14 +123,23 @@ pub struct Addresses {
     pub ports: [u32; codes::MOST_ADDRESSES as usize],
 }
 
-// Safety, of all ten: the slices are whole and apart, and the functions ask for nothing else.
+/// What a listing of accounts came to, as `crates/call_accounts` has it: the code is 0, or SHORT_OUTPUT, and the lines
+/// are the output's first `len` bytes.
+#[repr(C)]
+#[derive(Clone, Copy, Debug, PartialEq)]
+pub struct Listed {
+    pub code: u32,
+    pub len: usize,
+}
+
+// Safety, of all eleven: the slices are whole and apart, and the functions ask for nothing else.
 
 pub fn open(time: u32, out: &mut [u8]) -> Answer {
     unsafe { mossgoblin_open(time, out.as_mut_ptr(), out.len()) }
 }
 
-/// The accounts are what a login is compared with: an XDR list of at most `codes::MOST_ACCOUNTS`, of each its kind (`codes::TEXT_AUTH` or
-/// `codes::MD5_AUTH`), its id and its password. The challenge is given to a client that asks for one, and has to be another with each call. The addresses
+/// The accounts are what a login is compared with: an XDR list of at most `codes::MOST_ACCOUNTS`, of each its kind (`codes::MD5_AUTH`, or
+/// `codes::TEXT_AUTH`, by which nobody gets in), its id and its password. The challenge is given to a client that asks for one, and has to be another with each call. The addresses
 /// are what a listen by TCP answers: an XDR list, without the type. Made is whether the connection of a connect by TCP was made. Other requests look at none
 /// of these. The variables are the store of the environment, `codes::STORE_LENGTH` bytes, which an accepted start and an accepted stop of the data end
 /// write: one of another length is refused with 1001.
@@ -213,6 +226,12 @@ pub fn lost(s: Session, mover: bool, time: u32, out: &mut [u8]) -> Answer {
 /// The addresses of a record that is a connect by TCP; none of any other.
 pub fn addresses(input: &[u8]) -> Addresses {
     unsafe { mossgoblin_addresses(input.as_ptr(), input.len()) }
+}
+
+/// The accounts that `request` may be lent, as lines: a number from 0, a blank, `md5` or `withdrawn`. Of bytes that are
+/// not laid out so there are none. An output below `LEAST_LISTING` is refused with 1001.
+pub fn accounts(accounts: &[u8], out: &mut [u8]) -> Listed {
+    unsafe { mossgoblin_accounts(accounts.as_ptr(), accounts.len(), out.as_mut_ptr(), out.len()) }
 }
 
 /// The image is a sound cartridge.

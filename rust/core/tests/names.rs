@@ -1,5 +1,5 @@
 //! The names here and those of the crates are the same, with the same numbers.
-use proved::{Data, Mover, codes};
+use proved::{Data, LEAST_LISTING, Mover, codes};
 use std::collections::BTreeMap;
 use std::fs;
 
@@ -22,6 +22,8 @@ fn names_are_those_of_the_crates() {
     assert_eq!(here(Data::NAMED), constants(session, "impl Data {"));
     assert_eq!(here(Mover::NAMED), constants(session, "impl Mover {"));
     assert_eq!(here(codes::NAMED), constants("codes/src/lib.rt", "// Numbers"));
+    let listing = constants("call_accounts/src/lib.rt", "// The accounts");
+    assert_eq!(here(&[("LEAST_LISTING", LEAST_LISTING as u64)]), listing);
 }
 
 #[test]

@@ -1,8 +1,8 @@
 //! Who may log in: the accounts of a file and of the command line, and the list of them that the core is lent. No line
-//! for a person shows a password, or any other text of the file: what stands there may be one.
+//! for a person shows a password, and none about a file that is wrong shows any text of it: what stands there may be one.
 use crate::sys;
+use crate::variables::quoted;
 use proved::codes;
-use std::fmt;
 use std::fs::OpenOptions;
 use std::io::{ErrorKind, Read};
 use std::os::unix::fs::{MetadataExt, OpenOptionsExt};
@@ -13,7 +13,8 @@ use wire::{text, words};
 const LONGEST_FILE: usize = 64 << 10;
 const MOST: usize = codes::MOST_ACCOUNTS as usize;
 
-/// How an account logs in.
+/// What an account is marked with. Logins by text are withdrawn: such an account is lent to the core, which lets nobody in by
+/// it.
 #[derive(Clone, Copy, Debug, PartialEq)]
 pub enum Kind {
     Text,
@@ -30,20 +31,16 @@ impl Kind {
     }
 }
 
-impl fmt::Display for Kind {
-    fn fmt(&self, f: &mut fmt::Formatter) -> fmt::Result {
-        f.write_str(match self {
-            Kind::Text => "text",
-            Kind::Md5 => "MD5",
-        })
-    }
-}
-
 pub struct Account {
     pub kind: Kind,
     pub id: Vec<u8>,
     pub password: Vec<u8>,
+    /// The line of the file, from 1.
+    pub line: Option<usize>,
 }
+
+/// What is to be done with a line of kind text.
+const MEND: &str = "write md5 in place of text, with a password of at most 32 bytes";
 
 /// The list for the core: a count, and of each account kind, id and password, in XDR.
 pub fn lent(accounts: &[Account]) -> Vec<u8> {
@@ -55,15 +52,53 @@ pub fn lent(accounts: &[Account]) -> Vec<u8> {
 pub fn all(one: Option<Account>, file: Option<&Path>) -> Result<Vec<Account>, String> {
     let mut all: Vec<Account> = one.into_iter().collect();
     if let Some(path) = file {
-        all.extend(read(path, MOST - all.len())?);
+        all.extend(read(path, MOST - all.len()).map_err(|why| format!("--accounts {why}"))?);
     }
     Ok(all)
 }
 
 /// The accounts of a file, which has at least one and at most so many.
 fn read(path: &Path, most: usize) -> Result<Vec<Account>, String> {
-    let told = |why| format!("--accounts {}: {why}", path.display());
+    let told = |why| format!("{}: {why}", path.display());
     bytes_of(path).and_then(|bytes| parse(&bytes, most)).map_err(told)
+}
+
+/// A line of the core's for each account of a file: its number from 0, and `md5` or `withdrawn`.
+pub fn listing(path: &Path) -> Result<Vec<u8>, String> {
+    let mut lines = vec![0; proved::LEAST_LISTING];
+    let listed = proved::accounts(&lent(&read(path, MOST)?), &mut lines);
+    if listed.code != 0 {
+        return Err(format!("{}: not listed, for the core's code is {}", path.display(), listed.code));
+    }
+    lines.truncate(listed.len);
+    Ok(lines)
+}
+
+/// The first account of a file, which is to log in.
+pub fn first(path: &Path) -> Result<Account, String> {
+    let account = all(None, Some(path))?.swap_remove(0);
+    match (account.kind, account.line) {
+        (Kind::Text, Some(line)) => {
+            let why = "its first account is one of text, and such a login is withdrawn";
+            Err(format!("--accounts {}: line {line}: {why}; {MEND}, or put an md5 line first", path.display()))
+        }
+        _ => Ok(account),
+    }
+}
+
+/// What is to be said at the start: of each account that can no longer log in, and where none is left that can.
+pub fn withdrawn(accounts: &[Account], file: &Path) -> Vec<String> {
+    let file = file.display();
+    let texts = accounts.iter().filter(|a| a.kind == Kind::Text);
+    let told = |a: &Account| {
+        let (id, line) = (quoted(&a.id), a.line.unwrap_or(0));
+        format!("account {id} by text is withdrawn and can no longer log in; in line {line} of {file} {MEND}")
+    };
+    let mut all: Vec<String> = texts.map(told).collect();
+    if all.len() == accounts.len() {
+        all.push(format!("nobody can log in: all accounts of {file} are withdrawn"));
+    }
+    all
 }
 
 /// The bytes of a file that its owner alone may read. It is judged by the handle, and not by a name that may come to mean
@@ -109,9 +144,10 @@ fn parse(bytes: &[u8], most: usize) -> Result<Vec<Account>, String> {
         if all.len() == most {
             return Err(told(format!("one account too many; at most {MOST}, and that of --account is one of them")));
         }
-        all.push(account(&parts).map_err(told)?);
+        let account = account(&parts).map_err(told)?;
+        all.push(Account { line: Some(i + 1), ..account });
     }
-    if all.is_empty() { Err("has no account; a line is text ID PASSWORD or md5 ID PASSWORD".into()) } else { Ok(all) }
+    if all.is_empty() { Err("has no account; a line is md5 ID PASSWORD".into()) } else { Ok(all) }
 }
 
 /// The account of a line.
@@ -119,16 +155,23 @@ fn account(parts: &[&[u8]]) -> Result<Account, String> {
     let kind = match parts[0].to_ascii_lowercase().as_slice() {
         b"text" => Kind::Text,
         b"md5" => Kind::Md5,
-        _ => return Err("expected text or md5 as its first word".into()),
+        _ => return Err("expected md5 as its first word".into()),
     };
     let [_, id, password] = parts else {
-        return Err(format!("expected three words, KIND ID PASSWORD, and found {}", parts.len()));
+        return Err(format!("expected three words, md5 ID PASSWORD, and found {}", parts.len()));
     };
-    if kind == Kind::Md5 && password.len() > codes::LONGEST_PASSWORD {
-        let (n, most) = (password.len(), codes::LONGEST_PASSWORD);
-        return Err(format!("an MD5 password of {n} bytes lets nobody in; at most {most}"));
+    if kind == Kind::Md5 {
+        fits(password)?;
     }
-    Ok(Account { kind, id: id.to_vec(), password: password.to_vec() })
+    Ok(Account { kind, id: id.to_vec(), password: password.to_vec(), line: None })
+}
+
+/// Whether a password can log in by MD5.
+pub fn fits(password: &[u8]) -> Result<(), String> {
+    match (password.len(), codes::LONGEST_PASSWORD) {
+        (n, most) if n > most => Err(format!("an MD5 password of {n} bytes lets nobody in; at most {most}")),
+        _ => Ok(()),
+    }
 }
 
 #[cfg(test)]
@@ -163,13 +206,13 @@ mod tests {
     fn wrong_lines_are_told() {
         let long = format!("\nmd5 a {}", "p".repeat(33));
         for (file, why) in [
-            ("", "has no account; a line is text ID PASSWORD or md5 ID PASSWORD"),
-            ("# text a b\n\n", "has no account; a line is text ID PASSWORD or md5 ID PASSWORD"),
-            ("secret:word", "line 1: expected text or md5 as its first word"),
-            ("text a b\n#\nsha1 a secret", "line 3: expected text or md5 as its first word"),
-            ("md5", "line 1: expected three words, KIND ID PASSWORD, and found 1"),
-            ("\r\ntext secret\r\n", "line 2: expected three words, KIND ID PASSWORD, and found 2"),
-            ("text a secret word", "line 1: expected three words, KIND ID PASSWORD, and found 4"),
+            ("", "has no account; a line is md5 ID PASSWORD"),
+            ("# md5 a b\n\n", "has no account; a line is md5 ID PASSWORD"),
+            ("secret:word", "line 1: expected md5 as its first word"),
+            ("text a b\n#\nsha1 a secret", "line 3: expected md5 as its first word"),
+            ("md5", "line 1: expected three words, md5 ID PASSWORD, and found 1"),
+            ("\r\ntext secret\r\n", "line 2: expected three words, md5 ID PASSWORD, and found 2"),
+            ("md5 a secret word", "line 1: expected three words, md5 ID PASSWORD, and found 4"),
             (&long, "line 2: an MD5 password of 33 bytes lets nobody in; at most 32"),
         ] {
             assert_eq!(told(file.as_bytes(), 8), Err(why.into()));
@@ -185,12 +228,35 @@ mod tests {
     /// By hand: the count, and kind, id and password of each, as RFC 4506 has words and strings.
     #[test]
     fn list_for_the_core() {
-        let account = |kind, id: &str, password: &str| Account { kind, id: id.into(), password: password.into() };
+        let account = |kind, id: &str, password: &str| {
+            let (id, password) = (id.into(), password.into());
+            Account { kind, id, password, line: None }
+        };
         let all = [account(Kind::Md5, "a", "noon"), account(Kind::Text, "vault", "\u{fc}")];
         let bytes = b"\0\0\0\x02\
             \0\0\0\x02\0\0\0\x01a\0\0\0\0\0\0\x04noon\
             \0\0\0\x01\0\0\0\x05vault\0\0\0\0\0\0\x02\xc3\xbc\0\0";
         assert_eq!(lent(&all), bytes);
         assert_eq!(lent(&[]), [0; 4]);
+    }
+
+    /// By the line and in quotes, and without the password.
+    #[test]
+    fn withdrawn_accounts_are_told() {
+        let told = |bytes: &[u8]| withdrawn(&parse(bytes, 8).unwrap(), Path::new("/f"));
+        let long = format!("text {} secret\n", "i".repeat(300));
+        let line = |id: &str, line: u32| {
+            format!(
+                "account {id} by text is withdrawn and can no longer log in; in line {line} of /f write md5 in place of text, with \
+                 a password of at most 32 bytes"
+            )
+        };
+        assert_eq!(told(b"md5 a secret\n"), Vec::<String>::new());
+        assert_eq!(
+            told(b"#\ntext a\"b secret\nmd5 a secret\ntext b secret\n"),
+            [line("\"a\"\"b\"", 2), line("\"b\"", 4)]
+        );
+        let none = "nobody can log in: all accounts of /f are withdrawn";
+        assert_eq!(told(long.as_bytes()), [line(&format!("\"{}\"..", "i".repeat(200)), 1), none.into()]);
     }
 }

@@ -1,5 +1,5 @@
 //! The options of `mossgoblin serve`.
-use crate::accounts::{Account, Kind};
+use crate::accounts::{Account, Kind, fits};
 use crate::line::Limits;
 use crate::options::{Known, Written, alone, valued};
 use crate::ports::{self, Ports};
@@ -58,15 +58,16 @@ pub fn size(text: &str) -> Option<usize> {
 
 pub const NO_ACCOUNT: &str = "--accounts FILE or --account ID:PASSWORD is missing";
 
-/// The account `ID:PASSWORD`, which logs in by text.
+/// The account `ID:PASSWORD`, which logs in by MD5.
 pub fn account(value: &OsStr) -> Result<Account, String> {
     let bytes = value.as_bytes();
     let at = bytes.iter().position(|b| *b == b':').ok_or("--account: expected ID:PASSWORD, such as vault:noon")?;
     let (id, password) = (&bytes[..at], &bytes[at + 1..]);
     if id.is_empty() || password.is_empty() {
-        return Err("--account: an empty id or password would let anyone in; expected ID:PASSWORD".into());
+        return Err("--account: neither id nor password may be empty; expected ID:PASSWORD, such as vault:noon".into());
     }
-    Ok(Account { kind: Kind::Text, id: id.to_vec(), password: password.to_vec() })
+    fits(password).map_err(|why| format!("--account: {why}"))?;
+    Ok(Account { kind: Kind::Md5, id: id.to_vec(), password: password.to_vec(), line: None })
 }
 
 /// A port alone is one of this machine's.

@@ -209,15 +209,14 @@ impl Client {
         self.good(CONNECT_OPEN, &words(&[codes::VERSION_FOUR])).map(drop)
     }
 
-    /// The same, and logs in by text.
+    /// The same, and logs in by MD5: the password itself is not sent.
     pub fn login(&mut self, id: &[u8], password: &[u8]) -> Result<()> {
         self.open()?;
-        self.good(CONNECT_CLIENT_AUTH, &[words(&[codes::TEXT_AUTH]), text(id), text(password)].concat()).map(drop)
+        self.auth(id, password)
     }
 
-    /// The same by MD5: the password itself is not sent.
-    pub fn login_by_md5(&mut self, id: &[u8], password: &[u8]) -> Result<()> {
-        self.open()?;
+    /// Asks for a challenge, and logs in by MD5.
+    pub fn auth(&mut self, id: &[u8], password: &[u8]) -> Result<()> {
         let challenge = self.challenge()?;
         // A password of another length lets nobody in.
         let never = Error::Refused { message: CONNECT_CLIENT_AUTH, error: codes::NOT_AUTHORIZED };

@@ -1,4 +1,5 @@
-//! The commands on cartridge files: `new`, `list` and `check`.
+//! The commands on files: `new`, `list` and `check` of cartridges, `accounts`.
+use crate::accounts;
 use crate::args::size;
 use crate::cartridge;
 use crate::options::Written;
@@ -63,8 +64,7 @@ fn entries(file: &OsString) -> Result<(Vec<Entry>, (usize, usize)), Failed> {
 pub fn list(w: &Written) -> Result<(), Failed> {
     let (all, (capacity, body)) = entries(one_file(w)?)?;
     let used: usize = all.iter().map(|e| e.len).sum();
-    let print = || {
-        let mut out = BufWriter::new(stdout().lock());
+    printed(|out| {
         writeln!(out, "cartridge {} of {capacity} entries, {used} of {body} bytes", all.len())?;
         for (i, Entry { len, start, .. }) in all.iter().enumerate() {
             match len {
@@ -72,12 +72,22 @@ pub fn list(w: &Written) -> Result<(), Failed> {
                 n => writeln!(out, "{i} record {n} at {start}")?,
             }
         }
-        out.flush()
-    };
-    match print() {
+        Ok(())
+    })
+}
+
+/// Lines on standard output, whose reader may have seen enough.
+fn printed(print: impl Fn(&mut dyn Write) -> std::io::Result<()>) -> Result<(), Failed> {
+    let mut out = BufWriter::new(stdout().lock());
+    match print(&mut out).and_then(|()| out.flush()) {
         Err(e) if e.kind() != std::io::ErrorKind::BrokenPipe => Err(Failed::Work(format!("standard output: {e}"))),
         _ => Ok(()),
     }
+}
+
+pub fn accounts(w: &Written) -> Result<(), Failed> {
+    let lines = accounts::listing(Path::new(one_file(w)?))?;
+    printed(|out| out.write_all(&lines))
 }
 
 pub fn check(w: &Written) -> Result<(), Failed> {

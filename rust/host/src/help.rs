@@ -3,11 +3,12 @@
 pub const PROGRAM: &str = "\
 mossgoblin: a tape vault that speaks NDMP version 4 over TCP
 
-  mossgoblin serve   put a cartridge on a port: backups go to it, recovers come from it
-  mossgoblin new     make an empty cartridge, which is one file
-  mossgoblin list    print what is on a cartridge
-  mossgoblin check   say whether a cartridge is sound
-  mossgoblin try     make a backup and a recover, and compare
+  mossgoblin serve      put a cartridge on a port: backups go to it, recovers come from it
+  mossgoblin new        make an empty cartridge, which is one file
+  mossgoblin list       print what is on a cartridge
+  mossgoblin check      say whether a cartridge is sound
+  mossgoblin accounts   say of each account of a file whether it can log in
+  mossgoblin try        make a backup and a recover, and compare
 
   mossgoblin COMMAND --help   what the command does, its options and examples
   mossgoblin --version        the version
@@ -38,15 +39,16 @@ mossgoblin serve: put a cartridge on a port, for any NDMP v4 client
   --new-cartridge SIZE    make FILE first; it must not exist. SIZE is the room for data:
                           bytes, or with K, M, G behind the number; at most 128M.
                           The table has room for 4,096 records and marks.
-  --accounts FILE         who may log in: a line each, `text ID PASSWORD` or
-                          `md5 ID PASSWORD`, at most eight. An account logs in by its
-                          kind alone; by MD5 the password does not go over the network,
+  --accounts FILE         who may log in: a line each, `md5 ID PASSWORD`, at most eight.
+                          Logins are by MD5: the password does not go over the network,
                           and has at most 32 bytes. An id or a password has no blanks.
                           Empty lines and those that begin with # are passed over. FILE
                           is yours or root's, and nobody else's to read: chmod 600 FILE.
-                          It is read once, at the start.
-  --account ID:PASSWORD   one more account, by text, neither empty; the password may hold
-                          colons, and both are seen by those who may list processes
+                          It is read once, at the start. Lines `text ID PASSWORD` are read
+                          too, and let nobody in: text login is withdrawn.
+  --account ID:PASSWORD   one more account, neither empty, the password of at most 32 bytes;
+                          it may hold colons, and both are seen by those who may list
+                          processes
   --stream DIR|FILE       what a backup reads: a folder goes to tape as a tar archive,
                           a file as an archive of one member. Length and SHA-256 stand
                           at its end.
@@ -86,12 +88,12 @@ mossgoblin serve: put a cartridge on a port, for any NDMP v4 client
   --quiet                 no progress and no refusals on standard error, only errors
 
 The devices are `tape0` and `changer0`, the method is `dump`, addresses are LOCAL and TCP.
-A backup, seen from the client: connect open (version 4), client auth (text, or MD5 behind get
-auth attributes), tape open `tape0` for writing, mover set record size (10,240 where it is left
-out), mover set window, mover listen (mode 0), data connect, data start backup. At `mover
-paused` with reason 5 (end of window): set the next window and continue; a window of length
-2^64 - 1 has no end. At `data halted`: data get env, which gives the variables of the start
-back, until data stop; mover stop, tape close.
+A backup, seen from the client: connect open (version 4), get auth attributes (type 2) for a
+challenge, client auth by MD5 (text is refused with 9), tape open `tape0` for writing, mover
+set record size (10,240 where it is left out), mover set window, mover listen (mode 0), data
+connect, data start backup. At `mover paused` with reason 5 (end of window): set the next
+window and continue; a window of length 2^64 - 1 has no end. At `data halted`: data get env,
+which gives the variables of the start back, until data stop; mover stop, tape close.
 A recover is the same with mode 1 and data start recover, from a rewound tape; the mover
 reads are made by the vault.
 A copy between two vaults has a session on each: mover listen by TCP where the tape is gives
@@ -158,6 +160,25 @@ Examples:
   mossgoblin check /var/lib/mossgoblin/* && echo all sound
 ";
 
+pub const ACCOUNTS: &str = "\
+mossgoblin accounts: say of each account of a file whether it can log in
+
+  mossgoblin accounts FILE
+
+FILE is one of --accounts, and judged as the vault does at its start. A line for each account,
+as the proved core tells it: its number from 0, in the order of the file, and
+
+  md5         logs in by MD5
+  withdrawn   a line `text ID PASSWORD`, by which nobody gets in any more: write md5 in place
+              of text, with a password of at most 32 bytes
+
+Neither ids nor passwords are told.
+
+Examples:
+  mossgoblin accounts /etc/mossgoblin/accounts
+  mossgoblin accounts accounts | grep withdrawn
+";
+
 pub const TRY: &str = "\
 mossgoblin try: make a backup and a recover, and compare
 
@@ -175,8 +196,8 @@ A line tells each step, with its bytes and rate:
   compared   both, byte for byte, where this machine has them
 
   --accounts FILE            as the vault was started with: the first account of FILE logs
-                             in, by its kind
-  --account ID:PASSWORD      as the vault was started with: a login by text
+                             in, by MD5
+  --account ID:PASSWORD      the same of one account
   --overwrite                write over the records on the vault's tape; without it a tape
                              that is not empty is left as it is
   --stream, --restore-to     the same that the vault was started with, if it runs on this

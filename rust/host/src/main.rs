@@ -16,11 +16,12 @@ fn serve(w: &Written) -> Result<(), Failed> {
     Ok(server::run(args::serve(w).map_err(Failed::Words)?)?)
 }
 
-const COMMANDS: [Command; 5] = [
+const COMMANDS: [Command; 6] = [
     Command { name: "serve", help: help::SERVE, known: &args::SERVE, run: serve },
     Command { name: "new", help: help::NEW, known: &[], run: commands::new },
     Command { name: "list", help: help::LIST, known: &[], run: commands::list },
     Command { name: "check", help: help::CHECK, known: &[], run: commands::check },
+    Command { name: "accounts", help: help::ACCOUNTS, known: &[], run: commands::accounts },
     Command { name: "try", help: help::TRY, known: &trial::TRY, run: trial::run },
 ];
 
@@ -40,7 +41,7 @@ fn main() -> ExitCode {
     let mut words = std::env::args_os().skip(1);
     let first = words.next().unwrap_or_default();
     match first.to_str() {
-        Some("") => wrong("", "a command is missing: serve, new, list, check or try"),
+        Some("") => wrong("", "a command is missing: serve, new, list, check, accounts or try"),
         Some("--version" | "-V") => print(&format!("mossgoblin {} (NDMP version 4)\n", env!("CARGO_PKG_VERSION"))),
         Some("--help" | "-h") => print(help::PROGRAM),
         Some("help") => match words.next().map(|w| COMMANDS.iter().find(|c| w == c.name)) {

@@ -1,5 +1,5 @@
 //! Starting the vault, and one thread for each connection.
-use crate::accounts::{self, Account, Kind};
+use crate::accounts;
 use crate::args::Args;
 use crate::cartridge::{self, Cartridge};
 use crate::folder::Id;
@@ -112,7 +112,7 @@ pub fn run(mut args: Args) -> Result<(), String> {
     let watch = page.is_some().then(|| Watch::new(&cartridge, &args.cartridge));
     let address = listener.local_addr().map_err(|e| e.to_string())?;
     let _ = writeln!(stdout(), "listening on {address}");
-    let Args { stream, restore_to, ports, limits, strict, marks, quiet, .. } = args;
+    let Args { accounts: file, stream, restore_to, ports, limits, strict, marks, quiet, .. } = args;
     let shared = Arc::new(Shared {
         vault: Vault::new(cartridge),
         accounts: accounts::lent(&accounts),
@@ -128,26 +128,25 @@ pub fn run(mut args: Args) -> Result<(), String> {
         open: Mutex::default(),
         ending: AtomicBool::new(false),
     });
-    warn_of(&shared.log, "--listen", address.ip(), address, in_the_clear(&accounts));
-    for at in &shared.ports.addresses {
-        warn_of(&shared.log, "--data-address", (*at).into(), at, UNKNOWN_PEER);
-    }
+    warn(&shared, address);
+    file.map(|f| accounts::withdrawn(&accounts, &f)).into_iter().flatten().for_each(|text| shared.log.error(text));
     page.map_or(Ok(()), |page| start_page(page, &shared, address)).map_err(|e| format!("--status: {e}"))?;
     hear_signals(shared.clone()).map_err(|e| format!("signals: {e}"))?;
     accept(&listener, shared)
 }
 
 /// What others on the network can read. A login by MD5 is none of it.
-fn in_the_clear(accounts: &[Account]) -> &'static str {
-    if accounts.iter().any(|a| a.kind == Kind::Text) {
-        "logins by text and data go over the network as they are"
-    } else {
-        "data go over the network as they are"
-    }
-}
+const IN_THE_CLEAR: &str = "data go over the network as they are";
 
 const UNKNOWN_PEER: &str =
     "whoever connects first to an open data port is the peer, and data go over the network as they are";
+
+fn warn(shared: &Shared, address: SocketAddr) {
+    warn_of(&shared.log, "--listen", address.ip(), address, IN_THE_CLEAR);
+    for at in &shared.ports.addresses {
+        warn_of(&shared.log, "--data-address", (*at).into(), at, UNKNOWN_PEER);
+    }
+}
 
 /// What is to be said of an address that others reach.
 fn reached(option: &str, ip: IpAddr, at: impl Display, what: &str) -> Option<String> {

@@ -1,5 +1,4 @@
 //! One connection: each record goes to the core, and what the core writes goes to the client.
-use crate::accounts::Kind;
 use crate::frames::{End, Frames};
 use crate::line::{Line, Over, Result, Shared, seconds};
 use crate::server::Leaves;
@@ -26,6 +25,8 @@ pub struct Connection<'a> {
     stranger: Option<Leaves>,
     since: Instant,
     wrong: usize,
+    /// Whether it was told that its client logs in by text.
+    withdrawn: bool,
     /// Writes that were answered in memory; and the answers, which wait until all of them are on the disk.
     writes: Vec<Vec<u8>>,
     replies: Vec<u8>,
@@ -47,7 +48,15 @@ pub fn serve(socket: TcpStream, shared: &Shared, number: usize, stranger: Leaves
         watch.came(number, peer, core);
     }
     let since = Instant::now();
-    let mut c = Connection { line, stranger: Some(stranger), since, wrong: 0, writes: Vec::new(), replies: Vec::new() };
+    let mut c = Connection {
+        line,
+        stranger: Some(stranger),
+        since,
+        wrong: 0,
+        withdrawn: false,
+        writes: Vec::new(),
+        replies: Vec::new(),
+    };
     c.line.send(opened.len)?;
     while !shared.ending.load(Ordering::SeqCst) {
         // Moves go on as long as the client says nothing. What they tell comes after the answers that wait.
@@ -85,11 +94,19 @@ fn refusal(reply: &[u8]) -> Option<u32> {
     (!matches!(told, 0 | codes::AT_MARK | codes::AT_END)).then_some(told)
 }
 
-/// Who a login is for, and by which kind.
+/// Who a login is for.
 fn login_of(record: &[u8]) -> String {
-    let (kind, id) = wishes::login(record).unwrap_or_default();
-    let kind = if kind == codes::MD5_AUTH { Kind::Md5 } else { Kind::Text };
-    format!("{} by {kind}", variables::quoted(&id))
+    variables::quoted(&wishes::login(record).unwrap_or_default())
+}
+
+/// The client of a request that was refused for its auth type, where that is text.
+fn by_text(record: &[u8], error: u32) -> Option<String> {
+    let text = error == codes::ILLEGAL_ARGUMENTS && word_at(record, HEADER) == Some(codes::TEXT_AUTH);
+    match number(record) {
+        message::CONNECT_CLIENT_AUTH if text => Some(format!("client of {}", login_of(record))),
+        message::CONFIG_GET_AUTH_ATTR if text => Some("client".into()),
+        _ => None,
+    }
 }
 
 impl Connection<'_> {
@@ -173,8 +190,8 @@ impl Connection<'_> {
     /// A wrong login is told, and answered late.
     fn wrong_login(&mut self, record: &[u8]) {
         self.wrong += 1;
-        let peer = self.line.socket.peer_addr().map_or("?".into(), |a| a.to_string());
-        self.line.progress.error(format_args!("wrong login as {} from {peer}", login_of(record)));
+        let (id, peer) = (login_of(record), self.line.peer());
+        self.line.progress.error(format_args!("wrong login as {id} by MD5 from {peer}"));
         std::thread::sleep(WRONG_LOGIN);
     }
 
@@ -235,9 +252,19 @@ impl Connection<'_> {
         let message = number(record);
         if let Some(error) = refused {
             let (name, meaning) = (message::name(message), crate::client::meaning(error));
-            line.progress.line(format_args!("refused: {name} (0x{message:03x}) with {error}{meaning}"));
+            let mut why = format!("refused: {name} (0x{message:03x}) with {error}{meaning}");
+            let text = by_text(record, error);
+            if let Some(client) = &text {
+                let peer = line.peer();
+                why += &format!(": text login is withdrawn; the {client} at {peer} is to log in by MD5");
+            }
+            // Once also when all else is quiet: such a client would stay outside, and nobody would know why.
+            match text {
+                Some(_) if !std::mem::replace(&mut self.withdrawn, true) => line.progress.error(why),
+                _ => line.progress.line(why),
+            }
         } else if login {
-            line.progress.line(format_args!("logged in as {}", login_of(record)));
+            line.progress.line(format_args!("logged in as {} by MD5", login_of(record)));
         } else if was != Data::ACTIVE && line.core.source.state == Data::ACTIVE {
             line.started(record);
         }
@@ -245,6 +272,11 @@ impl Connection<'_> {
 }
 
 impl Line<'_> {
+    /// Where the client is.
+    fn peer(&self) -> String {
+        self.socket.peer_addr().map_or("?".into(), |a| a.to_string())
+    }
+
     /// A start was accepted, and the store has its variables.
     fn started(&mut self, record: &[u8]) {
         let pairs = variables::pairs(&self.variables).unwrap_or_else(|| {

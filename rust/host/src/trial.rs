@@ -57,7 +57,7 @@ fn who(w: &Written) -> Result<Account, Failed> {
     match (w.value("--account"), w.value("--accounts")) {
         (Some(_), Some(_)) => Err(Failed::Words("one of --accounts and --account is enough".into())),
         (Some(one), None) => account(one).map_err(Failed::Words),
-        (None, Some(file)) => Ok(accounts::all(None, Some(Path::new(file)))?.swap_remove(0)),
+        (None, Some(file)) => Ok(accounts::first(Path::new(file))?),
         (None, None) => Err(Failed::Words(NO_ACCOUNT.into())),
     }
 }
@@ -77,7 +77,7 @@ fn own() -> Result<(), Failed> {
     let vault = Running::start(&mut command).map_err(told)?;
     println!("{:9} a vault of its own, with a cartridge of 64M in {}", "started", s.0.display());
     let address = vault.address.clone();
-    let account = Account { kind: Kind::Md5, id: b"vault".to_vec(), password: b"noon".to_vec() };
+    let account = Account { kind: Kind::Md5, id: b"vault".to_vec(), password: b"noon".to_vec(), line: None };
     Ok(tried(&Tried { address, account, overwrite: false, ends: Some((from, to)) })?)
 }
 
@@ -87,7 +87,7 @@ fn private(path: &Path) -> io::Result<fs::File> {
 }
 
 /// In words that say what to do.
-fn told(address: &str, kind: Kind, e: Error) -> String {
+fn told(address: &str, e: Error) -> String {
     let why = match &e {
         Error::Connection(c) => match c.kind() {
             io::ErrorKind::ConnectionRefused => "no vault listens there; `mossgoblin serve` starts one".into(),
@@ -95,9 +95,7 @@ fn told(address: &str, kind: Kind, e: Error) -> String {
             _ => e.to_string(),
         },
         Error::Refused { message: CONNECT_CLIENT_AUTH, .. } => {
-            format!(
-                "the vault does not take this id with this password by {kind}; give an account that it was started with"
-            )
+            "the vault does not take this id with this password by MD5; give an account that it was started with".into()
         }
         Error::Refused { message: TAPE_OPEN, error: codes::BAD_FILE } => {
             "another session has the tape; try again when it has ended".into()
@@ -108,15 +106,11 @@ fn told(address: &str, kind: Kind, e: Error) -> String {
 }
 
 fn tried(t: &Tried) -> Result<(), String> {
-    let Account { kind, id, password } = &t.account;
-    let told = |e: Error| told(&t.address, *kind, e);
+    let Account { id, password, .. } = &t.account;
+    let told = |e: Error| told(&t.address, e);
     let mut c = Client::connect(&t.address).map_err(told)?;
-    match kind {
-        Kind::Text => c.login(id, password),
-        Kind::Md5 => c.login_by_md5(id, password),
-    }
-    .map_err(told)?;
-    println!("{:9} {}, logged in as {} by {kind}", "vault", t.address, String::from_utf8_lossy(id));
+    c.login(id, password).map_err(told)?;
+    println!("{:9} {}, logged in as {} by MD5", "vault", t.address, String::from_utf8_lossy(id));
     if !t.overwrite && !is_empty(&mut c).map_err(told)? {
         return Err(format!("{}: the tape there is not empty; --overwrite writes over it", t.address));
     }

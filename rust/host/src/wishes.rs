@@ -56,10 +56,11 @@ fn names(record: &[u8]) -> Option<Vec<Name>> {
     (0..w.word()?).map(|_| w.name()).collect()
 }
 
-/// The type of a record of client auth, and its id.
-pub fn login(record: &[u8]) -> Option<(u32, Vec<u8>)> {
+/// The id of a record of client auth, which stands behind the type.
+pub fn login(record: &[u8]) -> Option<Vec<u8>> {
     let mut w = Words(record, HEADER);
-    Some((w.word()?, w.text()?))
+    w.word()?;
+    w.text()
 }
 
 fn path(bytes: &[u8]) -> &Path {

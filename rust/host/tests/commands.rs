@@ -18,7 +18,7 @@ fn help_ends_with_examples() {
         let (code, out, err) = run(args);
         assert!(code == 0 && err.is_empty() && out.starts_with("mossgoblin"), "{args:?}");
     }
-    for command in ["serve", "new", "list", "check", "try"] {
+    for command in ["serve", "new", "list", "check", "accounts", "try"] {
         let (_, out, _) = run(&[command, "--help"]);
         let examples = out.split_once("\nExamples:\n").unwrap().1;
         assert!(examples.contains(&format!("  mossgoblin {command}")), "{command}");
@@ -30,18 +30,25 @@ fn help_ends_with_examples() {
 
 #[test]
 fn wrong_words_are_one_line() {
+    let long = format!("--account=a:{}", "p".repeat(33));
     for (args, why) in [
-        (&[][..], "mossgoblin: a command is missing: serve, new, list, check or try"),
+        (&[][..], "mossgoblin: a command is missing: serve, new, list, check, accounts or try"),
         (&["lst", "x"], "mossgoblin: no command lst (did you mean list?)"),
+        (&["account", "x"], "mossgoblin: no command account (did you mean accounts?)"),
         (&["serve"], "mossgoblin serve: --accounts FILE or --account ID:PASSWORD is missing"),
         (&["new", "x"], "mossgoblin new: expected FILE and SIZE"),
         (&["new", "x", "129M"], "mossgoblin new: \"129M\": expected a size of at most 128M, such as 64M"),
         (&["list"], "mossgoblin list: expected one FILE"),
         (&["list", "--all", "x"], "mossgoblin list: unknown option --all"),
         (&["check"], "mossgoblin check: expected a FILE"),
+        (&["accounts"], "mossgoblin accounts: expected one FILE"),
+        (&["accounts", "a", "b"], "mossgoblin accounts: expected one FILE"),
+        (&["accounts", "--account=a:b", "x"], "mossgoblin accounts: unknown option --account"),
         (&["try", "a", "b"], "mossgoblin try: expected one ADDRESS:PORT"),
         (&["try", "127.0.0.1:1"], "mossgoblin try: --accounts FILE or --account ID:PASSWORD is missing"),
         (&["try", "--account=a:b"], "mossgoblin try: ADDRESS:PORT of the vault is missing"),
+        (&["try", "x:1", "--account=a:"], "mossgoblin try: --account: neither id nor password may be empty"),
+        (&["try", "x:1", &long], "mossgoblin try: --account: an MD5 password of 33 bytes lets nobody in; at most 32"),
         (&["try", "--accounts=a"], "mossgoblin try: ADDRESS:PORT of the vault is missing"),
         (&["try", "x:1", "--account=a:b", "--accounts=a"], "mossgoblin try: one of --accounts and --account is enough"),
     ] {
@@ -146,21 +153,28 @@ fn try_of_a_running_vault() {
     let args = |account| [&["try", &host.address, account][..], &ends].concat();
     let (code, out, err) = run(&args("--account=vault:moon"));
     assert!(code == 1 && out.is_empty() && err.lines().count() == 1, "{err}");
-    assert!(err.contains("the vault does not take this id with this password by text"), "{err}");
+    assert!(err.contains("the vault does not take this id with this password by MD5"), "{err}");
     let (code, out, err) = run(&args("--account=vault:noon"));
     assert_eq!((code, err.as_str()), (0, ""), "{out}");
+    assert!(out.contains(", logged in as vault by MD5\n"), "{out}");
     assert_eq!(lines_of(&out), ["vault", "tape", "backup", "recover", "compared"], "{out}");
     assert!(out.contains("100,000 bytes in 1 file, 0 folders, 0 links: equal\n"), "{out}");
     // What is on the tape now is not written over unless that is said.
     let (code, _, err) = run(&args("--account=vault:noon"));
     assert!(code == 1 && err.contains("the tape there is not empty; --overwrite"), "{err}");
     assert_eq!(run(&[&args("--account=vault:noon")[..], &["--overwrite"]].concat()).0, 0);
-    // The first account of a file, by its kind; one that others may read is not taken here either.
+    // The first account of a file; one of text is told, as it would not be let in, and one that others may read is not taken.
     let (code, out, _) = run(&[&args(&by_file)[..], &["--overwrite"]].concat());
     assert!(code == 0 && out.contains(", logged in as ferry by MD5\n"), "{out}");
-    private(&file, "text ferry tide\n");
-    let (code, _, err) = run(&args(&by_file));
-    assert!(code == 1 && err.contains("the vault does not take this id with this password by text"), "{err}");
+    private(&file, "#\ntext ferry secret\nmd5 vault noon\n");
+    let (code, out, err) = run(&args(&by_file));
+    let why = "line 2: its first account is one of text, and such a login is withdrawn; \
+               write md5 in place of text, with a password of at most 32 bytes, or put an md5 line first\n";
+    assert_eq!((code, out.as_str()), (1, ""));
+    assert_eq!(err, format!("mossgoblin try: --accounts {}: {why}", text_of(&file)));
+    private(&file, "md5 vault noon\ntext ferry tide\n");
+    let (code, out, _) = run(&[&args(&by_file)[..], &["--overwrite"]].concat());
+    assert!(code == 0 && out.contains(", logged in as vault by MD5\n"), "{out}");
     fs::set_permissions(&file, fs::Permissions::from_mode(0o640)).unwrap();
     let (code, _, err) = run(&args(&by_file));
     assert!(code == 1 && err.ends_with(&format!("chmod 600 {}\n", text_of(&file))), "{err}");

@@ -74,10 +74,11 @@ fn wrong_logins_are_told_late_and_few() {
     let mut c = host.client();
     c.noticed(NOTIFY_CONNECTED).unwrap();
     c.good(CONNECT_OPEN, &words(&[4])).unwrap();
-    let login = |id: &str| [words(&[1]), text(id), text("secret word")].concat();
+    let login = |c: &mut Client, id: &str| by_md5(id, "secret word", &c.challenge().unwrap());
     for _ in 0..3 {
+        let body = login(&mut c, "va\nult\u{202e}");
         let begun = Instant::now();
-        c.expect(CONNECT_CLIENT_AUTH, &login("va\nult\u{202e}"), codes::NOT_AUTHORIZED).unwrap();
+        c.expect(CONNECT_CLIENT_AUTH, &body, codes::NOT_AUTHORIZED).unwrap();
         assert!(begun.elapsed() >= Duration::from_millis(900));
     }
     closed(&mut c);
@@ -89,7 +90,7 @@ fn wrong_logins_are_told_late_and_few() {
         assert!(stamp.starts_with("20") && stamp.ends_with('Z') && &stamp[10..11] == "T", "{line}");
         assert!(rest.starts_with(" mossgoblin: session 1: wrong login as \"va\\nult"), "{line}");
         assert!(
-            !line.contains("secret") && !line.contains('\u{202e}') && line.contains("\" by text from 127.0.0.1:"),
+            !line.contains("secret") && !line.contains('\u{202e}') && line.contains("\" by MD5 from 127.0.0.1:"),
             "{line}"
         );
     }
@@ -97,9 +98,10 @@ fn wrong_logins_are_told_late_and_few() {
     let mut c = host.client();
     c.noticed(NOTIFY_CONNECTED).unwrap();
     for id in ["a", "b"] {
-        c.expect(CONNECT_CLIENT_AUTH, &login(id), codes::NOT_AUTHORIZED).unwrap();
+        let body = login(&mut c, id);
+        c.expect(CONNECT_CLIENT_AUTH, &body, codes::NOT_AUTHORIZED).unwrap();
     }
-    c.good(CONNECT_CLIENT_AUTH, &[words(&[1]), text("vault"), text("noon")].concat()).unwrap();
+    c.auth(b"vault", b"noon").unwrap();
     c.good(CONFIG_GET_CONNECTION_TYPE, b"").unwrap();
 }
 
@@ -145,26 +147,31 @@ fn even_soon(logins: &[Login]) {
     assert!(tries.len() < 20, "{tries:?}");
 }
 
-/// A login that differs in its first byte takes as long as one that differs in its last, and it does not matter in which
-/// of the two texts. A comparison that ends early is never so.
+/// A login whose id differs in its first byte takes as long as one whose id differs in its last, or whose digest is wrong. A
+/// comparison that ends early is never so.
 #[test]
 fn wrong_logins_take_as_long_wherever_they_differ() {
-    const LONG: usize = 12_000;
-    let account = [noise(1, LONG), noise(2, LONG)];
-    let login = |[id, word]: &[Vec<u8>; 2], told: &[Vec<u8>; 2]| {
-        let body = [words(&[codes::TEXT_AUTH]), text(&told[0]), text(&told[1])].concat();
-        (lent(&[(codes::TEXT_AUTH, id, word)]), body)
+    const LONG: usize = 30_000;
+    let account = noise(1, LONG);
+    let login = |id: &[u8], told: &[u8], digest: [u8; 16]| {
+        let body = [&words(&[codes::MD5_AUTH])[..], &text(told), &digest].concat();
+        (lent(&[(codes::MD5_AUTH, id, b"noon")]), body)
     };
-    let wrong = |which: usize, at: usize| {
+    let wrong = |at: usize| {
         let mut told = account.clone();
-        told[which][at] ^= 1;
-        login(&account, &told)
+        told[at] ^= 1;
+        login(&account, &told, [0; 16])
     };
-    // The last is all but the comparison: texts of another length than the account's are not compared.
-    let short = login(&[noise(1, 1), noise(2, 1)], &account);
-    even_soon(&[wrong(0, 0), wrong(0, LONG - 1), wrong(1, 0), wrong(1, LONG - 1), short.clone()]);
+    let near = |at: usize| {
+        let mut digest = wire::md5::login_digest(b"noon", &CHALLENGE).unwrap();
+        digest[at] ^= 1;
+        login(&account, &account, digest)
+    };
+    // The last is all but the comparison: an id of another length than the account's is not compared.
+    let short = login(b"a", &account, [0; 16]);
+    even_soon(&[wrong(0), wrong(LONG - 1), near(0), near(15), short.clone()]);
     // The judge is not blind: of these one is not compared.
-    let uneven = login_times(&[wrong(0, 0), short.clone(), short]);
+    let uneven = login_times(&[wrong(0), short.clone(), short]);
     assert!(!is_even(&uneven), "{uneven:?}");
 }
 
@@ -189,7 +196,8 @@ fn empty_accounts_are_refused() {
         command.args(["serve", "--listen=127.0.0.1:0", "--new-cartridge=1M", "--account", account, "--cartridge"]);
         let done = finished(command.arg(s.path("tape")));
         let why = String::from_utf8(done.stderr).unwrap();
-        assert!(done.status.code() == Some(2) && why.contains("empty id or password"), "{why}");
+        let told = "--account: neither id nor password may be empty; expected ID:PASSWORD, such as vault:noon";
+        assert!(done.status.code() == Some(2) && why.contains(told) && why.lines().count() == 1, "{why}");
     }
     assert!(!s.path("tape").exists());
 }
@@ -211,7 +219,9 @@ fn address_that_others_reach_is_warned_of() {
     let port = host.address.strip_prefix("0.0.0.0:").unwrap();
     told(
         &log,
-        &[&format!("mossgoblin: --listen 0.0.0.0:{port} is not this machine's alone: logins by text and data go over")],
+        &[&format!(
+            "mossgoblin: --listen 0.0.0.0:{port} is not this machine's alone: data go over the network as they"
+        )],
     );
     told(&log, &["mossgoblin: --status 0.0.0.0:", " is not this machine's alone: names of files and clients are read"]);
     drop(host);

@@ -1,4 +1,4 @@
-//! Who gets in: the file of accounts, logins by text and by MD5, challenges, and what is told of them.
+//! Who gets in: the file of accounts, logins by MD5, challenges, text login, which is withdrawn, and what is told of them.
 mod common;
 use common::*;
 use std::collections::HashSet;
@@ -8,7 +8,6 @@ use std::os::unix::fs::{MetadataExt, PermissionsExt, chown, symlink};
 use std::path::{Path, PathBuf};
 use std::process::Command;
 use wire::Header;
-use wire::md5::login_digest;
 
 /// The program with accounts of a file, and no others.
 fn with(s: &Scratch, accounts: &Path) -> Command {
@@ -31,56 +30,229 @@ fn opened(host: &Host) -> Client {
     c
 }
 
-fn by_text(id: &str, password: &str) -> Vec<u8> {
-    [words(&[1]), text(id), text(password)].concat()
-}
-
-fn by_md5(id: &str, password: &str, challenge: &[u8; 64]) -> Vec<u8> {
-    [&words(&[2])[..], &text(id), &login_digest(password.as_bytes(), challenge).unwrap()].concat()
-}
-
 /// The answer to a login on a connection of its own.
-fn answer(host: &Host, kind: &str, id: &str, password: &str) -> u32 {
+fn answer(host: &Host, id: &str, password: &str) -> u32 {
     let mut c = opened(host);
-    let body = match kind {
-        "text" => by_text(id, password),
-        _ => by_md5(id, password, &c.challenge().unwrap()),
-    };
+    let body = by_md5(id, password, &c.challenge().unwrap());
     c.ask(CONNECT_CLIENT_AUTH, &body).unwrap().0
 }
 
+/// Wrong logins, each on a connection of its own: they are told late.
+fn wrong(host: &Host, logins: &[(&str, &str)]) {
+    std::thread::scope(|scope| {
+        for (id, password) in logins {
+            scope.spawn(move || assert_eq!(answer(host, id, password), codes::NOT_AUTHORIZED, "{id}"));
+        }
+    });
+}
+
 #[test]
-fn accounts_of_a_file_log_in_by_their_kind() {
+fn accounts_of_a_file_log_in() {
     let s = Scratch::new();
     let file =
         "# Two desks.\n\ntext vault noon\nmd5 vault moon\n\tMD5\t\tferry  #tide \r\nmd5 ferry ebb\n#md5 gone by\n";
-    let host = start(&s, file, &["--account", "own:one:word"]);
-    for (kind, id, password) in [
-        ("text", "vault", "noon"),
-        ("md5", "vault", "moon"),
-        ("md5", "ferry", "#tide"),
-        ("md5", "ferry", "ebb"),
-        ("text", "own", "one:word"),
-    ] {
-        assert_eq!(answer(&host, kind, id, password), 0, "{kind} {id}");
+    let long = "p".repeat(32);
+    let host = start(&s, file, &["--account", &format!("own:one:word{}", &long[8..])]);
+    let one = format!("one:word{}", &long[8..]);
+    for (id, password) in [("vault", "moon"), ("ferry", "#tide"), ("ferry", "ebb"), ("own", &one)] {
+        assert_eq!(answer(&host, id, password), 0, "{id}");
     }
-    // The other kind, another's password, and one that is a comment. Each is told late.
-    std::thread::scope(|scope| {
-        for (kind, id, password) in [
-            ("text", "vault", "moon"),
-            ("md5", "vault", "noon"),
-            ("text", "ferry", "#tide"),
-            ("md5", "own", "one:word"),
-            ("md5", "ferry", "moon"),
-            ("md5", "gone", "by"),
-        ] {
-            let host = &host;
-            scope.spawn(move || assert_eq!(answer(host, kind, id, password), codes::NOT_AUTHORIZED, "{kind} {id}"));
-        }
-    });
+    // Another's password, one that is a comment, and one of an account by text.
+    wrong(&host, &[("ferry", "moon"), ("gone", "by"), ("own", "one:word"), ("vault", "noon")]);
     // The file was read at the start.
     private(&s.path("accounts"), "md5 ferry other\n");
-    assert_eq!(answer(&host, "md5", "ferry", "ebb"), 0);
+    assert_eq!(answer(&host, "ferry", "ebb"), 0);
+}
+
+/// Every way to ask for text: with the right password of an account of either kind, with a wrong one, with a body that is none.
+#[test]
+fn text_login_is_refused() {
+    let s = Scratch::new();
+    let log = s.path("log");
+    let host = start(&s, "text vault secret1\nmd5 vault secret2\n", &["--account=own:secret3"]);
+    let right = by_text("vault", "secret1");
+    let mut bodies = vec![by_text("vault", "secret2"), by_text("own", "secret3"), by_text("x", ""), words(&[1])];
+    bodies.extend([right[..right.len() - 1].to_vec(), [&right[..], &[7]].concat(), right.clone()]);
+    let mut c = opened(&host);
+    let refused = |c: &mut Client, body: &[u8]| {
+        // At once, and as often as it likes: nothing is guessed that way.
+        assert_eq!(c.ask(CONNECT_CLIENT_AUTH, body).unwrap(), (codes::ILLEGAL_ARGUMENTS, words(&[9])), "{body:?}");
+    };
+    for body in &bodies {
+        refused(&mut c, body);
+        c.expect(CONFIG_GET_CONNECTION_TYPE, b"", codes::NOT_AUTHORIZED).unwrap();
+    }
+    // The auth attributes of text, and whatever stands behind them.
+    for rest in [&[][..], &[7], &[0; 64]] {
+        let body = [&words(&[1])[..], rest].concat();
+        assert_eq!(c.expect(CONFIG_GET_AUTH_ATTR, &body, codes::ILLEGAL_ARGUMENTS).unwrap(), words(&[9, 0]));
+    }
+    let info = c.good(CONFIG_GET_SERVER_INFO, b"").unwrap();
+    assert_eq!(info[info.len() - 8..], words(&[1, codes::MD5_AUTH]));
+    // Who is in stays in.
+    c.auth(b"vault", b"secret2").unwrap();
+    for body in &bodies {
+        refused(&mut c, body);
+        c.good(CONFIG_GET_CONNECTION_TYPE, b"").unwrap();
+    }
+    let peer = c.socket.local_addr().unwrap();
+    let words = "(illegal arguments): text login is withdrawn; the client";
+    told(
+        &log,
+        &[
+            &format!(
+                "mossgoblin: session 1: refused: client auth (0x901) with 9 {words} of \"vault\" at {peer} is to log in by MD5\n"
+            ),
+            &format!(
+                " session 1: refused: client auth (0x901) with 9 {words} of \"own\" at {peer} is to log in by MD5\n"
+            ),
+            &format!(" session 1: refused: auth attributes (0x103) with 9 {words} at {peer} is to log in by MD5\n"),
+        ],
+    );
+    let all = fs::read_to_string(&log).unwrap();
+    assert!(!all.contains("secret"), "{all}");
+    // Once as an error, and of no other type.
+    assert_eq!(all.matches("mossgoblin: session 1: refused").count(), 1, "{all}");
+    let before = all.matches("text login").count();
+    c.expect(CONNECT_CLIENT_AUTH, &[3u32, 5].map(u32::to_be_bytes).concat(), codes::ILLEGAL_ARGUMENTS).unwrap();
+    drop(c);
+    told(&log, &["session 1: closed"]);
+    assert_eq!(fs::read_to_string(&log).unwrap().matches("text login").count(), before);
+}
+
+/// With `--quiet` too the one who looks after the vault learns why a client stays outside; no client fills the log that way.
+#[test]
+fn text_login_is_told_once_where_all_is_quiet() {
+    let s = Scratch::new();
+    let log = s.path("log");
+    let host = start(&s, "md5 vault noon\n", &["--quiet"]);
+    let mut peers = Vec::new();
+    for _ in 0..2 {
+        let mut c = opened(&host);
+        peers.push(c.socket.local_addr().unwrap());
+        for _ in 0..5 {
+            c.expect(CONNECT_CLIENT_AUTH, &by_text("fer\nry", "secret"), codes::ILLEGAL_ARGUMENTS).unwrap();
+        }
+    }
+    let told = fs::read_to_string(&log).unwrap();
+    assert_eq!(told.lines().count(), 2, "{told}");
+    for (line, peer) in told.lines().zip(peers) {
+        let end = format!("text login is withdrawn; the client of \"fer\\nry\" at {peer} is to log in by MD5");
+        assert!(line.ends_with(&end) && !line.contains("secret"), "{line}");
+    }
+}
+
+/// Lines of kind text are read, and told; by them nobody gets in.
+#[test]
+fn withdrawn_accounts_are_told_at_the_start() {
+    let s = Scratch::new();
+    let (file, log) = (s.path("accounts"), s.path("log"));
+    let id = format!("fer\"\u{202e}ry{}", "y".repeat(300));
+    let lines = format!("#\ntext {id} secret1\nmd5 vault secret2\nTEXT vault {}\n", "secret3".repeat(9));
+    for more in [&["--quiet"][..], &[]] {
+        let _ = fs::remove_file(s.path("tape"));
+        let host = start(&s, &lines, more);
+        assert_eq!(answer(&host, "vault", "secret2"), 0);
+        wrong(&host, &[(&id, "secret1")]);
+        drop(host);
+        let all = fs::read_to_string(&log).unwrap();
+        let told: Vec<&str> = all.lines().filter(|l| l.contains("withdrawn")).collect();
+        let shown = format!("\"fer\"\"\\u{{202e}}ry{}\"..", "y".repeat(193));
+        for (line, (id, n)) in told.iter().zip([(shown.as_str(), 2), ("\"vault\"", 4)]) {
+            let file = file.display();
+            let end = format!(
+                " mossgoblin: account {id} by text is withdrawn and can no longer log in; in line {n} of {file} \
+                 write md5 in place of text, with a password of at most 32 bytes"
+            );
+            assert_eq!(&line[20..], end);
+        }
+        assert!(told.len() == 2 && !all.contains("secret") && !all.contains("nobody can log in"), "{all}");
+    }
+    // Where none is left, that is said too.
+    let _ = fs::remove_file(s.path("tape"));
+    let host = start(&s, "text vault noon\n", &["--quiet"]);
+    wrong(&host, &[("vault", "noon")]);
+    let why = format!("mossgoblin: nobody can log in: all accounts of {} are withdrawn\n", file.display());
+    told(&log, &["account \"vault\" by text is withdrawn", &why]);
+    drop(host);
+    // And nothing where there is none.
+    let _ = fs::remove_file(s.path("tape"));
+    let host = start(&s, "md5 vault noon\n", &["--quiet"]);
+    assert_eq!(answer(&host, "vault", "noon"), 0);
+    assert_eq!(fs::read_to_string(&log).unwrap(), "");
+}
+
+/// What `mossgoblin accounts` prints of a file; its exit code and standard error.
+fn listed(file: &Path) -> (i32, String, String) {
+    let done = finished(program().arg("accounts").arg(file));
+    let text = |bytes: Vec<u8>| String::from_utf8(bytes).unwrap();
+    (done.status.code().unwrap(), text(done.stdout), text(done.stderr))
+}
+
+#[test]
+fn accounts_are_listed() {
+    let s = Scratch::new();
+    let file = s.path("accounts");
+    let eight = "text a b\n".repeat(7);
+    let lines: String = (0..7).map(|i| format!("{i} withdrawn\n")).collect();
+    for (bytes, lines) in [
+        ("md5 vault secret\n".to_string(), "0 md5\n".to_string()),
+        (
+            "#text a b\n\ntext a b\nmd5 a b\nTEXT a secret\r\n\tmd5\ta\tb".into(),
+            "0 withdrawn\n1 md5\n2 withdrawn\n3 md5\n".into(),
+        ),
+        (format!("text a {}\n", "secret".repeat(100)), "0 withdrawn\n".into()),
+        (format!("{eight}md5 a b\n"), format!("{lines}7 md5\n")),
+        (format!("{eight}text a b\n"), format!("{lines}7 withdrawn\n")),
+    ] {
+        private(&file, bytes);
+        assert_eq!(listed(&file), (0, lines, "".into()));
+    }
+    // What the vault would not start with is not listed.
+    let long = format!("md5 a {}\n", "secret".repeat(6));
+    for (bytes, why) in [
+        ("", "has no account; a line is md5 ID PASSWORD"),
+        ("text a b\nsecret a b\n", "line 2: expected md5 as its first word"),
+        (&long, "line 1: an MD5 password of 36 bytes lets nobody in; at most 32"),
+        (&format!("{eight}{eight}"), "line 9: one account too many; at most 8, and that of --account is one of them"),
+    ] {
+        private(&file, bytes);
+        assert_eq!(listed(&file), (1, "".into(), format!("mossgoblin accounts: {}: {why}\n", file.display())));
+    }
+    private(&file, "md5 a secret\n");
+    fs::set_permissions(&file, fs::Permissions::from_mode(0o644)).unwrap();
+    let (code, out, why) = listed(&file);
+    assert!(code == 1 && out.is_empty() && why.ends_with(&format!("chmod 600 {}\n", file.display())), "{why}");
+    let gone = s.path("gone");
+    assert_eq!(listed(&gone), (1, "".into(), format!("mossgoblin accounts: {}: no such file\n", gone.display())));
+    // A reader that has seen enough, or is gone, is no error; a disk that is full is.
+    fs::set_permissions(&file, fs::Permissions::from_mode(0o600)).unwrap();
+    let full = fs::OpenOptions::new().write(true).open("/dev/full").unwrap();
+    let done = program().arg("accounts").arg(&file).stdout(full).output().unwrap();
+    let why = String::from_utf8(done.stderr).unwrap();
+    assert!(done.status.code() == Some(1) && why.starts_with("mossgoblin accounts: standard output: "), "{why}");
+}
+
+/// The password of the command line is one of MD5.
+#[test]
+fn account_of_the_command_line_fits() {
+    let s = Scratch::new();
+    let start = |password: &str| {
+        let mut command = program();
+        command
+            .args(["serve", "--listen=127.0.0.1:0", "--quiet", "--new-cartridge=100K", "--cartridge"])
+            .arg(s.path("tape"));
+        command.arg(format!("--account=vault:{password}"));
+        command
+    };
+    let most = "secret56".repeat(4);
+    let done = finished(&mut start(&format!("{most}9")));
+    let why = String::from_utf8(done.stderr).unwrap();
+    assert_eq!((done.status.code(), done.stdout.len(), why.lines().count()), (Some(2), 0, 1), "{why}");
+    let told = "mossgoblin serve: --account: an MD5 password of 33 bytes lets nobody in; at most 32; ";
+    assert!(why.starts_with(told) && !why.contains("secret") && !s.path("tape").exists(), "{why}");
+    let host = Host::spawn(&mut start(&most));
+    assert_eq!(answer(&host, "vault", &most), 0);
 }
 
 #[test]
@@ -88,7 +260,8 @@ fn example_is_a_file_of_accounts() {
     let s = Scratch::new();
     let example = Path::new(env!("CARGO_MANIFEST_DIR")).join("../../dist/accounts.example");
     let host = start(&s, &fs::read_to_string(example).unwrap(), &["--quiet"]);
-    assert_eq!(answer(&host, "md5", "vault", "noon"), 0);
+    assert_eq!(answer(&host, "vault", "noon"), 0);
+    assert_eq!(listed(&s.path("accounts")).1, "0 md5\n");
 }
 
 #[test]
@@ -137,7 +310,7 @@ fn challenges_are_all_others() {
 fn without_randomness_no_challenge_is_given() {
     let s = Scratch::new();
     let (shim, file, log) = (Shim::new(&s), s.path("accounts"), s.path("log"));
-    private(&file, "md5 vault noon\ntext vault noon\n");
+    private(&file, "md5 vault noon\n");
     let mut command = with(&s, &file);
     command.args(["--new-cartridge=100K", "--quiet"]).stderr(fs::File::create(&log).unwrap());
     let host = Host::spawn(shim.before(&mut command));
@@ -150,11 +323,11 @@ fn without_randomness_no_challenge_is_given() {
     c.socket.write_all(&record).unwrap();
     closed(&mut c);
     told(&log, &["session 2: no challenge could be drawn: "]);
-    // Others go on, by text, and by the challenge that was given before.
-    assert_eq!(answer(&host, "text", "vault", "noon"), 0);
+    // Others go on, by the challenge that was given before.
+    opened(&host).good(CONFIG_GET_SERVER_INFO, b"").unwrap();
     before.good(CONNECT_CLIENT_AUTH, &by_md5("vault", "noon", &challenge)).unwrap();
     shim.unsay("fail-random");
-    assert_eq!(answer(&host, "md5", "vault", "noon"), 0);
+    assert_eq!(answer(&host, "vault", "noon"), 0);
 }
 
 /// Standard error of a start that must fail: one line, and no word of the file.
@@ -170,7 +343,7 @@ fn failed(command: &mut Command) -> String {
 fn file_of_accounts_that_others_may_read_is_refused() {
     let s = Scratch::new();
     let (file, link) = (s.path("accounts"), s.path("link"));
-    private(&file, "text vault secret\n");
+    private(&file, "md5 vault secret\n");
     symlink(&file, &link).unwrap();
     let set = |mode| fs::set_permissions(&file, fs::Permissions::from_mode(mode)).unwrap();
     let new = ["--new-cartridge", "100K"];
@@ -196,7 +369,7 @@ fn file_of_accounts_that_others_may_read_is_refused() {
     drop(Host::spawn(with(&s, &file).args(new)));
     for (mode, path) in [(0o400, &file), (0o600, &link), (0o700, &file)] {
         set(mode);
-        assert_eq!(answer(&Host::spawn(with(&s, path).arg("--quiet")), "text", "vault", "secret"), 0, "{mode:o}");
+        assert_eq!(answer(&Host::spawn(with(&s, path).arg("--quiet")), "vault", "secret"), 0, "{mode:o}");
     }
 }
 
@@ -228,14 +401,14 @@ fn wrong_files_of_accounts_are_told_by_line() {
     let file = s.path("accounts");
     let eight = "md5 vault secret\n".repeat(8);
     let (nine, long) = (format!("#\n{eight}text vault secret\n"), format!("md5 vault secret{}\n", "x".repeat(27)));
-    let large = format!("text vault secret\n#{}", " ".repeat(65_518));
+    let large = format!("md5 vault secret\n#{}", " ".repeat(65_519));
     let last = "--account=vault:secret";
     for (bytes, more, why) in [
-        ("", "--strict", "has no account; a line is text ID PASSWORD or md5 ID PASSWORD"),
-        ("# text vault secret\n", last, "has no account; a line is text ID PASSWORD or md5 ID PASSWORD"),
-        ("vault:secret\n", "--strict", "line 1: expected text or md5 as its first word"),
-        ("text vault secret word\n", "--strict", "line 1: expected three words, KIND ID PASSWORD, and found 4"),
-        ("\n\nmd5 secret\n", "--strict", "line 3: expected three words, KIND ID PASSWORD, and found 2"),
+        ("", "--strict", "has no account; a line is md5 ID PASSWORD"),
+        ("# md5 vault secret\n", last, "has no account; a line is md5 ID PASSWORD"),
+        ("vault:secret\n", "--strict", "line 1: expected md5 as its first word"),
+        ("text vault secret word\n", "--strict", "line 1: expected three words, md5 ID PASSWORD, and found 4"),
+        ("\n\nmd5 secret\n", "--strict", "line 3: expected three words, md5 ID PASSWORD, and found 2"),
         (&long, "--strict", "line 1: an MD5 password of 33 bytes lets nobody in; at most 32"),
         (&nine, "--strict", "line 10: one account too many; at most 8, and that of --account is one of them"),
         (&eight, last, "line 8: one account too many; at most 8, and that of --account is one of them"),
@@ -251,7 +424,7 @@ fn wrong_files_of_accounts_are_told_by_line() {
     private(&file, &most);
     assert_eq!(fs::metadata(&file).unwrap().len(), 65_536);
     let host = Host::spawn(with(&s, &file).args(["--new-cartridge", "100K", "--quiet"]));
-    assert_eq!(answer(&host, "md5", "vault", "secret"), 0);
+    assert_eq!(answer(&host, "vault", "secret"), 0);
 }
 
 /// Bytes as the digits that a log might have.
@@ -263,7 +436,7 @@ fn hex(bytes: &[u8]) -> String {
 fn logins_are_told_and_passwords_are_not() {
     let s = Scratch::new();
     let log = s.path("log");
-    let host = start(&s, "md5 vault secret1\ntext ferry secret2\n", &[]);
+    let host = start(&s, "md5 vault secret1\nmd5 ferry secret2\n", &[]);
     let mut c = opened(&host);
     // What is no request is not answered, and is no login.
     let reply = Header { sequence: 9, kind: 1, message: CONNECT_CLIENT_AUTH, ..Header::default() };
@@ -271,15 +444,15 @@ fn logins_are_told_and_passwords_are_not() {
     let challenge = c.challenge().unwrap();
     let good = by_md5("vault", "secret1", &challenge);
     c.expect(CONNECT_CLIENT_AUTH, &by_md5("va\"ult", "secret3", &challenge), codes::NOT_AUTHORIZED).unwrap();
-    c.expect(CONNECT_CLIENT_AUTH, &by_text("ferry", "secret1"), codes::NOT_AUTHORIZED).unwrap();
+    c.expect(CONNECT_CLIENT_AUTH, &by_md5("ferry", "secret1", &challenge), codes::NOT_AUTHORIZED).unwrap();
     c.good(CONNECT_CLIENT_AUTH, &good).unwrap();
-    c.good(CONNECT_CLIENT_AUTH, &by_text("ferry", "secret2")).unwrap();
+    c.good(CONNECT_CLIENT_AUTH, &by_md5("ferry", "secret2", &challenge)).unwrap();
     let peer = c.socket.local_addr().unwrap();
     let lines = [
         format!("session 1: wrong login as \"va\"\"ult\" by MD5 from {peer}\n"),
-        format!("session 1: wrong login as \"ferry\" by text from {peer}\n"),
+        format!("session 1: wrong login as \"ferry\" by MD5 from {peer}\n"),
         "session 1: logged in as \"vault\" by MD5\n".into(),
-        "session 1: logged in as \"ferry\" by text\n".into(),
+        "session 1: logged in as \"ferry\" by MD5\n".into(),
     ];
     told(&log, &lines.each_ref().map(|l| l.as_str()));
     // Neither there nor in the list of processes.
@@ -297,8 +470,9 @@ fn logins_are_told_and_passwords_are_not() {
     }
 }
 
+/// What others on the network see is told, and a login is none of it.
 #[test]
-fn network_sees_no_login_where_all_are_by_md5() {
+fn network_sees_no_login() {
     let s = Scratch::new();
     let first = |accounts: &str| {
         let (file, log) = (s.path("accounts"), s.path("log"));
@@ -311,7 +485,9 @@ fn network_sees_no_login_where_all_are_by_md5() {
         let _host = Host::spawn(&mut command);
         soon(|| fs::read_to_string(&log).ok().filter(|text| text.ends_with('\n'))).unwrap()
     };
-    assert!(first("md5 vault noon\n").ends_with("alone: data go over the network as they are\n"));
-    let both = first("md5 vault noon\ntext vault noon\n");
-    assert!(both.ends_with("alone: logins by text and data go over the network as they are\n"), "{both}");
+    for accounts in ["md5 vault noon\n", "md5 vault noon\ntext vault noon\n"] {
+        let told = first(accounts);
+        assert!(told.lines().next().unwrap().ends_with("alone: data go over the network as they are"), "{told}");
+        assert!(!told.contains("login"), "{told}");
+    }
 }

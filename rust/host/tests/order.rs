@@ -100,6 +100,8 @@ fn judge(file: &mut [u8], steps: &[Step], old: &[List], new: &List) -> Result<us
     }
 }
 
+const CHALLENGE: Challenge = [7; codes::CHALLENGE_LENGTH];
+
 struct Deck {
     session: proved::Session,
     accounts: Vec<u8>,
@@ -115,7 +117,7 @@ impl Deck {
         let done = proved::request(
             self.session,
             &self.accounts,
-            &[0; codes::CHALLENGE_LENGTH],
+            &CHALLENGE,
             &[],
             false,
             &mut self.cartridge.image,
@@ -144,9 +146,11 @@ fn runs(seed: u64, failing: bool) -> (Vec<u8>, Vec<Run>) {
     let mut out = vec![0; OUTPUT];
     let session = proved::open(0, &mut out).session;
     let variables = vec![0; codes::STORE_LENGTH];
-    let accounts = lent(&[(codes::TEXT_AUTH, "vault", "noon")]);
+    let accounts = lent(&[(codes::MD5_AUTH, "vault", "noon")]);
     let mut deck = Deck { session, accounts, out, variables, cartridge: Cartridge::new(image, disk) };
-    deck.call(CONNECT_CLIENT_AUTH, &[words(&[1]), text("vault"), text("noon")].concat());
+    deck.call(CONFIG_GET_AUTH_ATTR, &words(&[codes::MD5_AUTH]));
+    deck.call(CONNECT_CLIENT_AUTH, &by_md5("vault", "noon", &CHALLENGE));
+    assert!(deck.session.login.authorized);
     deck.call(TAPE_OPEN, &[text("tape0"), words(&[1])].concat());
     let chance = noise(seed + 1_000, 400);
     let mut all = Vec::new();

@@ -28,23 +28,26 @@ fn fragments_are_joined() {
         c.sequence = 1;
         c.socket.write_all(&fragments(&request(1, CONNECT_OPEN, &words(&[4])), n)).unwrap();
         assert_eq!(c.reply(CONNECT_OPEN).unwrap().header.error, 0);
-        let login = [words(&[1]), text("vault"), text("noon")].concat();
         c.sequence = 2;
-        c.socket.write_all(&fragments(&request(2, CONNECT_CLIENT_AUTH, &login), n)).unwrap();
+        c.socket.write_all(&fragments(&request(2, CONFIG_GET_AUTH_ATTR, &words(&[codes::MD5_AUTH])), n)).unwrap();
+        let challenge = c.reply(CONFIG_GET_AUTH_ATTR).unwrap().body[8..].try_into().unwrap();
+        c.sequence = 3;
+        let login = by_md5("vault", "noon", &challenge);
+        c.socket.write_all(&fragments(&request(3, CONNECT_CLIENT_AUTH, &login), n)).unwrap();
         assert_eq!(word(&c.reply(CONNECT_CLIENT_AUTH).unwrap().body, 0), 0);
         // Byte by byte.
-        c.sequence = 3;
-        for b in fragments(&request(3, CONFIG_GET_SERVER_INFO, b""), n) {
+        c.sequence = 4;
+        for b in fragments(&request(4, CONFIG_GET_SERVER_INFO, b""), n) {
             c.socket.write_all(&[b]).unwrap();
         }
         assert!(c.reply(CONFIG_GET_SERVER_INFO).unwrap().body.len() > 16);
         // Two records in one packet.
-        c.sequence = 4;
+        c.sequence = 5;
         c.socket
-            .write_all(&[request(4, CONFIG_GET_SERVER_INFO, b""), request(5, CONFIG_GET_CONNECTION_TYPE, b"")].concat())
+            .write_all(&[request(5, CONFIG_GET_SERVER_INFO, b""), request(6, CONFIG_GET_CONNECTION_TYPE, b"")].concat())
             .unwrap();
         c.reply(CONFIG_GET_SERVER_INFO).unwrap();
-        c.sequence = 5;
+        c.sequence = 6;
         c.reply(CONFIG_GET_CONNECTION_TYPE).unwrap();
     }
 }
@@ -75,16 +78,20 @@ fn longest_record_and_one_byte_more() {
     host.login();
 }
 
-/// A conversation that opens the tape, writes, and begins a backup.
-fn conversation() -> Vec<u8> {
+/// What a client says before it knows its challenge.
+fn beginning() -> Vec<u8> {
+    [request(1, CONNECT_OPEN, &words(&[4])), request(2, CONFIG_GET_AUTH_ATTR, &words(&[codes::MD5_AUTH]))].concat()
+}
+
+/// And then: it logs in, opens the tape, writes, and begins a backup.
+fn conversation(challenge: &Challenge) -> Vec<u8> {
     let mut all = Vec::new();
-    let mut sequence = 0;
+    let mut sequence = 2;
     let mut add = |message, body: Vec<u8>| {
         sequence += 1;
         all.extend(request(sequence, message, &body));
     };
-    add(CONNECT_OPEN, words(&[4]));
-    add(CONNECT_CLIENT_AUTH, [words(&[1]), text("vault"), text("noon")].concat());
+    add(CONNECT_CLIENT_AUTH, by_md5("vault", "noon", challenge));
     add(TAPE_OPEN, [text("tape0"), words(&[1])].concat());
     add(TAPE_WRITE, [words(&[10]), b"0123456789\0\0".to_vec()].concat());
     add(TAPE_MTIO, words(&[5, 1]));
@@ -102,10 +109,17 @@ fn end_at_every_byte() {
     let (tape, from) = (s.path("tape"), s.path("from"));
     fs::write(&from, noise(7, 20_000)).unwrap();
     let host = Host::start(&tape, &["--new-cartridge", "100K", "--stream", from.to_str().unwrap()]);
-    let all = conversation();
-    for n in 0..=all.len() {
-        let mut socket = TcpStream::connect(&host.address).unwrap();
-        socket.write_all(&all[..n]).unwrap();
+    let begin = beginning();
+    for n in 0..=begin.len() + conversation(&[0; 64]).len() {
+        let mut c = host.client();
+        c.socket.write_all(&begin[..n.min(begin.len())]).unwrap();
+        if n > begin.len() {
+            // The notice of connection, the answer to open, and the challenge.
+            let told = [c.receive(), c.receive(), c.receive()].map(|m| m.unwrap().body);
+            let all = conversation(told[2][8..].try_into().unwrap());
+            c.socket.write_all(&all[..n - begin.len()]).unwrap();
+        }
+        let mut socket = c.socket;
         // Half of them end with unread answers, which resets the connection.
         if n % 2 == 0 {
             socket.shutdown(std::net::Shutdown::Write).unwrap();

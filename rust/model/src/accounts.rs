@@ -19,7 +19,7 @@ impl Entry {
 
     /// Whether it lets in whoever knows it.
     pub fn serves(&self) -> bool {
-        self.kind == TEXT || self.kind == MD5 && (1..=32).contains(&self.password.len())
+        self.kind == MD5 && (1..=32).contains(&self.password.len())
     }
 }
 
@@ -168,7 +168,8 @@ pub fn right(r: &mut Random) -> Vec<Entry> {
         all.push(Entry { kind, id, password });
     }
     if !all.iter().any(Entry::serves) {
-        all[0].password = b"secret!".to_vec();
+        let i = r.below(count as u64) as usize;
+        (all[i].kind, all[i].password) = (MD5, b"secret!".to_vec());
     }
     all
 }
@@ -199,9 +200,14 @@ fn password(r: &mut Random) -> Vec<u8> {
     }
 }
 
-/// A buffer that may be wrong in one place.
+/// A buffer that may be wrong in one place, or have entries of one kind alone.
 pub fn any(r: &mut Random) -> Vec<u8> {
-    let mut buffer = of(&right(r));
+    let mut entries = right(r);
+    if r.percent(20) {
+        let kind = r.pick(&[TEXT, TEXT, MD5]);
+        entries.iter_mut().for_each(|e| e.kind = kind);
+    }
+    let mut buffer = of(&entries);
     match r.below(8) {
         0 => {}
         1..=3 => {

@@ -2,9 +2,11 @@
 
 use std::collections::BTreeMap;
 
+use crate::accounts;
 use crate::convert::state;
 use crate::lists;
 use crate::logins::{self, Met};
+use crate::model::accounts::MD5;
 use crate::model::record::framed;
 use crate::model::relation::broken;
 use crate::model::requests::HANDLED;
@@ -219,12 +221,29 @@ fn wanted_stores() -> Vec<String> {
     all
 }
 
-/// What 02 No. 2 adds but for numbers by message.
+/// What 02 No. 2 and No. 10 add but for numbers by message.
 fn wanted_logins() -> Vec<String> {
     let logins = logins::wanted().into_iter().map(|(case, number)| format!("login {case}: {number}"));
     let attributes = logins::wanted_attributes().into_iter();
     logins.chain(attributes.map(|(case, number)| format!("attributes {case}: {number}"))).collect()
 }
+
+/// 02 No. 10: the listing of accounts of each kind, into outputs at their limits, and of each number of entries.
+fn wanted_listings() -> Vec<String> {
+    let mut all = vec![];
+    for (kind, ..) in accounts::kinds() {
+        all.extend([0, 1001].map(|code| format!("listing of {kind}: {code}")));
+    }
+    for (room, code) in [(0, 1001), (95, 1001), (96, 0), (97, 0), (200, 0)] {
+        all.push(format!("listing into {room} bytes: {code}"));
+    }
+    all.extend((0..=8).map(|n| format!("listing of {n} lines")));
+    all.extend(LISTED.map(|case| format!("listing of {case}")));
+    all
+}
+
+/// Entries of these kinds in one listing.
+const LISTED: [&str; 4] = ["md5 alone", "withdrawn alone", "both words", "an MD5 entry that never matches"];
 
 /// An end by its state and address type; IDLE has one type only.
 fn data_end(end: &Data) -> String {
@@ -256,7 +275,7 @@ fn call_name(step: &Step, before: &Session) -> Option<(&'static str, bool)> {
         Step::Made { mover: true, .. } => ("made of mover", false),
         Step::Lost { mover: false, .. } => ("lost of data", false),
         Step::Lost { mover: true, .. } => ("lost of mover", false),
-        Step::Accounts(_) | Step::Image(_) | Step::Store(_) | Step::Session(_) => return None,
+        Step::Listing { .. } | Step::Accounts(_) | Step::Image(_) | Step::Store(_) | Step::Session(_) => return None,
     })
 }
 
@@ -306,6 +325,7 @@ pub fn wanted() -> Vec<String> {
     all.extend(wanted_by_tcp());
     all.extend(wanted_stores());
     all.extend(wanted_logins());
+    all.extend(wanted_listings());
     all.extend(["badly framed", "ignored", "closing"].map(|r| format!("request {r}")));
     all.push("notice 502 0".into());
     all.extend([1, 2, 3, 4].map(|r| format!("notice 501 {r}")));
@@ -333,6 +353,9 @@ impl Counts {
 
     pub fn note(&mut self, step: &Step, seen: &Seen, before: &Session, world: &World) {
         let given = &seen.given;
+        if let Step::Listing { room } = step {
+            return self.listing(*room, given.code, &given.sent, &world.accounts);
+        }
         let Some((call, tcp)) = call_name(step, before) else { return };
         if given.code != 0 {
             self.add(format!("{call} {}", given.code));
@@ -411,6 +434,25 @@ impl Counts {
             0x409 | 0xa01 => self.listens(message, kind, rest, list, number),
             0x40a | 0xa09 => self.connects(message, kind, rest, *made, number, before),
             _ => {}
+        }
+    }
+
+    /// A listing, which looks at no session.
+    fn listing(&mut self, room: usize, code: u32, sent: &[u8], lent: &[u8]) {
+        self.add(format!("listing of {}: {code}", accounts::kind(lent)));
+        self.add(format!("listing into {room} bytes: {code}"));
+        if code != 0 {
+            return;
+        }
+        let has = |word: &[u8]| sent.windows(word.len()).any(|w| w == word);
+        let (md5, withdrawn) = (has(b"md5"), has(b"withdrawn"));
+        let silent = md5 && accounts::meant(lent).iter().any(|e| e.kind == MD5 && !e.serves());
+        self.add(format!("listing of {} lines", sent.iter().filter(|b| **b == b'\n').count()));
+        for (case, applies) in LISTED.into_iter().zip([md5 && !withdrawn, withdrawn && !md5, md5 && withdrawn, silent])
+        {
+            if applies {
+                self.add(format!("listing of {case}"));
+            }
         }
     }
 
@@ -652,6 +694,7 @@ impl Counts {
             ("store of another length", "store of "),
             ("logins, case: number", "login "),
             ("auth attributes, type and case: number", "attributes "),
+            ("listings", "listing "),
             ("request", "request "),
             ("open", "open "),
             ("notices, number reason", "notice "),

@@ -8,7 +8,7 @@ use crate::lists;
 use crate::logins::{by_md5, by_text};
 use crate::model::State;
 use crate::model::accounts::{Challenge, MD5, TEXT};
-use crate::model::requests::{HANDLED, address_list, decode};
+use crate::model::requests::{Auth, HANDLED, Request, address_list, decode};
 use crate::script::Step;
 use crate::stores;
 use proved::Session;
@@ -61,8 +61,9 @@ fn bodies(message: u32) -> Vec<Vec<u8>> {
         0x900 => vec![words(&[4]), words(&[5])],
         0x901 => vec![
             by_text(b"id", b"words"),
-            by_text(b"id", b"wards"),
-            by_text(b"ib", b"words"),
+            by_text(b"id", b"five5"),
+            words(&[TEXT]),
+            by_md5(b"id", &digest(b"words", &NEWEST, true)),
             by_md5(b"id", &digest(b"five5", &NEWEST, true)),
             by_md5(b"id", &digest(b"five5", &LENT, true)),
             words(&[3]),
@@ -170,10 +171,9 @@ enum Field {
 }
 
 /// The messages with texts: their fields, with an environment of one pair and a list of one name.
-const TEXTS: [(u32, &[Field]); 10] = {
+const TEXTS: [(u32, &[Field]); 9] = {
     use Field::{Text, Words};
     [
-        (0x901, &[Words(&[1]), Text, Text]),
         (0x901, &[Words(&[2]), Text, Words(&[1, 2, 3, 4])]),
         (0x200, &[Text]),
         (0x206, &[Words(&[0, 0, 18]), Text, Text]),
@@ -283,6 +283,7 @@ pub fn all(each: EachOf) -> bool {
         && moves_by_pair(plain, &images)
         && environments(each, &images)
         && logins(each, &store, &images)
+        && listings(each, &store, &images)
 }
 
 /// A start's body, its environment as it is given; a recover's with no names.
@@ -366,9 +367,20 @@ fn more_accounts() -> Vec<Vec<Entry>> {
     ]
 }
 
-/// 02 No. 2: every way to log in by an entry, and the ways that go wrong.
+/// 02 No. 2 and No. 10: every way to log in by an entry, and the ways that go wrong. By text that is all of them, and the model
+/// must read none.
 fn login_bodies(Entry { id, password, .. }: &Entry) -> Vec<Vec<u8>> {
-    let mut all = vec![by_text(id, password), by_text(&[id, &[0][..]].concat(), password)];
+    let texts = by_text(id, password);
+    let mut all = vec![by_text(&[id, &[0][..]].concat(), password), [&texts[..], &[0]].concat()];
+    for i in (0..texts.len()).filter(|i| *i < 12 || *i > texts.len() - 5) {
+        let mut other = texts.clone();
+        other[i] ^= 1;
+        all.extend([texts[..i].to_vec(), other]);
+    }
+    all.push(texts);
+    for body in all.iter().filter(|b| wire::word_at(b, 0) == Some(TEXT)) {
+        assert!(matches!(decode(0x901, body), Some(Request::ClientAuth { auth: Auth::Other })), "{body:x?}");
+    }
     for (challenge, cut) in [NEWEST, LENT, OLDER, [0; 64]].into_iter().flat_map(|c| [(c, true), (c, false)]) {
         all.push(by_md5(id, &digest(password, &challenge, cut)));
     }
@@ -419,6 +431,48 @@ fn logins(each: EachOf, store: &[u8], [sound, ..]: &[Vec<u8>; 3]) -> bool {
         }
     }
     true
+}
+
+/// Every mix of the kinds, of so many entries. Ids and passwords are such as would shift a reader who takes them for kinds; some
+/// MD5 passwords never match.
+fn mixes(n: u32) -> Vec<Vec<u8>> {
+    let passwords: [&[u8]; 4] = [b"", &[0, 0, 0, 2], b"one", &[0x70; 33]];
+    let entry = |mix: u32, i: u32| {
+        let kind = if mix >> i & 1 == 0 { TEXT } else { MD5 };
+        Entry::of(kind, &vec![1; i as usize], passwords[(mix + i) as usize % 4])
+    };
+    (0..1 << n).map(|mix| accounts::of(&(0..n).map(|i| entry(mix, i)).collect::<Vec<_>>())).collect()
+}
+
+/// Buffers of eight entries, and of one of each kind, that are cut at each byte, or of which one byte is another.
+fn broken() -> Vec<Vec<u8>> {
+    let mut all = vec![];
+    for whole in [mixes(8).swap_remove(0x96), accounts::of(&accounts::both())] {
+        all.push([&whole[..], &[0]].concat());
+        for i in 0..whole.len() {
+            all.push(whole[..i].to_vec());
+            for x in [0, 1, 2, 3, 9, 0x80, 0xff] {
+                let mut other = whole.clone();
+                other[i] = x;
+                all.push(other);
+            }
+        }
+    }
+    all
+}
+
+/// 02 No. 10: the listing of every mix of the kinds, of 0 to 9 entries, of buffers of every kind and of broken ones, into outputs
+/// at their limits.
+fn listings(each: EachOf, store: &[u8], [sound, ..]: &[Vec<u8>; 3]) -> bool {
+    let mut all: Vec<Vec<u8>> = (0..=9).flat_map(mixes).collect();
+    all.extend(accounts::kinds().into_iter().map(|(_, accounts, _)| accounts));
+    all.extend(more_accounts().iter().map(|entries| accounts::of(entries)));
+    all.extend(broken());
+    let s = rest(false);
+    all.iter().all(|accounts| {
+        let lent = Lent { image: sound, store, accounts };
+        [0, 95, 96, 97, 200].into_iter().all(|room| each(&lent, &s, &Step::Listing { room }))
+    })
 }
 
 /// SCSI and CONNECT look at few things.

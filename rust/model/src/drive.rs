@@ -576,18 +576,19 @@ impl Driver {
                 Step::Session(s)
             }
             9 => self.plain(0x108),
-            10..=13 => self.auth(w, true),
+            10 => self.listing(),
+            11..=14 => self.auth(w, true),
             _ => self.auth(w, false),
         }
     }
 
-    /// Other accounts, which may be laid out wrong; and a login of each kind by what they were meant to have.
+    /// Other accounts, which may be laid out wrong; a login of each kind by what they were meant to have, and their listing.
     fn lend_accounts(&mut self) -> Step {
         let buffer = accounts::any(&mut self.r);
         let entries = accounts::meant(&buffer);
         let newest = self.challenge();
         for kind in [TEXT, MD5] {
-            let able: Vec<&Entry> = entries.iter().filter(|e| e.kind == kind && e.serves()).collect();
+            let able: Vec<&Entry> = entries.iter().filter(|e| e.kind == kind && (kind == TEXT || e.serves())).collect();
             let Entry { id, password, .. } = match able.len() as u64 {
                 0 => &Entry::of(kind, b"id", b"five5"),
                 n => able[self.r.below(n) as usize],
@@ -603,7 +604,14 @@ impl Driver {
             let step = self.request(0x901, &body);
             self.queue.push_back(step);
         }
+        let step = self.listing();
+        self.queue.push_back(step);
         Step::Accounts(buffer)
+    }
+
+    /// 02 No. 10: the accounts' listing.
+    fn listing(&mut self) -> Step {
+        Step::Listing { room: self.r.pick(&[0, 95, 95, 96, 96, 96, 96, 97, 200, ROOM]) }
     }
 
     /// A session that is as far with its login as another.
@@ -618,7 +626,7 @@ impl Driver {
 
     /// 0x103, with a type and now and then more, or less than one.
     fn attributes(&mut self) -> Step {
-        let kind = self.r.pick(&[1, 1, 2, 2, 2, 2, 0, 3, u32::MAX]);
+        let kind = self.r.pick(&[TEXT, TEXT, MD5, MD5, MD5, MD5, 0, 3, u32::MAX]);
         let mut body = wire::words(&[kind]);
         match self.r.below(12) {
             0 => body.truncate(self.r.below(4) as usize),
@@ -626,13 +634,13 @@ impl Driver {
                 let n = self.r.within(1, 8) as usize;
                 body.extend(self.r.bytes(n));
             }
-            2..=4 if !matches!(kind, TEXT | MD5) => body.extend(self.text(20)),
+            2..=4 if kind != MD5 => body.extend(self.text(20)),
             _ => {}
         }
         self.request(0x103, &body)
     }
 
-    /// A login by one of the accounts. One by MD5 begins with the challenge.
+    /// A login by one of the accounts that let in, which begins with the challenge.
     fn auth(&mut self, w: &World, right: bool) -> Step {
         if !right {
             return self.wrong_auth(w);
@@ -642,14 +650,12 @@ impl Driver {
         if entries.is_empty() {
             return Step::Accounts(accounts::of(&accounts::right(&mut self.r)));
         }
-        let Entry { kind, id, password } = entries.swap_remove(self.r.below(entries.len() as u64) as usize);
         let login = &w.session.login;
-        let body = match kind {
-            TEXT => by_text(&id, &password),
-            _ if !login.challenged => return self.words(0x103, &[2]),
-            _ => by_md5(&id, &digest(&password, &login.challenge, true)),
-        };
-        self.request(0x901, &body)
+        if !login.challenged {
+            return self.words(0x103, &[MD5]);
+        }
+        let Entry { id, password, .. } = entries.swap_remove(self.r.below(entries.len() as u64) as usize);
+        self.request(0x901, &by_md5(&id, &digest(&password, &login.challenge, true)))
     }
 
     /// A login that is mostly wrong, in one way.
@@ -662,7 +668,7 @@ impl Driver {
         let (Entry { mut id, mut password, .. }, other) = (some(&mut self.r), some(&mut self.r));
         let (newest, lent) = (&w.session.login.challenge, self.challenge());
         let right = digest(&password, newest, true).to_vec();
-        let way = self.r.below(24);
+        let way = self.r.below(26);
         match way {
             0 | 13 => id.push(0),
             1 => password.push(0),
@@ -674,7 +680,7 @@ impl Driver {
         }
         let body = match way {
             0..=6 => by_text(&id, &password),
-            7 => [by_text(&id, &password), vec![0]].concat(),
+            7 | 24 | 25 => self.bent_text(by_text(&id, &password)),
             8 => by_md5(&id, &digest(&password, newest, false)),
             9 => by_md5(&id, &digest(&password, &w.older.unwrap_or([7; 64]), true)),
             10 => by_md5(&id, &digest(&password, &lent, true)),
@@ -700,6 +706,20 @@ impl Driver {
         };
         let step = self.request(0x901, &body);
         lending(step, lent)
+    }
+
+    /// A login by text that is longer or shorter than it should be, or of which a byte, which may be one of a fill, is another.
+    fn bent_text(&mut self, mut body: Vec<u8>) -> Vec<u8> {
+        match self.r.below(4) {
+            0 => body.push(0),
+            1 => body.truncate(4),
+            2 => body.truncate(self.r.within(5, body.len() as u64 - 1) as usize),
+            _ => {
+                let i = self.r.within(4, body.len() as u64 - 1) as usize;
+                body[i] ^= 1;
+            }
+        }
+        body
     }
 
     fn tape_open(&mut self, name: &[u8], mode: u32) -> Step {
@@ -859,7 +879,8 @@ impl Driver {
             81 => self.lend(w),
             // Each call may be lent other accounts.
             82 => self.lend_accounts(),
-            83..=93 => {
+            83 => self.listing(),
+            84..=93 => {
                 self.hand_in(w);
                 self.queue.pop_front().unwrap()
             }

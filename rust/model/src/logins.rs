@@ -5,7 +5,7 @@ use crate::model::accounts::{Challenge, MD5, TEXT};
 use proved::Session;
 use wire::{text, word, words};
 
-/// The body of a login by text.
+/// The body of a login by text, which is withdrawn.
 pub fn by_text(id: &[u8], password: &[u8]) -> Vec<u8> {
     [words(&[TEXT]), text(id), text(password)].concat()
 }
@@ -26,67 +26,79 @@ pub struct Met<'a> {
 
 /// Every case that has to be reached, with the number that answers it.
 pub fn wanted() -> Vec<(String, u32)> {
-    let mut all: Vec<(String, u32)> = RIGHT.iter().map(|case| (case.to_string(), 0)).collect();
-    all.extend(WRONG.iter().map(|case| (case.to_string(), 4)));
+    let mut all: Vec<(String, u32)> = RIGHT.iter().map(|case| (format!("md5, {case}"), 0)).collect();
+    all.extend(WRONG.iter().map(|case| (format!("md5, {case}"), 4)));
+    all.extend(WITHDRAWN.iter().map(|case| (format!("text, {case}"), 9)));
     for (kind, buffer, laid) in accounts::kinds() {
         if accounts::meant(&buffer).is_empty() {
-            all.extend(["text", "md5"].map(|how| (format!("{how}, accounts: {kind}"), 4)));
-        } else if laid {
-            all.extend(["text", "md5"].map(|how| (format!("{how}, right, {kind}"), 0)));
-        } else {
-            all.extend(["text", "md5"].map(|how| (format!("{how}, right but for accounts: {kind}"), 4)));
+            all.extend([("text", 9), ("md5", 4)].map(|(how, n)| (format!("{how}, accounts: {kind}"), n)));
+            continue;
         }
+        all.push((format!("text, right, {kind}"), 9));
+        all.push(match laid {
+            true => (format!("md5, right, {kind}"), 0),
+            false => (format!("md5, right but for accounts: {kind}"), 4),
+        });
     }
     for after in ["", ", no challenge given"] {
         all.extend(SHAPES.map(|case| (format!("md5{after}, {case}"), 18)));
     }
-    all.push(("text, bytes left over".into(), 18));
     for kind in ["0", "3", "all ones"] {
         all.extend(["", " and a rest"].map(|rest| (format!("type {kind}{rest}"), 9)));
     }
     all
 }
 
-const RIGHT: [&str; 15] = [
-    "text, right",
-    "text, right, id stands before it",
-    "text, right, the eighth",
-    "text, right, both empty",
-    "text, right, password above 32 bytes",
-    "text, right, challenge given",
-    "text, right, logged in already",
-    "md5, right",
-    "md5, right, id stands before it",
-    "md5, right, the eighth",
-    "md5, right, empty id",
-    "md5, right, password of 1 byte",
-    "md5, right, password of 31 bytes",
-    "md5, right, password of 32 bytes",
-    "md5, right, logged in already",
+/// By MD5.
+const RIGHT: [&str; 9] = [
+    "right",
+    "right, id stands before it",
+    "right, id withdrawn before it",
+    "right, the eighth",
+    "right, empty id",
+    "right, password of 1 byte",
+    "right, password of 31 bytes",
+    "right, password of 32 bytes",
+    "right, logged in already",
 ];
 
-const WRONG: [&str; 21] = [
-    "text, of an MD5 account",
-    "text, wrong password",
-    "text, another's password",
-    "text, unknown id",
-    "text, wrong, logged in already",
-    "md5, no challenge given, digest of zeros",
-    "md5, no challenge given, digest of the lent one",
-    "md5, no challenge given, digest of the one kept",
-    "md5, no challenge given, any digest",
-    "md5, of a text account",
-    "md5, an older challenge",
-    "md5, the lent challenge",
-    "md5, last byte wrong",
-    "md5, first byte wrong",
-    "md5, another's digest",
-    "md5, empty password",
-    "md5, password of 33 bytes, cut",
-    "md5, password of 33 bytes, whole",
-    "md5, wrong digest",
-    "md5, unknown id",
-    "md5, wrong, logged in already",
+/// By MD5.
+const WRONG: [&str; 17] = [
+    "no challenge given, digest of zeros",
+    "no challenge given, digest of the lent one",
+    "no challenge given, digest of the one kept",
+    "no challenge given, any digest",
+    "of a text account",
+    "of a text account, and no other kind",
+    "an older challenge",
+    "the lent challenge",
+    "last byte wrong",
+    "first byte wrong",
+    "another's digest",
+    "empty password",
+    "password of 33 bytes, cut",
+    "password of 33 bytes, whole",
+    "wrong digest",
+    "unknown id",
+    "wrong, logged in already",
+];
+
+/// 02 No. 10: by text, whatever stands behind the type. Right is what an entry marked text has.
+const WITHDRAWN: [&str; 14] = [
+    "type alone",
+    "cut short",
+    "fill not zero",
+    "bytes left over",
+    "right",
+    "right, challenge given",
+    "right, no challenge given",
+    "right, logged in already",
+    "right, both empty",
+    "right, password above 32 bytes",
+    "of an MD5 account",
+    "wrong password",
+    "unknown id",
+    "wrong, logged in already",
 ];
 
 /// Ways of a body that do not decode.
@@ -97,19 +109,12 @@ pub fn cases(body: &[u8], met: &Met) -> Vec<String> {
     let Some(kind) = wire::word_at(body, 0) else { return vec![] };
     let mut rest = &body[4..];
     match kind {
-        TEXT => {
-            let Some((id, password)) = one(&mut rest).zip(one(&mut rest)) else { return vec![] };
-            if !rest.is_empty() {
-                return vec!["text, bytes left over".into()];
-            }
-            told("text", text_cases(&id, &password, met), met)
-        }
+        TEXT => text_cases(rest, met),
         MD5 => {
             let Some(id) = one(&mut rest) else { return vec![] };
             if rest.len() == 16 {
                 let given = met.session.login.challenged;
-                let all = if given { md5_cases(&id, rest, met) } else { unchallenged(&id, rest, met) };
-                return told("md5", all, met);
+                return told(if given { md5_cases(&id, rest, met) } else { unchallenged(&id, rest, met) }, met);
             }
             let shape = match rest.len() {
                 0 => 3,
@@ -135,17 +140,27 @@ fn one(rest: &mut &[u8]) -> Option<Vec<u8>> {
     bytes[n..].iter().all(|b| *b == 0).then(|| bytes[..n].to_vec())
 }
 
-/// With how it is made, and what the accounts are.
-fn told(how: &str, all: Vec<String>, met: &Met) -> Vec<String> {
+/// Id and password, whether their fill is zero, and how many bytes are left over. None where they are cut short.
+fn texts(mut rest: &[u8]) -> Option<(&[u8], &[u8], bool, usize)> {
+    let mut one = || {
+        let n = word(rest.split_off(..4)?, 0) as usize;
+        Some(rest.split_off(..n.checked_add((4 - n % 4) % 4)?)?.split_at(n))
+    };
+    let ((id, a), (password, b)) = (one()?, one()?);
+    Some((id, password, a.iter().chain(b).all(|x| *x == 0), rest.len()))
+}
+
+/// By MD5, with what the accounts are.
+fn told(all: Vec<String>, met: &Met) -> Vec<String> {
     let kind = accounts::kind(met.accounts);
-    let mut all: Vec<String> = all.into_iter().map(|case| format!("{how}, {case}")).collect();
+    let mut all: Vec<String> = all.into_iter().map(|case| format!("md5, {case}")).collect();
     if matches!(kind, "no bytes" | "no entries") {
-        all.push(format!("{how}, accounts: {kind}"));
+        all.push(format!("md5, accounts: {kind}"));
     }
-    if let Some(entry) = all.iter().find(|case| case.ends_with(", right")) {
-        all.push(format!("{entry}, {kind}"));
+    if all[0] == "md5, right" {
+        all.push(format!("md5, right, {kind}"));
     } else if met.session.login.authorized {
-        all.push(format!("{how}, wrong, logged in already"));
+        all.push("md5, wrong, logged in already".into());
     }
     all
 }
@@ -157,16 +172,13 @@ fn right(chosen: usize, entries: &[Entry], met: &Met) -> Vec<String> {
         return vec![format!("right but for accounts: {kind}")];
     }
     let Entry { id, password, .. } = &entries[chosen];
-    let login = &met.session.login;
     let mut all = vec!["right".to_string()];
     for (case, applies) in [
         ("id stands before it", entries[..chosen].iter().any(|e| e.id == *id)),
+        ("id withdrawn before it", entries[..chosen].iter().any(|e| e.kind == TEXT && e.id == *id)),
         ("the eighth", chosen == 7),
-        ("both empty", id.is_empty() && password.is_empty()),
         ("empty id", id.is_empty()),
-        ("password above 32 bytes", password.len() > 32),
-        ("challenge given", login.challenged),
-        ("logged in already", login.authorized),
+        ("logged in already", met.session.login.authorized),
         ("password of 1 byte", password.len() == 1),
         ("password of 31 bytes", password.len() == 31),
         ("password of 32 bytes", password.len() == 32),
@@ -178,19 +190,53 @@ fn right(chosen: usize, entries: &[Entry], met: &Met) -> Vec<String> {
     all
 }
 
-fn text_cases(id: &[u8], password: &[u8], met: &Met) -> Vec<String> {
+/// By text: what stands behind the type, and whether an entry has it.
+fn text_cases(rest: &[u8], met: &Met) -> Vec<String> {
+    let kind = accounts::kind(met.accounts);
+    let login = &met.session.login;
+    let (cases, right) = match texts(rest) {
+        _ if rest.is_empty() => (vec!["type alone"], false),
+        None => (vec!["cut short"], false),
+        Some((.., false, _)) => (vec!["fill not zero"], false),
+        Some((.., 1..)) => (vec!["bytes left over"], false),
+        Some((id, password, ..)) => by_entries(id, password, met),
+    };
+    let mut all: Vec<String> = cases.iter().map(|case| format!("text, {case}")).collect();
+    for (case, applies) in [
+        (format!("right, {kind}"), right),
+        (format!("accounts: {kind}"), accounts::meant(met.accounts).is_empty()),
+        ("wrong, logged in already".into(), login.authorized && !right),
+        ("right, logged in already".into(), login.authorized && right),
+        ("right, challenge given".into(), login.challenged && right),
+        ("right, no challenge given".into(), !login.challenged && right),
+    ] {
+        if applies {
+            all.push(format!("text, {case}"));
+        }
+    }
+    all
+}
+
+/// What this id with this password is to the entries, and whether one marked text has both.
+fn by_entries(id: &[u8], password: &[u8], met: &Met) -> (Vec<&'static str>, bool) {
     let entries = accounts::meant(met.accounts);
     let same = |e: &Entry| e.id == id && e.password == password;
-    if let Some(chosen) = entries.iter().position(|e| e.kind == TEXT && same(e)) {
-        return right(chosen, &entries, met);
+    if !entries.iter().any(|e| e.kind == TEXT && same(e)) {
+        let case = match () {
+            _ if entries.iter().any(same) => "of an MD5 account",
+            _ if !entries.iter().any(|e| e.id == id) => "unknown id",
+            _ => "wrong password",
+        };
+        return (vec![case], false);
     }
-    let case = match () {
-        _ if entries.iter().any(same) => "of an MD5 account",
-        _ if !entries.iter().any(|e| e.id == id) => "unknown id",
-        _ if entries.iter().any(|e| e.kind == TEXT && e.password == password) => "another's password",
-        _ => "wrong password",
-    };
-    vec![case.into()]
+    let mut all = vec!["right"];
+    if id.is_empty() && password.is_empty() {
+        all.push("right, both empty");
+    }
+    if password.len() > 32 {
+        all.push("right, password above 32 bytes");
+    }
+    (all, true)
 }
 
 /// By MD5, and no challenge was given.
@@ -230,7 +276,13 @@ fn md5_cases(id: &[u8], sent: &[u8], met: &Met) -> Vec<String> {
         _ if of(MD5).any(|e| e.password.is_empty() && makes(e, newest)) => "empty password",
         _ if long(true) => "password of 33 bytes, cut",
         _ if long(false) => "password of 33 bytes, whole",
-        _ if of(TEXT).any(|e| makes(e, newest)) => "of a text account",
+        _ if of(TEXT).any(|e| makes(e, newest)) => {
+            let mut all = vec!["of a text account".to_string()];
+            if entries.iter().all(|e| e.kind == TEXT) {
+                all.push("of a text account, and no other kind".into());
+            }
+            return all;
+        }
         _ if of(MD5).any(|e| e.serves() && met.older.is_some_and(|c| makes(e, &c))) => "an older challenge",
         _ if of(MD5).any(|e| e.serves() && makes(e, met.lent)) => "the lent challenge",
         _ if near(15) => "last byte wrong",
@@ -246,11 +298,11 @@ fn md5_cases(id: &[u8], sent: &[u8], met: &Met) -> Vec<String> {
 /// 0x103: every case that has to be reached, with the number that answers it.
 pub fn wanted_attributes() -> Vec<(String, u32)> {
     let mut all = vec![];
-    for kind in ["1", "2"] {
+    for (kind, number) in [("1", 9), ("2", 0)] {
         let cases = ["before auth", "after auth", "the first request", "none before", "one before"];
-        all.extend(cases.map(|case| (format!("{kind}, {case}"), 0)));
-        all.push((format!("{kind}, bytes left over"), 18));
+        all.extend(cases.map(|case| (format!("{kind}, {case}"), number)));
     }
+    all.extend([("1, a rest".into(), 9), ("2, bytes left over".into(), 18)]);
     for kind in ["0", "3", "all ones"] {
         all.extend(["before auth", "after auth", "a rest"].map(|case| (format!("{kind}, {case}"), 9)));
     }
@@ -266,7 +318,7 @@ pub fn attribute_cases(body: &[u8], before: &Session) -> Vec<String> {
         Some(u32::MAX) => "all ones".into(),
         Some(kind) => kind.to_string(),
     };
-    let other = !matches!(kind.as_str(), "1" | "2");
+    let other = kind != "2";
     let mut all = vec![];
     if body.len() > 4 {
         all.push(format!("{kind}, {}", if other { "a rest" } else { "bytes left over" }));
@@ -310,12 +362,23 @@ mod tests {
         let all = [vec![text, short], more.to_vec()].concat();
         let mut wrong = digest(b"five5", &NEWEST, true);
         wrong[15] ^= 1;
+        let more = |mut body: Vec<u8>, at: usize| {
+            body[at] = 1;
+            body
+        };
         for (body, case) in [
             (by_text(b"id", b"words"), "text, right"),
+            (by_text(b"id", b"words"), "text, right, challenge given"),
+            (by_text(b"id", b"words"), "text, right, 1 to 7 entries"),
             (by_text(b"id", b"five5"), "text, of an MD5 account"),
-            (by_text(b"op", b"words"), "text, another's password"),
+            (by_text(b"op", b"words"), "text, wrong password"),
             (by_text(b"no", b"words"), "text, unknown id"),
+            (by_text(b"id", b"words")[..4].to_vec(), "text, type alone"),
+            (by_text(b"id", b"words")[..23].to_vec(), "text, cut short"),
+            (more(by_text(b"id", b"words"), 11), "text, fill not zero"),
+            ([by_text(b"id", b"words"), vec![0]].concat(), "text, bytes left over"),
             (md5(b"five5", NEWEST), "md5, right, id stands before it"),
+            (md5(b"five5", NEWEST), "md5, right, id withdrawn before it"),
             (md5(b"words", NEWEST), "md5, of a text account"),
             (md5(b"five5", LENT), "md5, the lent challenge"),
             (md5(b"five5", OLDER), "md5, an older challenge"),
@@ -332,6 +395,9 @@ mod tests {
         }
         let none = "md5, no challenge given, digest of the one kept";
         assert_eq!(told(&all, false, md5(b"five5", NEWEST)), [none]);
+        let alone = ["md5, of a text account", "md5, of a text account, and no other kind"];
+        assert_eq!(told(&all[..1], true, md5(b"words", NEWEST)), alone);
+        assert_eq!(told(&[], true, words(&[1])), ["text, type alone", "text, accounts: no entries"]);
     }
 
     #[test]

@@ -13,6 +13,7 @@
 //!     end TIME ROOM OK                 the method's end
 //!     made TIME ROOM MOVER             the events, of the mover (1) or of the data end (0)
 //!     lost TIME ROOM MOVER
+//!     listing ROOM                     the listing of the accounts
 
 use crate::convert::{fields, set_field};
 use crate::model::accounts::Challenge;
@@ -31,6 +32,7 @@ pub enum Step {
     End { time: u32, room: usize, ok: bool },
     Made { time: u32, room: usize, mover: bool },
     Lost { time: u32, room: usize, mover: bool },
+    Listing { room: usize },
 }
 
 impl Step {
@@ -48,7 +50,8 @@ impl Step {
             | Step::From { room, .. }
             | Step::End { room, .. }
             | Step::Made { room, .. }
-            | Step::Lost { room, .. } => Some(*room),
+            | Step::Lost { room, .. }
+            | Step::Listing { room } => Some(*room),
         }
     }
 
@@ -61,7 +64,8 @@ impl Step {
             | Step::From { room, .. }
             | Step::End { room, .. }
             | Step::Made { room, .. }
-            | Step::Lost { room, .. } => *room = length,
+            | Step::Lost { room, .. }
+            | Step::Listing { room } => *room = length,
         }
     }
 
@@ -84,6 +88,7 @@ impl Step {
             Step::End { time, room, ok } => format!("end {time} {room} {}", *ok as u8),
             Step::Made { time, room, mover } => format!("made {time} {room} {}", *mover as u8),
             Step::Lost { time, room, mover } => format!("lost {time} {room} {}", *mover as u8),
+            Step::Listing { room } => format!("listing {room}"),
         }
     }
 
@@ -123,6 +128,7 @@ impl Step {
             "end" => Step::End { time: time()?, room: room()?, ok: yes(2)? },
             "made" => Step::Made { time: time()?, room: room()?, mover: yes(2)? },
             "lost" => Step::Lost { time: time()?, room: room()?, mover: yes(2)? },
+            "listing" => Step::Listing { room: whole(0)? },
             _ => return None,
         })
     }

@@ -6,7 +6,7 @@ use crate::model::accounts::Challenge;
 use crate::model::calls::{self, Given, Kept, Lent};
 use crate::script::Step;
 use crate::stores;
-use proved::{Answer, Moved, Session};
+use proved::{Answer, Listed, Moved, Session};
 
 pub struct World {
     pub session: Session,
@@ -122,6 +122,7 @@ impl World {
             Step::End { time, ok, .. } => calls::end_method(s, *ok, *time, room),
             Step::Made { time, mover, .. } => calls::made(s, *mover, *time, room),
             Step::Lost { time, mover, .. } => calls::lost(s, *mover, *time, room),
+            Step::Listing { .. } => calls::listing(&self.accounts, room),
             Step::Accounts(_) | Step::Image(_) | Step::Store(_) | Step::Session(_) => unreachable!("is no call"),
         }
     }
@@ -141,6 +142,11 @@ impl World {
             Step::End { time, ok, .. } => proved::end_method(s, *ok, *time, out),
             Step::Made { time, mover, .. } => proved::made(s, *mover, *time, out),
             Step::Lost { time, mover, .. } => proved::lost(s, *mover, *time, out),
+            // It is lent no session, and gives none.
+            Step::Listing { .. } => {
+                let Listed { code, len } = proved::accounts(&self.accounts, out);
+                Answer { code, len, session: s }
+            }
             Step::Accounts(_) | Step::Image(_) | Step::Store(_) | Step::Session(_) => unreachable!("is no call"),
         };
         let Answer { code, len, session } = answer;

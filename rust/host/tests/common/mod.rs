@@ -3,7 +3,7 @@
 pub mod far;
 pub use host::client::{Client, Ended, TO_READ, TO_WRITE, Why};
 pub use host::own::{Running, noise};
-pub use proved::{Data, Mover, codes};
+pub use proved::{Challenge, Data, Mover, codes};
 use std::fs;
 use std::io::{ErrorKind, Write};
 use std::ops::{Deref, DerefMut};
@@ -133,6 +133,17 @@ pub fn closed(c: &mut Client) {
 
 pub fn login(client: &mut Client) {
     client.login(b"vault", b"noon").unwrap();
+}
+
+/// The body of a login by text, which is withdrawn.
+pub fn by_text(id: &str, password: &str) -> Vec<u8> {
+    [words(&[codes::TEXT_AUTH]), text(id), text(password)].concat()
+}
+
+/// The body of a login by MD5.
+pub fn by_md5(id: &str, password: &str, challenge: &Challenge) -> Vec<u8> {
+    let digest = wire::md5::login_digest(password.as_bytes(), challenge).unwrap();
+    [&words(&[codes::MD5_AUTH])[..], &text(id), &digest].concat()
 }
 
 /// The list of accounts that the core is lent, of kinds, ids and passwords.

@@ -1,9 +1,9 @@
-//! 02 No. 2: the accounts that a host lends, and whom they let in.
+//! 02 No. 2 and No. 10: the accounts that a host lends, whom they let in, and their listing.
 
 use super::md5::md5;
 use super::xdr::Reader;
 
-/// 004: NDMP_AUTH_TEXT, NDMP_AUTH_MD5.
+/// 004: NDMP_AUTH_TEXT, NDMP_AUTH_MD5. No. 10: "Text login is withdrawn": of accounts alone TEXT is a kind.
 pub const TEXT: u32 = 1;
 pub const MD5: u32 = 2;
 
@@ -19,7 +19,8 @@ pub struct Account<'a> {
 }
 
 /// "The accounts grow to eight". The layout is the project's own: XDR, a count, then kind, id and password of each, up to
-/// the buffer's end. One that is not laid out so has no entries (reading).
+/// the buffer's end. One that is not laid out so has no entries (reading). No. 10: "Account stores still holding text
+/// entries are read without complaint".
 pub fn accounts(buffer: &[u8]) -> Vec<Account<'_>> {
     laid_out(buffer).unwrap_or_default()
 }
@@ -38,12 +39,9 @@ pub fn laid_out(buffer: &[u8]) -> Option<Vec<Account<'_>>> {
     Some(all)
 }
 
-/// "where an id stands twice any entry may match", and "login by the other kind is a wrong password".
-pub fn lets_in_by_text(buffer: &[u8], id: &[u8], password: &[u8]) -> bool {
-    accounts(buffer).into_iter().any(|a| a.kind == TEXT && a.id == id && a.password == password)
-}
-
-pub fn lets_in_by_md5(buffer: &[u8], id: &[u8], digest: &[u8], challenge: &Challenge) -> bool {
+/// "where an id stands twice any entry may match", and "login by the other kind is a wrong password". No. 10, of a text
+/// entry: "such an entry never lets anyone in".
+pub fn lets_in(buffer: &[u8], id: &[u8], digest: &[u8], challenge: &Challenge) -> bool {
     let right =
         |a: Account| a.kind == MD5 && a.id == id && digest_of(a.password, challenge).is_some_and(|d| d == digest);
     accounts(buffer).into_iter().any(right)
@@ -62,4 +60,14 @@ pub fn digest_of(password: &[u8], challenge: &Challenge) -> Option<[u8; 16]> {
     input.extend(challenge);
     input.extend(password);
     Some(md5(&input))
+}
+
+/// No. 10: "1001 under 96 bytes".
+pub const LISTING: usize = 96;
+
+/// No. 10: "a line for each entry: number from 0, a blank, `md5` or `withdrawn`". A line feed ends each line, the last too;
+/// and the word tells the kind alone, also of an MD5 entry that never matches (readings).
+pub fn listing(buffer: &[u8]) -> String {
+    let word = |kind| if kind == MD5 { "md5" } else { "withdrawn" };
+    accounts(buffer).iter().enumerate().map(|(i, a)| format!("{i} {}\n", word(a.kind))).collect()
 }

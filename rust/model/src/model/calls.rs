@@ -1,6 +1,6 @@
 //! The calls: what comes before all else, the counter, and what is written.
 
-use super::accounts::Challenge;
+use super::accounts::{self, Challenge};
 use super::record::{Notice, framed, sent};
 use super::refusals::{Outcome, refuse, refused};
 use super::requests::{Address, HANDLED, Request, decode};
@@ -204,4 +204,12 @@ pub fn addresses(input: &[u8]) -> Vec<(u32, u32)> {
         ) => list,
         _ => vec![],
     }
+}
+
+/// 02 No. 10: "a new listing into lent output (1001 under 96 bytes)". It is lent no session, and takes no number.
+pub fn listing(lent: &[u8], room: usize) -> Given {
+    if room < accounts::LISTING {
+        return given(1001, "short output");
+    }
+    Given { sent: accounts::listing(lent).into_bytes(), ..given(0, "listed") }
 }

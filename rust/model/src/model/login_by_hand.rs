@@ -1,7 +1,8 @@
-//! Cases of 02 No. 2, worked out by hand from the papers.
+//! Cases of 02 No. 2 and No. 10, worked out by hand from the papers.
 
 use super::accounts::{MD5, TEXT, accounts, digest_of, laid_out};
 use super::by_hand::{Desk, bytes, record, words};
+use super::calls::listing;
 use super::md5::md5;
 use super::xdr::Writer;
 
@@ -103,14 +104,12 @@ fn what_the_auth_attributes_are() {
     for authorized in [false, true] {
         let mut d = stranger(&[]);
         (d.s.authorized, d.challenge) = (authorized, [7; 64]);
-        assert_eq!(d.ask(0x103, &[1]), (0, vec![0, 1]));
-        assert_eq!((d.s.challenged, d.s.challenge), (false, [0; 64]));
-        // "other reply fields are zero or empty": the type too.
-        for other in [0, 3, 7, 0x0200_0000, u32::MAX] {
+        // "9 for type 1, at 0x103 too, its rest unread"; "other reply fields are zero or empty": the type too.
+        for other in [1, 0, 3, 7, 0x0100_0000, 0x0200_0000, u32::MAX] {
             assert_eq!(d.ask(0x103, &[other]), (0, vec![9, 0]));
             assert_eq!(d.ask(0x103, &[other, 5, 6]), (0, vec![9, 0]));
+            assert_eq!(words(&d.send(0x103, &[&bytes(&[other])[..], &[7]].concat())[24..]), [0, 9, 0]);
         }
-        assert_eq!(d.ask(0x103, &[1, 0]), (18, vec![]));
         assert_eq!(d.ask(0x103, &[2, 0]), (18, vec![]));
         assert_eq!(d.ask(0x103, &[]), (18, vec![]));
         assert_eq!(words(&d.send(0x103, &[0, 0, 2])[24..]), [18]);
@@ -123,7 +122,7 @@ fn what_the_auth_attributes_are() {
 
 #[test]
 fn a_challenge_takes_the_first_place() {
-    for (kind, number) in [(1, 0), (2, 0), (3, 9)] {
+    for (kind, number) in [(1, 9), (2, 0), (3, 9)] {
         let mut d = stranger(&[]);
         assert_eq!(d.number(0x103, &[kind]), number);
         assert_eq!(d.number(0x900, &[4]), 19);
@@ -137,8 +136,8 @@ fn the_newest_challenge() {
     d.challenge = [2; 64];
     assert_eq!(d.number(0x103, &[2]), 0);
     d.challenge = [3; 64];
-    assert_eq!((d.number(0x103, &[1]), d.number(0x103, &[9]), d.number(0x103, &[2, 2])), (0, 9, 18));
-    assert_eq!(login(&mut d, &text_body(b"t", b"wrong")), 4);
+    assert_eq!((d.number(0x103, &[1]), d.number(0x103, &[9]), d.number(0x103, &[2, 2])), (9, 9, 18));
+    assert_eq!(login(&mut d, &text_body(b"t", b"pw")), 9);
     for challenge in [1, 3, 0] {
         assert_eq!(by_md5(&mut d, b"a", b"pw", challenge), 4, "{challenge}");
     }
@@ -152,13 +151,12 @@ fn the_newest_challenge() {
 #[test]
 fn no_challenge_given() {
     let mut d = stranger(&[(MD5, b"a", b"pw"), (TEXT, b"a", b"pw")]);
-    assert_eq!(d.number(0x103, &[1]), 0);
+    assert_eq!(d.number(0x103, &[1]), 9);
     assert_eq!(by_md5(&mut d, b"a", b"pw", 0), 4);
     // 18 comes before 4.
     assert_eq!(login(&mut d, &md5_body(b"a", &[0; 15])), 18);
     assert_eq!(login(&mut d, &md5_body(b"a", &[0; 17])), 18);
-    // Text needs none.
-    assert_eq!(login(&mut d, &text_body(b"a", b"pw")), 0);
+    assert_eq!(login(&mut d, &text_body(b"a", b"pw")), 9);
 }
 
 #[test]
@@ -179,7 +177,7 @@ fn bodies_of_a_login() {
     filled[11] = 1;
     assert_eq!(login(&mut d, &filled), 18);
     // Types that are no login, whatever follows.
-    for kind in [0, 3, u32::MAX] {
+    for kind in [0, 1, 3, 0x0100_0000, u32::MAX] {
         assert_eq!((d.ask(0x901, &[kind]), d.ask(0x901, &[kind, 9, 9])), ((0, vec![9]), (0, vec![9])));
     }
     assert_eq!((login(&mut d, &[]), login(&mut d, &[0, 0, 2])), (18, 18));
@@ -187,20 +185,63 @@ fn bodies_of_a_login() {
     assert_eq!(login(&mut d, &right), 0);
 }
 
-/// "login by the other kind is a wrong password"
+/// "9 for type 1, ... its rest unread, before any account is looked at": with a right password, with a broken body, with
+/// accounts that are none.
+#[test]
+fn text_login_is_withdrawn() {
+    let entries: [Entry; 3] = [(TEXT, b"t", b"one"), (MD5, b"m", b"two"), (TEXT, b"", b"")];
+    let right = text_body(b"t", b"one");
+    let mut all = vec![text_body(b"m", b"two"), text_body(b"t", b"two"), text_body(b"", b""), text_body(b"n", b"x")];
+    all.extend((4..=right.len()).map(|n| right[..n].to_vec()));
+    all.push([&right[..], &[0]].concat());
+    // The fill behind the id, and a length that is too long.
+    all.extend([9, 11, 4].map(|at| {
+        let mut other = right.clone();
+        other[at] = 1;
+        other
+    }));
+    for lent in [listed(&entries), vec![], listed(&[]), vec![0, 0, 0, 3]] {
+        for mut d in [stranger(&[]), challenged(&[], 5)] {
+            d.accounts.clone_from(&lent);
+            for body in &all {
+                assert_eq!(login(&mut d, body), 9, "{body:x?}");
+            }
+        }
+    }
+    // Less than a type is none.
+    assert_eq!(login(&mut stranger(&entries), &right[..3]), 18);
+}
+
+/// "Sessions already open stay authorized": a login by text takes nothing away.
+#[test]
+fn open_sessions_stay_authorized() {
+    let mut d = challenged(&[(MD5, b"m", b"two"), (TEXT, b"m", b"two")], 5);
+    assert_eq!(by_md5(&mut d, b"m", b"two", 5), 0);
+    d.accounts = listed(&[(TEXT, b"m", b"two")]);
+    assert_eq!((login(&mut d, &text_body(b"m", b"two")), login(&mut d, &bytes(&[1]))), (9, 9));
+    assert_eq!((d.number(0x103, &[1]), d.number(0x102, &[])), (9, 0));
+    assert!(d.s.authorized && d.s.challenged && d.s.challenge == [5; 64]);
+    // Whoever was let in by text before is in.
+    let mut d = Desk::new();
+    d.accounts = listed(&[(TEXT, b"t", b"one")]);
+    assert_eq!((login(&mut d, &text_body(b"t", b"one")), d.number(0x102, &[])), (9, 0));
+}
+
+/// Of a text entry: "such an entry never lets anyone in"; it leaves the others as they are.
 #[test]
 fn each_kind_by_itself() {
     let mut d = challenged(&[(TEXT, b"t", b"one"), (MD5, b"m", b"two")], 5);
-    assert_eq!((by_md5(&mut d, b"t", b"one", 5), login(&mut d, &text_body(b"m", b"two"))), (4, 4));
-    assert_eq!((by_md5(&mut d, b"m", b"one", 5), login(&mut d, &text_body(b"t", b"two"))), (4, 4));
-    assert_eq!((by_md5(&mut d, b"", b"two", 5), login(&mut d, &text_body(b"", b""))), (4, 4));
+    assert_eq!(
+        (by_md5(&mut d, b"t", b"one", 5), by_md5(&mut d, b"m", b"one", 5), by_md5(&mut d, b"", b"two", 5)),
+        (4, 4, 4)
+    );
     for at in [0, 7, 15] {
         let mut digest = digest_of(b"two", &[5; 64]).unwrap();
         digest[at] ^= 1;
         assert_eq!(login(&mut d, &md5_body(b"m", &digest)), 4);
     }
     assert_eq!(by_md5(&mut d, b"m", b"two", 5), 0);
-    assert_eq!(login(&mut challenged(&[(TEXT, b"t", b"one")], 5), &text_body(b"t", b"one")), 0);
+    assert_eq!(by_md5(&mut challenged(&[(TEXT, b"t", b"one")], 5), b"t", b"one", 5), 4);
 }
 
 /// "where an id stands twice any entry may match"
@@ -208,15 +249,13 @@ fn each_kind_by_itself() {
 fn an_id_that_stands_twice() {
     let entries: [Entry; 5] =
         [(MD5, b"a", b"one"), (TEXT, b"a", b"two"), (MD5, b"a", b"three"), (TEXT, b"a", b"four"), (MD5, b"b", b"five")];
-    for (password, by_text, md5) in
-        [(&b"one"[..], 4, 0), (b"two", 0, 4), (b"three", 4, 0), (b"four", 0, 4), (b"five", 4, 4)]
-    {
-        assert_eq!(login(&mut challenged(&entries, 6), &text_body(b"a", password)), by_text);
-        assert_eq!(by_md5(&mut challenged(&entries, 6), b"a", password, 6), md5);
+    for (password, number) in [(&b"one"[..], 0), (b"two", 4), (b"three", 0), (b"four", 4), (b"five", 4)] {
+        assert_eq!(login(&mut challenged(&entries, 6), &text_body(b"a", password)), 9);
+        assert_eq!(by_md5(&mut challenged(&entries, 6), b"a", password, 6), number);
     }
 }
 
-/// "an MD5 password above 32 bytes never does"; nor does an empty one. Text has no such limit.
+/// "an MD5 password above 32 bytes never does"; nor does an empty one.
 #[test]
 fn passwords_at_their_limits() {
     for (n, number) in [(0, 4), (1, 0), (31, 0), (32, 0)] {
@@ -230,30 +269,28 @@ fn passwords_at_their_limits() {
         assert_eq!((cut, login(&mut challenged(&[(MD5, b"a", &password)], 8), &md5_body(b"a", &whole))), (4, 4));
     }
     for n in [0, 1, 32, 33, 300] {
-        let (id, password) = (vec![b'i'; n], vec![b'p'; n]);
-        assert_eq!(login(&mut stranger(&[(TEXT, &id, &password)]), &text_body(&id, &password)), 0);
+        let id = vec![b'i'; n];
+        assert_eq!(by_md5(&mut challenged(&[(MD5, &id, b"pw")], 8), &id, b"pw", 8), 0);
     }
 }
 
 #[test]
 fn eight_accounts_and_no_more() {
     let ids: Vec<[u8; 1]> = (0..9).map(|i| [b'a' + i]).collect();
-    let entries: Vec<Entry> = ids.iter().map(|id| (TEXT, &id[..], &b"pw"[..])).collect();
+    let entries: Vec<Entry> = ids.iter().map(|id| (MD5, &id[..], &b"pw"[..])).collect();
     for n in 0..=9 {
         let lent = listed(&entries[..n]);
         assert_eq!((laid_out(&lent).is_some(), accounts(&lent).len()), (n <= 8, n % 9));
         for (i, (_, id, _)) in entries.iter().enumerate() {
-            let number = login(&mut stranger(&entries[..n]), &text_body(id, b"pw"));
+            let number = by_md5(&mut challenged(&entries[..n], 3), id, b"pw", 3);
             assert_eq!(number, if i < n && n <= 8 { 0 } else { 4 }, "{i} of {n}");
         }
     }
 }
 
-/// One that is not laid out so has no entries: whoever logs in gets 4, and nothing else changes.
-#[test]
-fn accounts_that_are_not_laid_out_so() {
-    let entries: [Entry; 2] = [(TEXT, b"t", b"one"), (MD5, b"m", b"three")];
-    let right = listed(&entries);
+/// The accounts of t, by text, and of m, by MD5; and buffers that are not laid out as they should be.
+fn right_and_wrong() -> (Vec<u8>, Vec<Vec<u8>>) {
+    let right = listed(&[(TEXT, b"t", b"one"), (MD5, b"m", b"three")]);
     let but = |at: usize, x: u8| {
         let mut lent = right.clone();
         lent[at] = x;
@@ -275,25 +312,75 @@ fn accounts_that_are_not_laid_out_so() {
         [&right[..], &[0; 4]].concat(),
     ];
     all.extend((0..right.len()).map(|n| right[..n].to_vec()));
-    for lent in all {
-        let mut d = challenged(&entries, 4);
+    (right, all)
+}
+
+/// One that is not laid out so has no entries: whoever logs in by MD5 gets 4, and nothing else changes.
+#[test]
+fn accounts_that_are_not_laid_out_so() {
+    let (right, wrong) = right_and_wrong();
+    for lent in wrong {
+        let mut d = challenged(&[], 4);
         d.accounts = lent.clone();
-        let numbers = (login(&mut d, &text_body(b"t", b"one")), by_md5(&mut d, b"m", b"three", 4));
-        assert_eq!((laid_out(&lent), numbers), (None, (4, 4)), "{lent:x?}");
+        assert_eq!((laid_out(&lent), by_md5(&mut d, b"m", b"three", 4)), (None, 4), "{lent:x?}");
         // The accounts are judged with each call.
         d.accounts = right.clone();
-        assert_eq!((by_md5(&mut d, b"m", b"three", 4), login(&mut d, &text_body(b"t", b"one"))), (0, 0));
+        assert_eq!(by_md5(&mut d, b"m", b"three", 4), 0);
     }
 }
 
+/// "Auth type 1 ... leaves the server info list."
 #[test]
-fn server_info_lists_both() {
-    let mut d = stranger(&[(TEXT, b"", b"")]);
-    assert_eq!(d.ask(0x108, &[]), (0, vec![0, 0, 0, 0, 2, 1, 2]));
-    login(&mut d, &text_body(b"", b""));
+fn server_info_lists_md5_alone() {
+    let mut d = challenged(&[(MD5, b"", b"pw")], 1);
+    assert_eq!(d.ask(0x108, &[]), (0, vec![0, 0, 0, 0, 1, 2]));
+    by_md5(&mut d, b"", b"pw", 1);
     let sent = d.send(0x108, &[]);
     let texts = b"\0\0\0\x05vault\0\0\0\0\0\0\x04tape\0\0\0\x011\0\0\0".to_vec();
-    assert_eq!(sent[28..], [bytes(&[0]), texts, bytes(&[2, 1, 2])].concat());
+    assert_eq!(sent[28..], [bytes(&[0]), texts, bytes(&[1, 2])].concat());
+}
+
+/// Code and text of a listing.
+fn told(accounts: &[u8], room: usize) -> (u32, String) {
+    let given = listing(accounts, room);
+    assert_eq!(given.count, 0);
+    (given.code, String::from_utf8(given.sent).unwrap())
+}
+
+/// "a line for each entry: number from 0, a blank, `md5` or `withdrawn`"; "1001 under 96 bytes", which is what eight lines of
+/// the longer word have.
+#[test]
+fn listings() {
+    let entries: [Entry; 8] = [
+        (TEXT, b"t", b"one"),
+        (MD5, b"m", b"two"),
+        // These never match.
+        (MD5, b"e", b""),
+        (MD5, b"l", &[b'p'; 33]),
+        (TEXT, b"", b""),
+        (TEXT, b"md5", b"md5"),
+        (MD5, b"withdrawn", b"withdrawn"),
+        (TEXT, b"t", b"one"),
+    ];
+    let all = "0 withdrawn\n1 md5\n2 md5\n3 md5\n4 withdrawn\n5 withdrawn\n6 md5\n7 withdrawn\n";
+    for n in 0..=8 {
+        let first: String = all.lines().take(n).map(|line| format!("{line}\n")).collect();
+        for room in [96, 97, 200] {
+            assert_eq!(told(&listed(&entries[..n]), room), (0, first.clone()));
+        }
+        for room in [0, 1, 7, 95] {
+            assert_eq!(told(&listed(&entries[..n]), room), (1001, "".into()));
+        }
+    }
+    let most: Vec<Entry> = vec![(TEXT, b"t", b"one"); 8];
+    let longest =
+        "0 withdrawn\n1 withdrawn\n2 withdrawn\n3 withdrawn\n4 withdrawn\n5 withdrawn\n6 withdrawn\n7 withdrawn\n";
+    assert_eq!((longest.len(), told(&listed(&most), 96)), (96, (0, longest.into())));
+    // A ninth entry, and all else that is not laid out so: no lines.
+    let nine: Vec<Entry> = vec![(MD5, b"m", b"two"); 9];
+    for wrong in right_and_wrong().1.into_iter().chain([listed(&nine)]) {
+        assert_eq!((told(&wrong, 96), told(&wrong, 95)), ((0, "".into()), (1001, "".into())), "{wrong:x?}");
+    }
 }
 
 /// What is closed, ignored or badly framed gives no challenge.

@@ -1,6 +1,6 @@
 //! The requests and their bodies (004, Appendix C).
 
-use super::accounts::{MD5, TEXT};
+use super::accounts::MD5;
 use super::state::{LOCAL, TCP};
 use super::xdr::Reader;
 
@@ -17,15 +17,11 @@ pub enum Address {
 /// 004's ndmp_auth_data.
 #[derive(Debug, PartialEq)]
 pub enum Auth<'a> {
-    Text {
-        id: &'a [u8],
-        password: &'a [u8],
-    },
     Md5 {
         id: &'a [u8],
         digest: &'a [u8],
     },
-    /// A type other than these; the rest is not read.
+    /// A type other than that; the rest is not read.
     Other,
 }
 
@@ -86,7 +82,6 @@ pub fn decode(message: u32, body: &[u8]) -> Option<Request<'_>> {
         0x900 => Request::ConnectOpen { version: r.word()? },
         0x901 => {
             let auth = match auth_type(&mut r)? {
-                TEXT => Auth::Text { id: r.opaque()?, password: r.opaque()? },
                 // opaque auth_digest[16]: no length before it
                 MD5 => Auth::Md5 { id: r.opaque()?, digest: r.take(16)? },
                 _ => Auth::Other,
@@ -176,10 +171,10 @@ fn environment<'a>(r: &mut Reader<'a>) -> Option<Vec<Pair<'a>>> {
 }
 
 /// 01: "Bytes left over make error 18, except after ... an auth type other than 1: there the rest is not read." 02 No. 2: "9
-/// for a type other than 1 and 2, its rest unread".
+/// for a type other than 1 and 2, its rest unread". No. 10: "9 for type 1, at 0x103 too, its rest unread".
 fn auth_type(r: &mut Reader) -> Option<u32> {
     let kind = r.word()?;
-    if !matches!(kind, TEXT | MD5) {
+    if kind != MD5 {
         r.skip();
     }
     Some(kind)

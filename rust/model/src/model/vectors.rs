@@ -26,7 +26,6 @@ fn part(body: &[u8], part: &[u8]) -> String {
 
 fn auth(body: &[u8], auth: &Auth) -> String {
     match auth {
-        Auth::Text { id, password } => format!("AUTH id {} password {}", part(body, id), part(body, password)),
         Auth::Md5 { id, digest } => format!("AUTH id {} digest {}", part(body, id), part(body, digest)),
         Auth::Other => "AUTH other".into(),
     }
