@@ -1,0 +1,4 @@
+pub mod Files
+pub mod Thinning
+pub mod Holds
+pub mod Cases
