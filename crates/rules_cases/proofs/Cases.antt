@@ -1,5 +1,7 @@
--- The cases are computed: every definition that they meet unfolds, and both sides are one term. Assumes nothing.
-use mathlib.Core.Path.{refl}
+-- The cases are computed, most of them as `Numbering` of `rules_moves` runs them: every definition that they meet unfolds, and both sides are one term. Assumes
+-- nothing.
+use mathlib.Core.List.{[], _∷_}
+use mathlib.Core.Path.{refl, _∙_}
 use Rattle.xdr.specs.Choose.{choose, allOf, least}
 use Rattle.xdr.specs.Xdr.{be32, be32s, word, be64, hyper, overlay, sameBytes}
 use Rattle.xdr_opaque.specs.Opaque.{allZero, opaqueAt}
@@ -31,12 +33,14 @@ use Rattle.rules_parts.specs.Parts.{windowEnd, pastTop, lengthWrong, toldIn, da
 use Rattle.rules.specs.Relation.{dataWrong, numbersWrong, windowWrong, startWrong, holdWrong, strays, resumeWrong, placeWrong}
 use Rattle.rules.specs.Relation.{originWrong, moverWrong, sameFlag, keeps}
 use Rattle.rules.specs.TapeService.{tape0, tapeOpen, isRefusal, protects, tapeState, tapeMtio, deviceStep, tapeStep, moverPartStep}
-use Rattle.rules_moves.specs.Cases.{wordsBytes, wire, wide, runLine, runCase, keptAfter, notices, expect, streamed}
+use Rattle.rules_moves.specs.Cases.{wordsBytes, wire, wide, runLine, runCase, keptAfter, noVariables, knownSession, begins, notices, expect, streamed}
+use Rattle.rules_moves.specs.FirstSize.{unsized}
+use Rattle.rules_moves.proofs.Numbering.{onNumber, runNumbered, run-numbered, all-numbered}
 use Rattle.rules_moves.specs.Events.{movedToTape, movedFromTape, methodEnded, connectionMade, connectionLost}
-use Rattle.rules_cases.specs.Examples.{ExamplesHold}
-use Rattle.rules_cases.specs.FirstSizeCases.{FirstSizeCasesHold}
-use Rattle.rules_cases.specs.EndlessCases.{EndlessCasesHold}
-use Rattle.rules_cases.specs.EnvironmentCases.{EnvironmentCasesHold}
+use Rattle.rules_cases.specs.Examples.{blank, cases, ExamplesHold}
+use Rattle.rules_cases.specs.FirstSizeCases.{noSizeSet, sizeStays, unsizedLines, FirstSizeCasesHold}
+use Rattle.rules_cases.specs.EndlessCases.{endlessCases, EndlessCasesHold}
+use Rattle.rules_cases.specs.EnvironmentCases.{environmentCases, lentFirst, rubbish, rubbishLines, EnvironmentCasesHold}
 use Rattle.rules_moves.specs.Moves.{idle, streamEnds, scant, windowUsed, filling, toTape, outside, seekFrom, amount, reading, onFound, seeking, fromTape, methodEnd, fedBy, haltsWith, atTcp, madeAt, lostAt}
 
 pub cases-hold : ExamplesHold × FirstSizeCasesHold × EndlessCasesHold × EnvironmentCasesHold
@@ -57,10 +61,20 @@ unfolding
     addressWrong dataPartnered moverPartnered listening unmet isTcp lendable addressWords configBody configStep fedBy haltsWith atTcp madeAt lostAt
     connectionMade connectionLost
     roomOf variablesAfter dataShown hasRun dataEnvironment textIn behind pairsFrom separatorName separator isNamed withSeparator textsOf
-    pairWords pairTexts storeBytes storing textBytes fits emptied laidFrom isLaid keptFrom keptPairs environmentOf keptAfter
+    pairWords pairTexts storeBytes storing textBytes fits emptied laidFrom isLaid keptFrom keptPairs environmentOf keptAfter onNumber runNumbered
 cases-hold = (
-  refl,
-  record { fresh = refl; handed-in = refl },
-  record { cases = refl; legal = (refl, refl); record-more = refl; empty-part = refl; short-part = refl; stream-over = refl },
-  record { cases = refl; before-auth = refl; lent-rubbish = refl; lent-a-pair = refl; kept = refl; emptied = refl },
+  all-numbered cases ∙ refl,
+  record {
+    fresh = all-numbered (noSizeSet ∷ sizeStays ∷ []) ∙ refl;
+    handed-in = run-numbered (begins (unsized knownSession) blank noVariables []) unsizedLines ∙ refl;
+  },
+  record { cases = all-numbered endlessCases ∙ refl; legal = (refl, refl); record-more = refl; empty-part = refl; short-part = refl; stream-over = refl },
+  record {
+    cases = all-numbered environmentCases ∙ refl;
+    before-auth = refl;
+    lent-rubbish = run-numbered (lentFirst rubbish) rubbishLines ∙ refl;
+    lent-a-pair = refl;
+    kept = refl;
+    emptied = refl;
+  },
 )

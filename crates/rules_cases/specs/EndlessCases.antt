@@ -24,10 +24,10 @@ abbrev pub told : ℕ → ℕ → ℕ → List CaseLine
 told size offset length = windowLine offset length 0 ∷ moverIs noMode moverIdleWords (counts size 0 0) (reads 0 0) (windowWords offset length) ∷ []
 
 -- "whatever the record size; the offset must still be a multiple"; "Get state gives the length as sent"; the last offset is f's, which is
--- refused with the length 1024; a void window is 0, 0. The tape is open only so that antt computes this faster
+-- refused with the length 1024; a void window is 0, 0
 abbrev pub asked : List CaseLine
 asked =
-    openTape 1 ∷ told 1024 0 ones
+    told 1024 0 ones
     ++ (windowLine 512 ones 9 ∷ windowLine 1 ones 9 ∷ windowLine ones ones 9 ∷ told 1024 18446744073709550592 ones
     ++ (sizeLine 1024 ∷ moverIs noMode moverIdleWords (counts 1024 0 0) (reads 0 0) (windowWords 0 0) ∷ []))
 

@@ -100,14 +100,13 @@ lentFirst variables = begins knownSession blank variables []
 abbrev pub storeAfter : World → List CaseLine → List ℕ
 storeAfter w lines = keptAfter w lines .variables
 
--- rubbish: 7 in HALTED, 19 before it; a data stop makes the count 0 with no look at the layout. The tape is open only so that
--- antt computes this faster
+-- rubbish: 7 in HALTED, 19 before it; a data stop makes the count 0 with no look at the layout
 abbrev pub rubbish : List ℕ
 rubbish = replicate storeLength 7
 
 abbrev pub rubbishLines : List CaseLine
 rubbishLines =
-    openTape 0 ∷ unanswered 19 ∷ listenData ∷ unanswered 19 ∷ abortData ∷ unanswered 7 ∷ stopData ∷ listenData ∷ abortData ∷ environmentIs 1 (separatorWords slash) ∷ []
+    unanswered 19 ∷ listenData ∷ unanswered 19 ∷ abortData ∷ unanswered 7 ∷ stopData ∷ listenData ∷ abortData ∷ environmentIs 1 (separatorWords slash) ∷ []
 
 -- a pair that lies there: HALTED without a start gives it
 abbrev pub oneKept : List ℕ

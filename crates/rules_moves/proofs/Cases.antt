@@ -1,5 +1,6 @@
--- The cases are computed: every definition that they meet unfolds, and both sides are one term. Assumes nothing.
-use mathlib.Core.Path.{refl}
+-- The cases are computed, as `Numbering` runs them: every definition that they meet unfolds, and both sides are one term. Assumes nothing.
+use mathlib.Core.List.{[], _∷_}
+use mathlib.Core.Path.{refl, _∙_}
 use Rattle.xdr.specs.Choose.{choose, allOf, least}
 use Rattle.xdr.specs.Xdr.{be32, be32s, word, be64, hyper, overlay, sameBytes}
 use Rattle.xdr_opaque.specs.Opaque.{allZero, opaqueAt}
@@ -30,10 +31,11 @@ use Rattle.rules_parts.specs.Parts.{windowEnd, pastTop, lengthWrong, toldIn, da
 use Rattle.rules.specs.Relation.{dataWrong, numbersWrong, windowWrong, startWrong, holdWrong, strays, resumeWrong, placeWrong}
 use Rattle.rules.specs.Relation.{originWrong, moverWrong, sameFlag, keeps}
 use Rattle.rules.specs.TapeService.{tape0, tapeOpen, isRefusal, protects, tapeState, tapeMtio, deviceStep, tapeStep, moverPartStep}
-use Rattle.rules_moves.specs.Cases.{wordsBytes, wire, wide, runLine, runCase, notices, expect, streamed}
+use Rattle.rules_moves.specs.Cases.{wordsBytes, wire, wide, runLine, notices, expect, streamed}
 use Rattle.rules_moves.specs.Events.{movedToTape, movedFromTape, methodEnded, connectionMade, connectionLost}
-use Rattle.rules_moves.specs.RecoverCases.{RecoverCasesHold}
-use Rattle.rules_moves.specs.TcpCases.{TcpCasesHold}
+use Rattle.rules_moves.specs.RecoverCases.{recoverCases, RecoverCasesHold}
+use Rattle.rules_moves.specs.TcpCases.{comesByTcp, twoStrangers, goesByTcp, TcpCasesHold}
+use Rattle.rules_moves.proofs.Numbering.{onNumber, runNumbered, all-numbered}
 use Rattle.rules_moves.specs.Moves.{idle, streamEnds, scant, windowUsed, filling, toTape, outside, seekFrom, amount, reading, onFound, seeking, fromTape, methodEnd, fedBy, haltsWith, atTcp, madeAt, lostAt}
 
 pub cases-hold : RecoverCasesHold × TcpCasesHold
@@ -49,10 +51,10 @@ unfolding
     busy elsewhere setWindow moverRead setSize moverStep windowEnd pastTop lengthWrong toldIn dataJoined moverJoined holdsTape unwritable dataWrong
     numbersWrong windowWrong startWrong holdWrong strays resumeWrong placeWrong originWrong moverWrong sameFlag keeps tape0
     tapeOpen isRefusal protects tapeState tapeMtio deviceStep tapeStep moverPartStep movedToTape movedFromTape methodEnded wordsBytes
-    wire wide runLine runCase notices expect streamed idle streamEnds scant windowUsed filling toTape outside seekFrom amount reading onFound
+    wire wide runLine onNumber runNumbered notices expect streamed idle streamEnds scant windowUsed filling toTape outside seekFrom amount reading onFound
     seeking fromTape methodEnd moverConnect atRest moverAborted moverAbort moverClosed dataAwaits moverAwaits dataListen
     addressWrong dataPartnered moverPartnered listening unmet isTcp lendable addressWords configBody configStep fedBy haltsWith atTcp madeAt lostAt
     connectionMade connectionLost
     roomOf variablesAfter dataShown hasRun dataEnvironment textIn behind pairsFrom separatorName separator isNamed withSeparator textsOf
     pairWords pairTexts storeBytes storing textBytes fits emptied laidFrom isLaid keptFrom keptPairs environmentOf
-cases-hold = (refl, refl)
+cases-hold = (all-numbered recoverCases ∙ refl, all-numbered (comesByTcp ∷ twoStrangers ∷ goesByTcp ∷ []) ∙ refl)
