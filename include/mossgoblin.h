@@ -70,10 +70,12 @@ struct mossgoblin_tape {
     size_t position;
 };
 
-/* The changer; pending is whether a sense is pending. */
+/* The changer; key, code and qualifier are the pending sense, and are 0 where none is. */
 struct mossgoblin_changer {
     bool opened;
-    bool pending;
+    uint8_t key;
+    uint8_t code;
+    uint8_t qualifier;
 };
 
 /* The bytes of a challenge. */

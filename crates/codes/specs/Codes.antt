@@ -84,6 +84,19 @@ writeMarks = 5
 abbrev pub offLine : ℕ
 offLine = 6
 
+-- ---- opcodes of the changer's CDBs: TEST UNIT READY, REQUEST SENSE, MOVE MEDIUM, READ ELEMENT STATUS
+abbrev pub testReady : ℕ
+testReady = 0x00
+
+abbrev pub requestSense : ℕ
+requestSense = 0x03
+
+abbrev pub moveMediumCode : ℕ
+moveMediumCode = 0xA5
+
+abbrev pub elementStatusCode : ℕ
+elementStatusCode = 0xB8
+
 -- ---- limits
 -- "Length, without the mark, 24 to 36,864"
 abbrev pub largestMessage : ℕ
@@ -96,6 +109,10 @@ longestRecord = 32768
 -- the pending sense has 18 bytes
 abbrev pub senseBytes : ℕ
 senseBytes = 18
+
+-- the status of all elements: a header, three pages and ten descriptors of 12 bytes
+abbrev pub mostStatus : ℕ
+mostStatus = 152
 
 -- "At most 64 environment pairs and 64 names in a start request"
 abbrev pub mostListed : ℕ
@@ -170,6 +187,7 @@ pub record AsWritten : Type 0 where
   pub errors-are : errors ≡ 1 ∷ 3 ∷ 4 ∷ 5 ∷ 6 ∷ 7 ∷ 9 ∷ 12 ∷ 13 ∷ 15 ∷ 16 ∷ 18 ∷ 19 ∷ 22 ∷ 23 ∷ 25 ∷ 26 ∷ []
   pub calls-are : shortOutput ∷ brokenSession ∷ [] ≡ 1001 ∷ 1002 ∷ []
   pub operations-are : mtioOperations ≡ 0 ∷ 1 ∷ 2 ∷ 3 ∷ 4 ∷ 5 ∷ 6 ∷ []
+  pub opcodes-are : testReady ∷ requestSense ∷ moveMediumCode ∷ elementStatusCode ∷ mostStatus ∷ [] ≡ 0 ∷ 3 ∷ 165 ∷ 184 ∷ 152 ∷ []
   pub limits-are : largestMessage ∷ longestRecord ∷ senseBytes ∷ mostListed ∷ mostAddresses ∷ mostPort ∷ mostLent ∷ storeLength ∷ [] ≡ 36864 ∷ 32768 ∷ 18 ∷ 64 ∷ 16 ∷ 65535 ∷ 16384 ∷ 16384 ∷ []
   pub logins-are : mostAccounts ∷ longestPassword ∷ challengeLength ∷ digestLength ∷ [] ≡ 8 ∷ 32 ∷ 64 ∷ 16 ∷ []
   pub client-are : localAddress ∷ tcpAddress ∷ textAuth ∷ md5Auth ∷ versionFour ∷ [] ≡ 0 ∷ 1 ∷ 1 ∷ 2 ∷ 4 ∷ []

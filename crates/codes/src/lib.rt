@@ -56,6 +56,18 @@ pub const WRITE_MARKS: u32 = 5;
 
 pub const OFF_LINE: u32 = 6;
 
+// The opcodes of the changer's CDBs.
+pub const TEST_READY: u32 = 0x00;
+
+pub const REQUEST_SENSE: u32 = 0x03;
+
+pub const MOVE_MEDIUM: u32 = 0xA5;
+
+pub const ELEMENT_STATUS: u32 = 0xB8;
+
+// The most bytes of a status of elements.
+pub const MOST_STATUS: usize = 152;
+
 // The most bytes of a message, without its mark, and the least room that an output must have.
 pub const LARGEST_MESSAGE: usize = 36864;
 

@@ -48,7 +48,7 @@ use Rattle.rules.specs.Judge.{test, refuse, accept, judge, Accepts, Refu
 use Rattle.rules.specs.DataService.{dataState, dataListen, dataStart, dataEnvironment, dataStop, dataStep}
 use Rattle.rules.specs.MoverService.{moverState, moverListen, moverContinue, moverStop, setWindow, moverRead, setSize, moverStep}
 use Rattle.rules.specs.TapeService.{Loaded, isRefusal, tapeOpen, tapeClose, tapeState, tapeMtio, tapeWrite, tapeRead, deviceStep, withLoaded, withMover, tapeStep, moverPartStep}
-use Rattle.rules.specs.ScsiService.{scsiOpen, scsiClear, scsiState, runCdb, scsiCdb, scsiStep}
+use Rattle.rules.specs.ScsiService.{scsiOpen, scsiClear, scsiState, checks, runCdb, scsiCdb, scsiStep}
 use Rattle.rules.specs.Addresses.{listening}
 use Rattle.rules.specs.Joint.{dataConnect, moverConnect, dataAbort, moverAbort, moverClose, jointStep}
 use Rattle.rules.specs.Connection.{connectOpen, clientAuth, connectStep, authAttributes, configStep}
@@ -92,7 +92,7 @@ joint-zero d m t JointRequest.MoverClose made = accepts Zero _ _ _ (λ _. refl)
 joint-zero d m t (JointRequest.MoverConnect mode address count) made = accepts Zero _ _ _ (λ _. refl)
 
 run-zero : (c : Changer) (cdb : List ℕ) (room : ℕ) → Accepts Zero (runCdb c cdb room)
-unfolding runCdb numberOf Accepts
+unfolding runCdb checks numberOf Accepts
 run-zero c cdb room =
     by-test (Accepts Zero) (eqb (getD cdb 0 0) 0) _ _ (λ _. refl) (λ _. by-test (Accepts Zero) (eqb (getD cdb 0 0) 3) _ _ (λ _. refl) (λ _. refl))
 
@@ -183,7 +183,7 @@ joint-refuses d m t JointRequest.MoverClose made = accepts-all isNumber _ _ _ re
 joint-refuses d m t (JointRequest.MoverConnect mode address count) made = accepts-all isNumber _ _ _ refl
 
 run-refuses : (c : Changer) (cdb : List ℕ) (room : ℕ) → Refuses Refusal (runCdb c cdb room)
-unfolding runCdb Refuses
+unfolding runCdb checks Refuses
 run-refuses c cdb room =
     by-test (Refuses Refusal) (eqb (getD cdb 0 0) 0) _ _ (λ _. tt) (λ _. by-test (Refuses Refusal) (eqb (getD cdb 0 0) 3) _ _ (λ _. tt) (λ _. tt))
 

@@ -39,7 +39,7 @@ use Rattle.rules.specs.Judge.{Outcome, Accepts}
 use Rattle.rules.specs.DataService.{hasRun, dataState, dataListen, dataStart, dataEnvironment, dataStop, dataStep, dataShown}
 use Rattle.rules.specs.MoverService.{moverState, moverListen, moverContinue, moverStop, setWindow, moverRead, setSize, moverStep}
 use Rattle.rules.specs.TapeService.{Loaded, tapeOpen, tapeClose, tapeState, tapeMtio, tapeWrite, tapeRead, deviceStep}
-use Rattle.rules.specs.ScsiService.{scsiOpen, scsiClear, scsiState, senseLength, runCdb, scsiCdb, scsiStep}
+use Rattle.rules.specs.ScsiService.{scsiOpen, scsiClear, scsiState, senseLength, checks, runCdb, scsiCdb, scsiStep}
 use Rattle.rules.specs.Addresses.{listenWrong, listening}
 use Rattle.rules.specs.Joint.{dataConnect, moverConnect, dataAbort, moverAbort, moverClose, jointStep}
 use Rattle.rules.specs.Connection.{connectOpen, clientAuth, connectStep, authAttributes, configStep}
@@ -89,7 +89,7 @@ joint-sends d m t JointRequest.MoverClose made = accepts Sends _ _ _ (λ _. tt)
 joint-sends d m t (JointRequest.MoverConnect mode address count) made = accepts Sends _ _ _ (λ _. tt)
 
 run-sends : (c : Changer) (cdb : List ℕ) (room : ℕ) → Accepts Sends (runCdb c cdb room)
-unfolding runCdb Sendable Accepts
+unfolding runCdb checks Sendable Accepts
 run-sends c cdb room =
     by-test (Accepts Sends) (eqb (getD cdb 0 0) 0) _ _ (λ _. tt)
     (λ _. by-test (Accepts Sends) (eqb (getD cdb 0 0) 3) _ _ (λ _. sense-length cdb room) (λ _. tt))

@@ -166,7 +166,7 @@ knownSession =
       source = record { state = 0; operation = 0; reason = 0; address = 0; processed = 0 };
       mover = record { state = 0; mode = 2; pause = 0; halt = 0; size = 10240; address = 0; offset = 0; length = 0; moved = 0; seek = 0; left = 0; origin = 0 };
       tape = record { opened = false; writable = false; position = 0 };
-      changer = record { opened = false; pending = false };
+      changer = record { opened = false; key = 0; code = 0; qualifier = 0 };
     }
 
 -- a session, and what is handed in with it: a cartridge, a store and a stream

@@ -26,8 +26,12 @@ restMover size =
 abbrev pub closedTape : Tape
 closedTape = record { opened = false; writable = false; position = 0 }
 
+-- a changer with no sense pending
+abbrev pub clearChanger : Bool → Changer
+clearChanger opened = record { opened = opened; key = 0; code = 0; qualifier = 0 }
+
 abbrev pub closedChanger : Changer
-closedChanger = record { opened = false; pending = false }
+closedChanger = clearChanger false
 
 -- nobody has logged in, and no challenge was given
 abbrev pub noLogin : Login
@@ -58,6 +62,11 @@ loggedIn g = record { authorized = true; challenged = g .challenged; challenge =
 -- "The newest challenge is the one judged."
 abbrev pub challengedBy : List ℕ → Login → Login
 challengedBy challenge g = record { authorized = g .authorized; challenged = true; challenge = challenge }
+
+-- ---- changes of the changer
+-- a sense becomes pending
+abbrev pub changerRefused : ℕ → ℕ → ℕ → Changer → Changer
+changerRefused key code qualifier c = record { opened = c .opened; key = key; code = code; qualifier = qualifier }
 
 -- ---- changes of the data end
 -- it listens or is joined, by an address of a type

@@ -2,7 +2,7 @@
 // that takes the part and hands back the next. Below the definitions of requests, so that an edit of those does not prove this code again.
 ghost use mathlib.Core.Path.{_≡_};
 ghost use Prim.Native.Nat.{_+_, _≤_};
-ghost use Rattle.rules_parts.specs.Parts.{loggedIn, challengedBy, restData, dataTo, dataStarts, dataHalts, restMover, moverListens, moverRuns, moverPauses, moverHalts, moverWindow, moverSize, moverSeeks, dataFed, moverRecords, moverHands, newSession, withParts, afterMessage, shut, windowEnd, pastTop, lengthWrong, toldIn, dataJoined, moverJoined, dataPartnered, moverPartnered, addressWrong, holdsTape, unwritable};
+ghost use Rattle.rules_parts.specs.Parts.{clearChanger, changerRefused, loggedIn, challengedBy, restData, dataTo, dataStarts, dataHalts, restMover, moverListens, moverRuns, moverPauses, moverHalts, moverWindow, moverSize, moverSeeks, dataFed, moverRecords, moverHands, newSession, withParts, afterMessage, shut, windowEnd, pastTop, lengthWrong, toldIn, dataJoined, moverJoined, dataPartnered, moverPartnered, addressWrong, holdsTape, unwritable};
 ghost use Rattle.rules_parts.specs.Names.{NamesAre, top};
 ghost use Rattle.rules_parts.specs.Holding.{PartsHold};
 
@@ -501,6 +501,32 @@ impl Login {
     }
 }
 
+impl Changer {
+    // With no sense pending, open or closed.
+    pub fn cleared(opened: bool) -> Changer
+        ensures { λ r. ⌜ r ≡ clearChanger opened ⌝ }
+    {
+        Changer {
+            opened,
+            key: 0,
+            code: 0,
+            qualifier: 0,
+        }
+    }
+
+    // With a sense pending.
+    pub fn refused(self, key: u8, code: u8, qualifier: u8) -> Changer
+        ensures { λ r. ⌜ r ≡ changerRefused key code qualifier self ⌝ }
+    {
+        Changer {
+            opened: self.opened,
+            key,
+            code,
+            qualifier,
+        }
+    }
+}
+
 impl Session {
     // A session with nothing in it yet but the first record size.
     pub fn begins(closed: bool, sequence: u32) -> Session
@@ -524,7 +550,9 @@ impl Session {
             },
             changer: Changer {
                 opened: false,
-                pending: false,
+                key: 0,
+                code: 0,
+                qualifier: 0,
             },
         }
     }

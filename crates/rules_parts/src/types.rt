@@ -37,11 +37,13 @@ pub struct Tape {
     pub position: usize,
 }
 
-// The changer device; pending is whether a sense is pending.
+// The changer device. Key, code and qualifier are the pending sense, and are 0 where none is.
 #[repr(C)]
 pub struct Changer {
     pub opened: bool,
-    pub pending: bool,
+    pub key: u8,
+    pub code: u8,
+    pub qualifier: u8,
 }
 
 // What the connection knows of its client: whether it has logged in; and the newest challenge that it was given, if one was.

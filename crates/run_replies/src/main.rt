@@ -72,31 +72,63 @@ fn scsi() {
     refuse(b"scsi_state_refused", 12, 1012, 0x202, 512, 0, 6, 3);
     send(b"cdb", 13, 1013, 0x206, 513, Reply::Cdb, b"");
     refuse(b"cdb_refused", 14, 1014, 0x206, 514, 0, 9, 4);
-    send(b"check", 15, 1015, 0x206, 515, Reply::Check, b"");
+    send(
+        b"check",
+        15,
+        1015,
+        0x206,
+        515,
+        Reply::Check(5, 0x20, 0),
+        b"",
+    );
 }
 
 fn sense() {
-    send(b"sense", 16, 1016, 0x206, 516, Reply::Sense(18, true), b"");
+    send(
+        b"sense",
+        16,
+        1016,
+        0x206,
+        516,
+        Reply::Sense(18, 5, 0x20, 0),
+        b"",
+    );
     send(
         b"sense_none",
         17,
         1017,
         0x206,
         517,
-        Reply::Sense(18, false),
+        Reply::Sense(18, 0, 0, 0),
         b"",
     );
-    send(b"sense_4", 18, 1018, 0x206, 518, Reply::Sense(4, true), b"");
+    send(
+        b"sense_4",
+        18,
+        1018,
+        0x206,
+        518,
+        Reply::Sense(4, 5, 0x20, 0),
+        b"",
+    );
     send(
         b"sense_13",
         19,
         1019,
         0x206,
         519,
-        Reply::Sense(13, true),
+        Reply::Sense(13, 5, 0x20, 0),
         b"",
     );
-    send(b"sense_0", 20, 1020, 0x206, 520, Reply::Sense(0, true), b"");
+    send(
+        b"sense_0",
+        20,
+        1020,
+        0x206,
+        520,
+        Reply::Sense(0, 5, 0x20, 0),
+        b"",
+    );
 }
 
 fn tape() {

@@ -3,8 +3,9 @@ ghost use mathlib.Core.Path.{_≡_};
 ghost use Rattle.xdr.specs.Xdr.{sameBytes};
 ghost use Rattle.wire_requests.specs.Within.{bytesAt, Within, textsWithin};
 ghost use Rattle.wire_requests.specs.declared.Request.the-variants as Request;
-ghost use Rattle.rules.specs.ScsiService.{changer0, withSense, scsiOpen, scsiClear, scsiState, senseLength, scsiCdb, scsiStep};
+ghost use Rattle.rules.specs.ScsiService.{changer0, checks, scsiOpen, scsiClear, scsiState, senseLength, scsiCdb, scsiStep};
 ghost use Rattle.serve_changer.specs.Done.{outcomeOf};
+use changer_elements::Sense;
 use rules_parts::types::Changer;
 use wire_layouts::Text;
 use wire_replies::Reply;
@@ -28,11 +29,7 @@ fn open_changer(c: Changer, named: bool) -> ScsiDone
     if c.opened {
         return ScsiDone::Refuse(codes::DEVICE_OPENED);
     }
-    let next = Changer {
-        opened: true,
-        pending: false,
-    };
-    ScsiDone::Accept(Reply::Plain, next)
+    ScsiDone::Accept(Reply::Plain, Changer::cleared(true))
 }
 
 // Clears the pending sense: close, and reset, which leaves the changer open.
@@ -42,11 +39,7 @@ fn clear(c: Changer, opened: bool) -> ScsiDone
     if !c.opened {
         return ScsiDone::Refuse(codes::NOT_OPEN);
     }
-    let next = Changer {
-        opened,
-        pending: false,
-    };
-    ScsiDone::Accept(Reply::Plain, next)
+    ScsiDone::Accept(Reply::Plain, Changer::cleared(opened))
 }
 
 fn get_state(c: Changer) -> ScsiDone
@@ -67,13 +60,12 @@ fn sense_length(cdb: &[u8], room: u32) -> u32
     xdr::lesser(cut, codes::SENSE_BYTES)
 }
 
-fn with_sense(c: Changer, pending: bool) -> Changer
-    ensures { λ r. ⌜ r ≡ withSense c pending ⌝ }
+// Status 2, and a sense that becomes pending.
+fn check(c: Changer, sense: Sense) -> ScsiDone
+    ensures { λ r. ⌜ outcomeOf r ≡ checks c sense ⌝ }
 {
-    Changer {
-        opened: c.opened,
-        pending,
-    }
+    let next = c.refused(sense.key, sense.code, sense.qualifier);
+    ScsiDone::Accept(Reply::Check(sense.key, sense.code, sense.qualifier), next)
 }
 
 fn execute_cdb(c: Changer, cdb: &[u8], room: u32) -> ScsiDone
@@ -89,16 +81,15 @@ fn execute_cdb(c: Changer, cdb: &[u8], room: u32) -> ScsiDone
         return ScsiDone::Refuse(codes::ILLEGAL_ARGUMENTS);
     }
     let op = xdr::byte_at(cdb, 0);
-    if op == 0 {
+    if op == codes::TEST_READY {
         return ScsiDone::Accept(Reply::Cdb, c);
     }
-    if op == 3 {
+    if op == codes::REQUEST_SENSE {
         let n = sense_length(cdb, room);
-        let next = with_sense(c, false);
-        return ScsiDone::Accept(Reply::Sense(n, c.pending), next);
+        let next = c.refused(0, 0, 0);
+        return ScsiDone::Accept(Reply::Sense(n, c.key, c.code, c.qualifier), next);
     }
-    let next = with_sense(c, true);
-    ScsiDone::Accept(Reply::Check, next)
+    check(c, changer_moves::illegal(0x20, 0))
 }
 
 // Whether the device of an open request is `changer0`.

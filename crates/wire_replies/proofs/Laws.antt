@@ -20,7 +20,7 @@ use Rattle.wire_frame.specs.Messages.{look, rowOf}
 use Rattle.wire_frame.proofs.Laws.{length-record}
 use Rattle.wire_replies.specs.declared.Reply.{Reply}
 use Rattle.wire_replies.specs.declared.Reply.the-variants.{Header, Refused, Plain, Listening, ListeningTcp, ConnectionTypes, Challenge, ServerInfo, ScsiState}
-use Rattle.wire_replies.specs.declared.Reply.the-variants.{Cdb, Sense, Check, TapeState, Mtio, Wrote, Read, DataState, Environment, MoverState}
+use Rattle.wire_replies.specs.declared.Reply.the-variants.{Cdb, Sense, Check, Elements, TapeState, Mtio, Wrote, Read, DataState, Environment, MoverState}
 use Rattle.wire_replies.specs.declared.Notice.{Notice}
 use Rattle.wire_replies.specs.declared.Notice.the-variants.{DataHalted, Connected, MoverHalted, MoverPaused}
 use Rattle.wire_replies.specs.Replies.{Body, opaques, bodyBytes, wordsOnly, sense, serverTexts, addressWords, shapeOf, isShowing, replyBytes, noticeWords, noticeBytes}
@@ -28,13 +28,14 @@ use Rattle.wire_replies.specs.Fit.{Sendable, AnswersFit, EnvironmentFits
 use Rattle.wire_replies.specs.Refusals.{RefusalsAsLong}
 use Rattle.wire_replies.specs.Addresses.{AddressReplies, small}
 use Rattle.wire_replies.specs.AuthReplies.{AuthReplies}
+use Rattle.wire_replies.specs.ScsiReplies.{ScsiReplies}
 use Rattle.wire_replies.specs.EnvironmentReplies.{EnvironmentReplies}
 
-pub length-sense : (pending : Bool) → length (sense pending) ≡ 18
+pub length-sense : (key code qualifier : ℕ) → length (sense key code qualifier) ≡ 18
 unfolding sense
-length-sense pending = refl
+length-sense key code qualifier = refl
 
--- ---- only a read, a listen by TCP, a challenge and an environment show lent bytes
+-- ---- only a read, a listen by TCP, a challenge, an environment and a status of elements show lent bytes
 pub shows-nothing : (r : Reply) (l m : List ℕ) → isShowing r ≡ false → shapeOf r l ≡ shapeOf r m
 unfolding isShowing shapeOf
 shows-nothing (Header e) l m h = refl
@@ -47,8 +48,9 @@ shows-nothing Challenge l m h = let z : _≡_ {A = ℕ} 0 1 = cc in absurd (omeg
 shows-nothing (ServerInfo known) l m h = refl
 shows-nothing ScsiState l m h = refl
 shows-nothing Cdb l m h = refl
-shows-nothing (Sense n pending) l m h = refl
-shows-nothing Check l m h = refl
+shows-nothing (Sense n key code qualifier) l m h = refl
+shows-nothing (Check key code qualifier) l m h = refl
+shows-nothing Elements l m h = let z : _≡_ {A = ℕ} 0 1 = cc in absurd (omega arith)
 shows-nothing (TapeState file block) l m h = refl
 shows-nothing (Mtio e residue) l m h = refl
 shows-nothing (Wrote e count) l m h = refl
@@ -80,7 +82,7 @@ one-text : (ws t : List ℕ) → length ws ≤ 1 → length t ≤ 32768
 unfolding opaques
 one-text ws t h k = simp (length-body, length-append, length-opaque-filled) (omega arith)
 
-two-texts : (ws t u : List ℕ) → length ws ≤ 3 → length t ≤ 18 → length u ≤ 18
+two-texts : (ws t u : List ℕ) → length ws ≤ 3 → length t ≤ 152 → length u ≤ 18
     → length (bodyBytes (record { words = ws; raw = []; texts = t ∷ u ∷ []; tail = [] })) ≤ 32776
 unfolding opaques
 two-texts ws t u h j k = simp (length-body, length-append, length-opaque-filled) (omega arith)
@@ -123,8 +125,9 @@ body-small Challenge image s = lent _ image (omega arith) (omega (arith, s))
 body-small (ServerInfo known) image s = server-small known _ (omega arith)
 body-small ScsiState image s = few _ (omega arith)
 body-small Cdb image s = two-texts _ [] [] (omega arith) (omega arith) (omega arith)
-body-small (Sense n pending) image s = two-texts _ _ [] (omega arith) (simp length-take (omega (arith, s))) (omega arith)
-body-small Check image s = two-texts _ [] _ (omega arith) (omega arith) (omega (arith, length-sense true))
+body-small (Sense n key code qualifier) image s = two-texts _ _ [] (omega arith) (simp length-take (omega (arith, s))) (omega arith)
+body-small (Check key code qualifier) image s = two-texts _ [] _ (omega arith) (omega arith) (omega (arith, length-sense key code qualifier))
+body-small Elements image s = two-texts _ image [] (omega arith) (omega (arith, s)) (omega arith)
 body-small (TapeState file block) image s = few _ (omega arith)
 body-small (Mtio e residue) image s = few _ (omega arith)
 body-small (Wrote e count) image s = few _ (omega arith)
@@ -192,6 +195,21 @@ auth-types =
       refused = refl;
       info = refl;
       stranger = refl;
+    }
+
+-- ---- what execute CDB is answered, byte for byte
+pub scsi-bodies : ScsiReplies
+unfolding shapeOf bodyBytes opaques opaque sense be32s be32
+scsi-bodies =
+    record {
+      nothing = refl;
+      refused = refl;
+      qualified = refl;
+      told = refl;
+      untold = refl;
+      cut = refl;
+      none-of-it = refl;
+      elements = λ a b c d e. refl;
     }
 
 -- ---- what is given of stores, byte for byte

@@ -16,7 +16,7 @@ use Rattle.wire_frame.specs.Frame.{recordBytes}
 use Rattle.wire_frame.specs.Messages.{look, rowOf}
 use Rattle.wire_replies.specs.declared.Reply.{Reply}
 use Rattle.wire_replies.specs.declared.Reply.the-variants.{Header, Refused, Plain, Listening, ListeningTcp, ConnectionTypes, Challenge, ServerInfo, ScsiState, Cdb}
-use Rattle.wire_replies.specs.declared.Reply.the-variants.{Sense, Check, TapeState, Mtio, Wrote, Read, DataState, Environment, MoverState}
+use Rattle.wire_replies.specs.declared.Reply.the-variants.{Sense, Check, Elements, TapeState, Mtio, Wrote, Read, DataState, Environment, MoverState}
 use Rattle.wire_replies.specs.Replies.{bodyBytes, opaques, shapeOf, numberOf, headerError, replyBytes}
 use Rattle.wire_replies.specs.Writers.{headerWords}
 use Rattle.wire_replies.specs.Numbers.{placeOf, numberIn, bodyIn, bare, NumbersTold}
@@ -79,8 +79,9 @@ in-body Challenge image f g = f refl (record { there = omega arith; is = refl })
 in-body (ServerInfo known) image f g = f refl (record { there = omega arith; is = refl })
 in-body ScsiState image f g = f refl (record { there = omega arith; is = refl })
 in-body Cdb image f g = f refl (record { there = omega arith; is = refl })
-in-body (Sense n pending) image f g = f refl (record { there = omega arith; is = refl })
-in-body Check image f g = f refl (record { there = omega arith; is = refl })
+in-body (Sense n key code qualifier) image f g = f refl (record { there = omega arith; is = refl })
+in-body (Check key code qualifier) image f g = f refl (record { there = omega arith; is = refl })
+in-body Elements image f g = f refl (record { there = omega arith; is = refl })
 in-body (TapeState file block) image f g = f refl (record { there = omega arith; is = refl })
 in-body (Mtio e residue) image f g = f refl (record { there = omega arith; is = refl })
 in-body (Wrote e count) image f g = f refl (record { there = omega arith; is = refl })

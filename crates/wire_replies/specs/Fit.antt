@@ -4,15 +4,15 @@ use mathlib.Core.Bool.{Bool, true}
 use mathlib.Core.List.{List, [], _∷_, _++_}
 use mathlib.Core.Path.{_≡_}
 use lib.ListN.{length}
-use Rattle.codes.specs.Codes.{largestMessage, longestRecord, senseBytes, mostListed, mostLent, storeLength, challengeLength}
+use Rattle.codes.specs.Codes.{largestMessage, longestRecord, senseBytes, mostStatus, mostListed, mostLent, storeLength, challengeLength}
 use Rattle.wire_pairs.specs.Store.{isLaid, environmentOf}
 use Rattle.wire_replies.specs.declared.Reply.{Reply}
-use Rattle.wire_replies.specs.declared.Reply.the-variants.{Header, Refused, Plain, Listening, ListeningTcp, ConnectionTypes, Challenge, ServerInfo, ScsiState, Cdb, Sense, Check, TapeState, Mtio, Wrote, Read, DataState, Environment, MoverState}
+use Rattle.wire_replies.specs.declared.Reply.the-variants.{Header, Refused, Plain, Listening, ListeningTcp, ConnectionTypes, Challenge, ServerInfo, ScsiState, Cdb, Sense, Check, Elements, TapeState, Mtio, Wrote, Read, DataState, Environment, MoverState}
 use Rattle.wire_replies.specs.declared.Notice.{Notice}
 use Rattle.wire_replies.specs.Replies.{replyBytes, noticeBytes}
 
 -- what a reply copies is there: the bytes of a read lie in the image and are at most 32,768, those of a list of
--- addresses at most 16,384, those of a challenge at most 64, those of the sense at most 18; the pairs lie in a store of
+-- addresses at most 16,384, those of a challenge at most 64, those of the sense at most 18, those of a status at most 152; the pairs lie in a store of
 -- at most 16,384 bytes that is laid out so; and a refusal has at most 17 zero words, as every row of frame's table has
 abbrev pub Sending : Reply → List ℕ → Type 0
 Sending (Header e) image = Unit
@@ -25,8 +25,9 @@ Sending Challenge image = length image ≤ challengeLength
 Sending (ServerInfo known) image = Unit
 Sending ScsiState image = Unit
 Sending Cdb image = Unit
-Sending (Sense n pending) image = n ≤ senseBytes
-Sending Check image = Unit
+Sending (Sense n key code qualifier) image = n ≤ senseBytes
+Sending (Check key code qualifier) image = Unit
+Sending Elements image = length image ≤ mostStatus
 Sending (TapeState file block) image = Unit
 Sending (Mtio e residue) image = Unit
 Sending (Wrote e count) image = Unit

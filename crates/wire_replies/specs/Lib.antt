@@ -7,3 +7,4 @@ pub mod Numbers
 pub mod Addresses
 pub mod EnvironmentReplies
 pub mod AuthReplies
+pub mod ScsiReplies

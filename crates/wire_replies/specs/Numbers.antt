@@ -9,7 +9,7 @@ use Rattle.xdr.specs.Xdr.{word, be32}
 use Rattle.wire_frame.specs.Messages.{rowOf}
 use Rattle.wire_replies.specs.declared.Reply.{Reply}
 use Rattle.wire_replies.specs.declared.Reply.the-variants.{Header, Refused, Plain, Listening, ListeningTcp, ConnectionTypes, Challenge, ServerInfo, ScsiState, Cdb}
-use Rattle.wire_replies.specs.declared.Reply.the-variants.{Sense, Check, TapeState, Mtio, Wrote, Read, DataState, Environment, MoverState}
+use Rattle.wire_replies.specs.declared.Reply.the-variants.{Sense, Check, Elements, TapeState, Mtio, Wrote, Read, DataState, Environment, MoverState}
 use Rattle.wire_replies.specs.Replies.{numberOf, replyBytes}
 use Rattle.wire_replies.specs.Refusals.{Blank, blank, blanks}
 
@@ -25,8 +25,9 @@ placeOf Challenge = 0
 placeOf (ServerInfo known) = 0
 placeOf ScsiState = 0
 placeOf Cdb = 0
-placeOf (Sense n pending) = 0
-placeOf Check = 0
+placeOf (Sense n key code qualifier) = 0
+placeOf (Check key code qualifier) = 0
+placeOf Elements = 0
 placeOf (TapeState file block) = 1
 placeOf (Mtio e residue) = 0
 placeOf (Wrote e count) = 0

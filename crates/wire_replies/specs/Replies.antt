@@ -14,7 +14,7 @@ use Rattle.wire_frame.specs.Frame.{recordBytes}
 use Rattle.wire_replies.specs.declared.DataView.{DataView}
 use Rattle.wire_replies.specs.declared.MoverView.{MoverView}
 use Rattle.wire_replies.specs.declared.Reply.{Reply}
-use Rattle.wire_replies.specs.declared.Reply.the-variants.{Header, Refused, Plain, Listening, ListeningTcp, ConnectionTypes, Challenge, ServerInfo, ScsiState, Cdb, Sense, Check, TapeState, Mtio, Wrote, Read, DataState, Environment, MoverState}
+use Rattle.wire_replies.specs.declared.Reply.the-variants.{Header, Refused, Plain, Listening, ListeningTcp, ConnectionTypes, Challenge, ServerInfo, ScsiState, Cdb, Sense, Check, Elements, TapeState, Mtio, Wrote, Read, DataState, Environment, MoverState}
 use Rattle.wire_replies.specs.declared.Notice.{Notice}
 use Rattle.wire_replies.specs.declared.Notice.the-variants.{DataHalted, Connected, MoverHalted, MoverPaused}
 
@@ -43,10 +43,11 @@ high v = v / 4294967296
 abbrev pub low : ℕ → ℕ
 low v = v % 4294967296
 
--- "the sense 70 00 05 00 00 00 00 0A 00 00 00 00 20 00 00 00 00 00 .. With none pending, bytes 2 and 12 are 0."
-unfoldable pub sense : Bool → List ℕ
-sense pending =
-    0x70 ∷ 0 ∷ choose pending 5 0 ∷ 0 ∷ 0 ∷ 0 ∷ 0 ∷ 0x0A ∷ 0 ∷ 0 ∷ 0 ∷ 0 ∷ choose pending 0x20 0 ∷ 0 ∷ 0 ∷ 0 ∷ 0 ∷ 0 ∷ []
+-- "the sense 70 00 05 00 00 00 00 0A 00 00 00 00 20 00 00 00 00 00 .. With none pending, bytes 2 and 12 are 0.": of a key,
+-- a code and, with 02 No. 7, a qualifier, which are all 0 with none pending
+unfoldable pub sense : ℕ → ℕ → ℕ → List ℕ
+sense key code qualifier =
+    0x70 ∷ 0 ∷ key ∷ 0 ∷ 0 ∷ 0 ∷ 0 ∷ 0x0A ∷ 0 ∷ 0 ∷ 0 ∷ 0 ∷ code ∷ qualifier ∷ 0 ∷ 0 ∷ 0 ∷ 0 ∷ []
 
 -- "Server info gives empty strings before auth, then `vault`, `tape`, `1`"
 unfoldable pub serverTexts : Bool → List (List ℕ)
@@ -60,7 +61,7 @@ addressWords address = choose (eqb address tcpAddress) (tcpAddress ∷ 0 ∷ [])
 
 -- The body of each reply, in 004's order. "other reply fields are zero or empty"; what is not kept is zero. What is
 -- shown of lent bytes lies in `shown`: of a read in the image; of a listen by TCP it is the list, of a challenge its
--- bytes, of an environment the store.
+-- bytes, of an environment the store, of the changer's elements their status.
 unfoldable pub shapeOf : Reply → List ℕ → Body
 shapeOf (Header e) shown = wordsOnly []
 shapeOf (Refused b e a) shown = wordsOnly (replicate b 0 ++ (e ∷ replicate a 0))
@@ -78,8 +79,11 @@ shapeOf (ServerInfo known) shown = record { words = 0 ∷ []; raw = []; texts = 
 shapeOf ScsiState shown = wordsOnly (0 ∷ 0 ∷ 0 ∷ 0 ∷ [])
 -- execute CDB: error, status, data-out length, data in, extended sense
 shapeOf Cdb shown = record { words = 0 ∷ 0 ∷ 0 ∷ []; raw = []; texts = [] ∷ [] ∷ []; tail = [] }
-shapeOf (Sense n pending) shown = record { words = 0 ∷ 0 ∷ 0 ∷ []; raw = []; texts = take n (sense pending) ∷ [] ∷ []; tail = [] }
-shapeOf Check shown = record { words = 0 ∷ 2 ∷ 0 ∷ []; raw = []; texts = [] ∷ sense true ∷ []; tail = [] }
+shapeOf (Sense n key code qualifier) shown =
+    record { words = 0 ∷ 0 ∷ 0 ∷ []; raw = []; texts = take n (sense key code qualifier) ∷ [] ∷ []; tail = [] }
+shapeOf (Check key code qualifier) shown =
+    record { words = 0 ∷ 2 ∷ 0 ∷ []; raw = []; texts = [] ∷ sense key code qualifier ∷ []; tail = [] }
+shapeOf Elements shown = record { words = 0 ∷ 0 ∷ 0 ∷ []; raw = []; texts = shown ∷ [] ∷ []; tail = [] }
 -- unsupported, error, flags, file, soft errors, block size, block, total space, space remaining
 shapeOf (TapeState file block) shown = wordsOnly (0 ∷ 0 ∷ 0 ∷ file ∷ 0 ∷ 0 ∷ block ∷ 0 ∷ 0 ∷ 0 ∷ 0 ∷ [])
 shapeOf (Mtio e residue) shown = wordsOnly (e ∷ residue ∷ [])
@@ -112,8 +116,9 @@ isShowing Challenge = true
 isShowing (ServerInfo known) = false
 isShowing ScsiState = false
 isShowing Cdb = false
-isShowing (Sense n pending) = false
-isShowing Check = false
+isShowing (Sense n key code qualifier) = false
+isShowing (Check key code qualifier) = false
+isShowing Elements = true
 isShowing (TapeState file block) = false
 isShowing (Mtio e residue) = false
 isShowing (Wrote e count) = false
@@ -134,8 +139,9 @@ numberOf Challenge = 0
 numberOf (ServerInfo known) = 0
 numberOf ScsiState = 0
 numberOf Cdb = 0
-numberOf (Sense n pending) = 0
-numberOf Check = 0
+numberOf (Sense n key code qualifier) = 0
+numberOf (Check key code qualifier) = 0
+numberOf Elements = 0
 numberOf (TapeState file block) = 0
 numberOf (Mtio e residue) = e
 numberOf (Wrote e count) = e
@@ -156,8 +162,9 @@ headerError Challenge = 0
 headerError (ServerInfo known) = 0
 headerError ScsiState = 0
 headerError Cdb = 0
-headerError (Sense n pending) = 0
-headerError Check = 0
+headerError (Sense n key code qualifier) = 0
+headerError (Check key code qualifier) = 0
+headerError Elements = 0
 headerError (TapeState file block) = 0
 headerError (Mtio e residue) = 0
 headerError (Wrote e count) = 0

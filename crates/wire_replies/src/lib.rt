@@ -6,6 +6,7 @@ ghost use Rattle.wire_replies.specs.Numbers.{NumbersTold};
 ghost use Rattle.wire_replies.specs.Addresses.{AddressReplies};
 ghost use Rattle.wire_replies.specs.AuthReplies.{AuthReplies};
 ghost use Rattle.wire_replies.specs.EnvironmentReplies.{EnvironmentReplies};
+ghost use Rattle.wire_replies.specs.ScsiReplies.{ScsiReplies};
 
 // What get state tells of the data end.
 #[repr(C)]
@@ -38,8 +39,9 @@ pub struct MoverView {
 // so many zero words, the number, so many zero words. The others accept: Mtio, Wrote and Read begin with the tape's
 // outcome (0, 12 or 13), the rest have the error 0; Plain is that error alone. ListeningTcp shows the list of
 // addresses that was lent. Challenge is the auth type of MD5 and the challenge that was lent.
-// Cdb is an execute CDB that hands over nothing, Sense one that hands over the first bytes of the sense (pending or
-// not) as data in, Check one that ends with status 2 and the extended sense. TapeState is the file and the block, Mtio
+// Cdb is an execute CDB that hands over nothing, Sense one that hands over the first bytes of a sense (its key, code and
+// qualifier) as data in, Check one that ends with status 2 and the extended sense, and Elements one that hands over what
+// it was lent, the status of the changer's elements. TapeState is the file and the block, Mtio
 // the residue, Wrote the count, and Read where the bytes lie in the image. Environment gives the pairs of the store
 // that was lent.
 pub enum Reply {
@@ -53,8 +55,9 @@ pub enum Reply {
     ServerInfo(bool),
     ScsiState,
     Cdb,
-    Sense(u32, bool),
-    Check,
+    Sense(u32, u8, u8, u8),
+    Check(u8, u8, u8),
+    Elements,
     TapeState(u32, u32),
     Mtio(u32, u32),
     Wrote(u32, u32),
@@ -106,4 +109,9 @@ pub fn auth_replies()
 // The same, of the reply that gives an environment, byte for byte.
 pub fn environment_replies()
     ensures { λ r. ⌜ EnvironmentReplies ⌝ }
+{}
+
+// The same, of the replies to execute CDB, byte for byte.
+pub fn scsi_replies()
+    ensures { λ r. ⌜ ScsiReplies ⌝ }
 {}

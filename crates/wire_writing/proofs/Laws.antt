@@ -19,7 +19,7 @@ use Rattle.wire_pairs.specs.Store.{isLaid, environmentOf}
 use Rattle.wire_frame.specs.Frame.{recordBytes}
 use Rattle.wire_replies.specs.declared.Reply.{Reply}
 use Rattle.wire_replies.specs.declared.Reply.the-variants.{Header, Refused, Plain, Listening, ListeningTcp, ConnectionTypes, Challenge, ServerInfo, ScsiState}
-use Rattle.wire_replies.specs.declared.Reply.the-variants.{Cdb, Sense, Check, TapeState, Mtio, Wrote, Read, DataState, Environment, MoverState}
+use Rattle.wire_replies.specs.declared.Reply.the-variants.{Cdb, Sense, Check, Elements, TapeState, Mtio, Wrote, Read, DataState, Environment, MoverState}
 use Rattle.wire_replies.specs.Replies.{Body, opaques, bodyBytes, wordsOnly, sense, shapeOf, headerError, replyBytes}
 use Rattle.wire_replies.specs.Fit.{Sendable}
 use Rattle.wire_replies.specs.Writers.{PutUpTo, headerWords}
@@ -85,9 +85,9 @@ pub refused-within : (r : Reply) (image : List ℕ) (b e a : ℕ) → Sendable r
 unfolding Sendable
 refused-within r image b e a s f = rw f at s
 
-pub sense-within : (r : Reply) (image : List ℕ) (n : ℕ) (pending : Bool) → Sendable r image → r ≡ Sense n pending → n ≤ 18
+pub sense-within : (r : Reply) (image : List ℕ) (n key code qualifier : ℕ) → Sendable r image → r ≡ Sense n key code qualifier → n ≤ 18
 unfolding Sendable
-sense-within r image n pending s e = rw e at s
+sense-within r image n key code qualifier s e = rw e at s
 
 pub read-within : (r : Reply) (image : List ℕ) (e start len : ℕ) → Sendable r image → r ≡ Read e start len → (start + len ≤ length image) × (len ≤ 32768)
 unfolding Sendable
@@ -106,10 +106,15 @@ unfolding Sendable
 store-within r image s f = rw f at s
 
 -- the first bytes of the sense
-pub sense-length : (n : ℕ) (pending : Bool) (l : List ℕ) → l ≡ sense pending → n ≤ 18 → length (take n l) ≡ n
-sense-length n pending l e h =
-    let k : n ≤ length (sense pending) = omega (arith, length-sense pending) in
-    rw (e, length-take-le n (sense pending) k)
+pub sense-length : (n key code qualifier : ℕ) (l : List ℕ) → l ≡ sense key code qualifier → n ≤ 18 → length (take n l) ≡ n
+sense-length n key code qualifier l e h =
+    let k : n ≤ length (sense key code qualifier) = omega (arith, length-sense key code qualifier) in
+    rw (e, length-take-le n (sense key code qualifier) k)
+
+-- a status of elements is short
+pub elements-within : (r : Reply) (image : List ℕ) → Sendable r image → r ≡ Elements → length image ≤ 152
+unfolding Sendable
+elements-within r image s f = rw f at s
 
 -- a part of the image, as a slice of it is told
 pub part : (start len : ℕ) (l : List ℕ) → take (start + len - start) (drop start l) ≡ take len (drop start l)
@@ -117,7 +122,7 @@ part start len l = let e : start + len - start ≡ len = omega arith in rw e
 
 -- ---- the error in the header: none in a reply of any kind but the first
 abbrev others : List ℕ
-others = 1 ∷ 2 ∷ 3 ∷ 4 ∷ 5 ∷ 6 ∷ 7 ∷ 8 ∷ 9 ∷ 10 ∷ 11 ∷ 12 ∷ 13 ∷ 14 ∷ 15 ∷ 16 ∷ 17 ∷ 18 ∷ []
+others = 1 ∷ 2 ∷ 3 ∷ 4 ∷ 5 ∷ 6 ∷ 7 ∷ 8 ∷ 9 ∷ 10 ∷ 11 ∷ 12 ∷ 13 ∷ 14 ∷ 15 ∷ 16 ∷ 17 ∷ 18 ∷ 19 ∷ []
 
 pub no-header : (r : Reply) → OneOf others (tagOf the-type r) → 0 ≡ headerError r
 unfolding headerError
@@ -131,8 +136,9 @@ no-header Challenge h = refl
 no-header (ServerInfo known) h = refl
 no-header ScsiState h = refl
 no-header Cdb h = refl
-no-header (Sense n pending) h = refl
-no-header Check h = refl
+no-header (Sense n key code qualifier) h = refl
+no-header (Check key code qualifier) h = refl
+no-header Elements h = refl
 no-header (TapeState file block) h = refl
 no-header (Mtio e residue) h = refl
 no-header (Wrote e count) h = refl

@@ -4,7 +4,7 @@ ghost use mathlib.Core.Bool.{true};
 ghost use mathlib.Core.List.{[], _∷_};
 ghost use Prim.Native.Nat.{_+_, _*_, _≤_};
 ghost use lib.ListN.{length};
-ghost use Rattle.codes.specs.Codes.{largestMessage, senseBytes, mostLent, storeLength, md5Auth};
+ghost use Rattle.codes.specs.Codes.{largestMessage, senseBytes, mostStatus, mostLent, storeLength, md5Auth};
 ghost use Rattle.xdr.specs.Xdr.{be32s, overlay};
 ghost use Rattle.xdr_opaque.specs.Put.{Put};
 ghost use Rattle.wire_pairs.specs.Store.{isLaid};
@@ -68,7 +68,7 @@ fn put_server_info(out: &mut [u8], at: usize, known: bool) -> usize
 
 // Writes the reply to execute CDB: no data out is told.
 fn put_cdb(out: &mut [u8], at: usize, status: u32, data_in: &[u8], sense: &[u8]) -> usize
-    requires { ⌜ (at + 64 ≤ length (now out)) × (length (now data_in) ≤ senseBytes) × (length (now sense) ≤ senseBytes) ⌝ }
+    requires { ⌜ (at + 200 ≤ length (now out)) × (length (now data_in) ≤ mostStatus) × (length (now sense) ≤ senseBytes) ⌝ }
     ensures { λ r. ⌜ Put at (bodyBytes (record { words = 0 ∷ status ∷ 0 ∷ []; raw = []; texts = now (data_in .entry) ∷ now (sense .entry) ∷ []; tail = [] })) (now (out .entry)) r (now (out .exit)) ⌝ }
 {
     let first = xdr_opaque::put_words(out, at, &[0, status, 0]);
@@ -76,33 +76,33 @@ fn put_cdb(out: &mut [u8], at: usize, status: u32, data_in: &[u8], sense: &[u8])
     xdr_opaque::put_opaque(out, second, sense)
 }
 
-// The 18 sense bytes; with none pending, bytes 2 and 12 are 0.
-fn sense_bytes(pending: bool) -> [u8; 18]
-    ensures { λ r. ⌜ r ≡ sense pending ⌝ }
+// The 18 sense bytes: the key is byte 2, the code byte 12 and its qualifier byte 13.
+fn sense_bytes(key: u8, code: u8, qualifier: u8) -> [u8; 18]
+    ensures { λ r. ⌜ r ≡ sense key code qualifier ⌝ }
 {
-    if pending {
-        *b"\x70\x00\x05\x00\x00\x00\x00\x0A\x00\x00\x00\x00\x20\x00\x00\x00\x00\x00"
-    } else {
-        *b"\x70\x00\x00\x00\x00\x00\x00\x0A\x00\x00\x00\x00\x00\x00\x00\x00\x00\x00"
-    }
+    let mut bytes = *b"\x70\x00\x00\x00\x00\x00\x00\x0A\x00\x00\x00\x00\x00\x00\x00\x00\x00\x00";
+    bytes[2] = key;
+    bytes[12] = code;
+    bytes[13] = qualifier;
+    bytes
 }
 
 // Writes the first n bytes of the sense as data in.
-fn put_sense(out: &mut [u8], at: usize, n: u32, pending: bool) -> usize
-    requires { ⌜ (at + 64 ≤ length (now out)) × (n ≤ senseBytes) ⌝ }
-    ensures { λ r. ⌜ Put at (bodyBytes (shapeOf (Reply.Sense n pending) [])) (now (out .entry)) r (now (out .exit)) ⌝ }
+fn put_sense(out: &mut [u8], at: usize, n: u32, key: u8, code: u8, qualifier: u8) -> usize
+    requires { ⌜ (at + 200 ≤ length (now out)) × (n ≤ senseBytes) ⌝ }
+    ensures { λ r. ⌜ Put at (bodyBytes (shapeOf (Reply.Sense n key code qualifier) [])) (now (out .entry)) r (now (out .exit)) ⌝ }
 {
-    let bytes = sense_bytes(pending);
+    let bytes = sense_bytes(key, code, qualifier);
     let end = n as usize;
     put_cdb(out, at, 0, &bytes[..end], b"")
 }
 
 // Writes status 2 with the extended sense.
-fn put_check(out: &mut [u8], at: usize) -> usize
-    requires { ⌜ at + 64 ≤ length (now out) ⌝ }
-    ensures { λ r. ⌜ Put at (bodyBytes (shapeOf Reply.Check [])) (now (out .entry)) r (now (out .exit)) ⌝ }
+fn put_check(out: &mut [u8], at: usize, key: u8, code: u8, qualifier: u8) -> usize
+    requires { ⌜ at + 200 ≤ length (now out) ⌝ }
+    ensures { λ r. ⌜ Put at (bodyBytes (shapeOf (Reply.Check key code qualifier) [])) (now (out .entry)) r (now (out .exit)) ⌝ }
 {
-    let bytes = sense_bytes(true);
+    let bytes = sense_bytes(key, code, qualifier);
     put_cdb(out, at, 2, b"", &bytes)
 }
 
@@ -194,7 +194,7 @@ fn put_mover_state(out: &mut [u8], at: usize, v: MoverView) -> usize
 }
 
 // Writes a reply's body at an offset; returns the offset after it. The bytes of a read lie in the image; in its place a
-// listen by TCP is lent its list, a challenge its bytes, and an environment the store.
+// listen by TCP is lent its list, a challenge its bytes, an environment the store, and a status of elements its bytes.
 pub fn write_body(out: &mut [u8], at: usize, reply: Reply, image: &[u8]) -> usize
     requires { ⌜ (at + 32800 ≤ length (now out)) × Sendable reply (now image) ⌝ }
     ensures { λ r. ⌜ Put at (bodyBytes (shapeOf reply (now (image .entry)))) (now (out .entry)) r (now (out .exit)) ⌝ }
@@ -214,8 +214,9 @@ pub fn write_body(out: &mut [u8], at: usize, reply: Reply, image: &[u8]) -> usiz
         Reply::ServerInfo(known) => put_server_info(out, at, known),
         Reply::ScsiState => put_body(out, at, &[0, 0, 0, 0]),
         Reply::Cdb => put_cdb(out, at, 0, b"", b""),
-        Reply::Sense(n, pending) => put_sense(out, at, n, pending),
-        Reply::Check => put_check(out, at),
+        Reply::Sense(n, key, code, qualifier) => put_sense(out, at, n, key, code, qualifier),
+        Reply::Check(key, code, qualifier) => put_check(out, at, key, code, qualifier),
+        Reply::Elements => put_cdb(out, at, 0, image, b""),
         Reply::TapeState(file, block) => put_body(
             out,
             at,

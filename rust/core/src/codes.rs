@@ -35,6 +35,11 @@ numbers! {
     REWIND_TAPE: u32 = 4;
     WRITE_MARKS: u32 = 5;
     OFF_LINE: u32 = 6;
+    TEST_READY: u32 = 0x00;
+    REQUEST_SENSE: u32 = 0x03;
+    MOVE_MEDIUM: u32 = 0xA5;
+    ELEMENT_STATUS: u32 = 0xB8;
+    MOST_STATUS: usize = 152;
     LARGEST_MESSAGE: usize = 36864;
     LONGEST_RECORD: usize = 32768;
     SENSE_BYTES: u32 = 18;

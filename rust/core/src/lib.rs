@@ -47,7 +47,7 @@ by_value! {
     Data { state, operation, reason, address, processed }
     Mover { state, mode, pause, halt, size, address, offset, length, moved, seek, left, origin }
     Tape { opened, writable, position }
-    Changer { opened, pending }
+    Changer { opened, key, code, qualifier }
     Login { authorized, challenged, challenge }
     Session { closed, first, login, sequence, source, mover, tape, changer }
     Answer { code, len, session }

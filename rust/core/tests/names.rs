@@ -3,13 +3,18 @@ use proved::{Data, LEAST_LISTING, Mover, codes};
 use std::collections::BTreeMap;
 use std::fs;
 
+/// A number as the crates write it, in decimal or in hex.
+fn number(text: &str) -> Option<u64> {
+    text.strip_prefix("0x").map_or_else(|| text.parse().ok(), |hex| u64::from_str_radix(hex, 16).ok())
+}
+
 /// The constants of a source that are numbers, below the line that begins so, up to the next line `}`.
 fn constants(file: &str, below: &str) -> BTreeMap<String, u64> {
     let path = format!("{}/../../crates/{file}", env!("CARGO_MANIFEST_DIR"));
     let text = fs::read_to_string(&path).unwrap_or_else(|e| panic!("{path}: {e}"));
     let block = text.lines().skip_while(|l| !l.starts_with(below)).take_while(|l| *l != "}");
     let named = block.filter_map(|l| l.trim().strip_prefix("pub const ")?.strip_suffix(';')?.split_once(": "));
-    named.filter_map(|(name, rest)| Some((name.to_string(), rest.split_once(" = ")?.1.parse().ok()?))).collect()
+    named.filter_map(|(name, rest)| Some((name.to_string(), number(rest.split_once(" = ")?.1)?))).collect()
 }
 
 fn here(named: &[(&str, u64)]) -> BTreeMap<String, u64> {

@@ -33,7 +33,10 @@ pub fn session(s: &State) -> Session {
             origin: s.mover.origin as usize,
         },
         tape: Tape { opened: s.tape.open, writable: s.tape.writable, position: s.tape.position as usize },
-        changer: Changer { opened: s.changer.open, pending: s.changer.pending },
+        changer: {
+            let [key, code, qualifier] = s.changer.sense;
+            Changer { opened: s.changer.open, key, code, qualifier }
+        },
     }
 }
 
@@ -66,7 +69,7 @@ pub fn state(s: &Session) -> State {
             origin: s.mover.origin as u64,
         },
         tape: state::Tape { open: s.tape.opened, writable: s.tape.writable, position: s.tape.position as u64 },
-        changer: state::Changer { open: s.changer.opened, pending: s.changer.pending },
+        changer: state::Changer { open: s.changer.opened, sense: [s.changer.key, s.changer.code, s.changer.qualifier] },
     }
 }
 
@@ -138,5 +141,7 @@ named! {
     "tape.writable" tape.writable: bool,
     "tape.position" tape.position: usize,
     "changer.opened" changer.opened: bool,
-    "changer.pending" changer.pending: bool,
+    "changer.key" changer.key: u8,
+    "changer.code" changer.code: u8,
+    "changer.qualifier" changer.qualifier: u8,
 }

@@ -478,15 +478,17 @@ fn listings(each: EachOf, store: &[u8], [sound, ..]: &[Vec<u8>; 3]) -> bool {
 /// SCSI and CONNECT look at few things.
 fn devices(each: Each, [sound, ..]: &[Vec<u8>; 3]) -> bool {
     for authorized in [false, true] {
-        for (opened, pending, first, closed) in [
-            (false, false, true, false),
-            (true, false, false, false),
-            (true, true, true, false),
-            (true, true, true, true),
-            (false, true, false, false),
+        for (opened, [key, code, qualifier], first, closed) in [
+            (false, [0; 3], true, false),
+            (true, [0; 3], false, false),
+            (true, [5, 0x20, 0], true, false),
+            (true, [1, 2, 3], true, false),
+            (true, [5, 0x20, 0], true, true),
+            (false, [0x0f, 0xff, 0xff], false, false),
         ] {
             let mut s = rest(authorized);
-            (s.changer.opened, s.changer.pending, s.first, s.closed) = (opened, pending, first, closed);
+            (s.changer.opened, s.first, s.closed) = (opened, first, closed);
+            (s.changer.key, s.changer.code, s.changer.qualifier) = (key, code, qualifier);
             if !HANDLED.iter().flat_map(|m| requests(*m)).chain(events()).all(|step| each(sound, &s, &step)) {
                 return false;
             }

@@ -8,7 +8,9 @@ use Rattle.serve_changer.proofs.execute_cdb.Tie as tie
 use Rattle.serve_changer.proofs.execute_cdb.Reads as reads
 use Rattle.serve_changer.proofs.execute_cdb.Lts as lts
 use Rattle.serve_changer.proofs.sense_length.Reads as sense-length-reads
-use Rattle.serve_changer.proofs.with_sense.Reads as with-sense-reads
+use Rattle.serve_changer.proofs.check.Reads as check-reads
+use Rattle.changer_moves.proofs.illegal.Reads as illegal-reads
+use Rattle.rules_parts.proofs.types.Changer.refused.Reads as types-Changer-refused-reads
 use Rattle.xdr.proofs.byte_at.Reads as byte-at-reads
 
 returns : tie.Need-returns
@@ -33,19 +35,24 @@ returns-4 c = rw (← (c .before .byte-at .ensures)) (search picking depth 14)
 sense-length-requires : tie.Need-sense-length-requires
 sense-length-requires c κs = search needs
 
-with-sense-requires : tie.Need-with-sense-requires
-with-sense-requires c κs = search needs
+refused-requires : tie.Need-refused-requires
+refused-requires c κs = search needs
 
 returns-5 : tie.Need-returns-5
 unfolding scsiCdb judge runCdb
-returns-5 c = rw (← (c .before .before .before .before .byte-at .ensures), ← (c .before .sense-length .ensures), c .with-sense .ensures) (search picking depth 16)
+returns-5 c = rw (← (c .before .before .before .before .byte-at .ensures), ← (c .before .sense-length .ensures), c .refused .ensures) (search picking depth 16)
 
-with-sense-requires-2 : tie.Need-with-sense-requires-2
-with-sense-requires-2 c κs = search needs
+illegal-requires : tie.Need-illegal-requires
+illegal-requires c κs = search needs
+
+check-requires : tie.Need-check-requires
+check-requires c κs = search needs
 
 returns-6 : tie.Need-returns-6
 unfolding scsiCdb judge runCdb
-returns-6 c = rw (← (c .before .before .before .byte-at .ensures), c .with-sense2 .ensures) (search picking depth 16)
+returns-6 c =
+    let done = rw (c .before .illegal .ensures) at (c .check .ensures) in
+    rw (← (c .before .before .before .before .byte-at .ensures)) (search (picking, done) depth 16)
 
 pub execute-cdb-spec : {M : Type 1} → statement M
 execute-cdb-spec =
@@ -57,7 +64,8 @@ execute-cdb-spec =
     byte-at-requires
     returns-4
     sense-length-requires
-    with-sense-requires
+    refused-requires
     returns-5
-    with-sense-requires-2
+    illegal-requires
+    check-requires
     returns-6)

@@ -18,14 +18,14 @@ array-share-prefix-bytes : tie.Need-array-share-prefix-bytes
 array-share-prefix-bytes c = search needs
 
 slice-aggregate-put-cdb : tie.Need-slice-aggregate-put-cdb
-slice-aggregate-put-cdb c = sym (sense-length _ _ _ (c .before .before .sense-bytes .ensures) (search needs))
+slice-aggregate-put-cdb c = sym (sense-length _ _ _ _ _ (c .before .before .sense-bytes .ensures) (search needs))
 
 slice-aggregate-put-cdb-2 : tie.Need-slice-aggregate-put-cdb-2
 slice-aggregate-put-cdb-2 c = search needs
 
 put-cdb-requires : tie.Need-put-cdb-requires
 put-cdb-requires c κs =
-    (search needs, omega (arith, sense-length (c .before .before .before .before .before .args .n) _ _ (c .before .before .before .sense-bytes .ensures) (search needs)), search needs)
+    (search needs, omega (arith, sense-length (c .before .before .before .before .before .args .n) _ _ _ _ (c .before .before .before .sense-bytes .ensures) (search needs)), search needs)
 
 same-length : tie.Need-same-length
 same-length c = search needs

@@ -2,7 +2,7 @@
 use lib.ListN.{length-take}
 use native.Mathlib.Omega.{arith}
 use Rattle.wire_replies.specs.Replies.{shapeOf}
-use Rattle.wire_writing.proofs.Laws.{no-body, refused-within, lent-within, challenge-within, sense-within, read-within, store-within, part}
+use Rattle.wire_writing.proofs.Laws.{no-body, refused-within, lent-within, challenge-within, sense-within, elements-within, read-within, store-within, part}
 use borrow.Author.Needs.{needs}
 use Rattle.wire_writing.proofs.write_body.Statement.{statement}
 use Rattle.wire_writing.proofs.write_body.Tie as tie
@@ -104,16 +104,26 @@ enum-known-reply-3 c = search needs
 
 put-sense-requires : tie.Need-put-sense-requires
 put-sense-requires c κs =
-    (omega arith, sense-within _ _ _ _ (c .before .before .before .before .before .before .pre .1) (c .before .before .reply3 .given .1))
+    (omega arith, sense-within _ _ _ _ _ _ (c .before .before .before .before .before .before .pre .1) (c .before .before .reply3 .given .1))
 
-enum-told-9 : tie.Need-enum-told-9
-enum-told-9 c = search needs
+enum-known-reply-4 : tie.Need-enum-known-reply-4
+enum-known-reply-4 c = search needs
 
 put-check-requires : tie.Need-put-check-requires
 put-check-requires c κs = search needs
 
-enum-known-reply-4 : tie.Need-enum-known-reply-4
-enum-known-reply-4 c = search needs
+enum-told-9 : tie.Need-enum-told-9
+enum-told-9 c = search needs
+
+slice-aggregate-put-cdb-3 : tie.Need-slice-aggregate-put-cdb-3
+slice-aggregate-put-cdb-3 c = search needs
+
+put-cdb-requires-2 : tie.Need-put-cdb-requires-2
+put-cdb-requires-2 c κs =
+    (omega arith, elements-within _ _ (c .before .before .before .before .before .before .pre .1) (c .before .before .enum-told9 .given .1), omega arith)
+
+enum-known-reply-5 : tie.Need-enum-known-reply-5
+enum-known-reply-5 c = search needs
 
 slice-aggregate-put-body-5 : tie.Need-slice-aggregate-put-body-5
 slice-aggregate-put-body-5 c = search needs
@@ -121,8 +131,8 @@ slice-aggregate-put-body-5 c = search needs
 put-body-requires-5 : tie.Need-put-body-requires-5
 put-body-requires-5 c κs = search needs
 
-enum-known-reply-5 : tie.Need-enum-known-reply-5
-enum-known-reply-5 c = search needs
+enum-known-reply-6 : tie.Need-enum-known-reply-6
+enum-known-reply-6 c = search needs
 
 slice-aggregate-put-body-6 : tie.Need-slice-aggregate-put-body-6
 slice-aggregate-put-body-6 c = search needs
@@ -130,8 +140,8 @@ slice-aggregate-put-body-6 c = search needs
 put-body-requires-6 : tie.Need-put-body-requires-6
 put-body-requires-6 c κs = search needs
 
-enum-known-reply-6 : tie.Need-enum-known-reply-6
-enum-known-reply-6 c = search needs
+enum-known-reply-7 : tie.Need-enum-known-reply-7
+enum-known-reply-7 c = search needs
 
 slice-aggregate-put-body-7 : tie.Need-slice-aggregate-put-body-7
 slice-aggregate-put-body-7 c = search needs
@@ -139,12 +149,12 @@ slice-aggregate-put-body-7 c = search needs
 put-body-requires-7 : tie.Need-put-body-requires-7
 put-body-requires-7 c κs = search needs
 
-enum-known-reply-7 : tie.Need-enum-known-reply-7
-enum-known-reply-7 c = search needs
+enum-known-reply-8 : tie.Need-enum-known-reply-8
+enum-known-reply-8 c = search needs
 
 add-put-read : tie.Need-add-put-read
 add-put-read c =
-    omega (arith, read-within _ _ _ _ _ (c .before .before .before .before .before .before .pre .1) (c .before .before .reply7 .given .1))
+    omega (arith, read-within _ _ _ _ _ (c .before .before .before .before .before .before .pre .1) (c .before .before .reply8 .given .1))
 
 sub-put-read : tie.Need-sub-put-read
 sub-put-read c = search needs
@@ -154,15 +164,15 @@ part-put-read-start c = search needs
 
 part-put-read-end : tie.Need-part-put-read-end
 part-put-read-end c =
-    omega (arith, read-within _ _ _ _ _ (c .before .before .before .before .before .before .pre .1) (c .before .before .reply7 .given .1))
+    omega (arith, read-within _ _ _ _ _ (c .before .before .before .before .before .before .pre .1) (c .before .before .reply8 .given .1))
 
 put-read-requires : tie.Need-put-read-requires
 put-read-requires c κs =
-    let h = read-within _ _ _ _ _ (c .before .before .before .before .before .before .before .pre .1) (c .before .before .before .reply7 .given .1) in
+    let h = read-within _ _ _ _ _ (c .before .before .before .before .before .before .before .pre .1) (c .before .before .before .reply8 .given .1) in
     (simp length-take (omega arith), simp length-take (omega arith))
 
-enum-known-reply-8 : tie.Need-enum-known-reply-8
-enum-known-reply-8 c = search needs
+enum-known-reply-9 : tie.Need-enum-known-reply-9
+enum-known-reply-9 c = search needs
 
 put-data-state-requires : tie.Need-put-data-state-requires
 put-data-state-requires c κs = search needs
@@ -175,8 +185,8 @@ put-environment-requires c κs =
     let h = store-within _ _ (c .before .before .before .before .before .pre .1) (c .before .enum-told10 .given .1) in
     (omega arith, h .0, h .1)
 
-enum-known-reply-9 : tie.Need-enum-known-reply-9
-enum-known-reply-9 c = search needs
+enum-known-reply-10 : tie.Need-enum-known-reply-10
+enum-known-reply-10 c = search needs
 
 put-mover-state-requires : tie.Need-put-mover-state-requires
 put-mover-state-requires c κs = search needs
@@ -268,7 +278,7 @@ same-length-11 c = search needs
 
 returns-12 : tie.Need-returns-12
 unfolding shapeOf
-returns-12 c = rw (c .before .before .before .before .enum-told9 .given .1) (c .before .before .put-check .ensures)
+returns-12 c = rw (c .before .before .before .before .before .reply4 .given .1) (c .before .before .put-check .ensures)
 
 same-length-12 : tie.Need-same-length-12
 same-length-12 c = search needs
@@ -276,7 +286,7 @@ same-length-12 c = search needs
 returns-13 : tie.Need-returns-13
 unfolding shapeOf
 returns-13 c =
-    rw (c .before .before .before .before .before .before .reply4 .given .1) (c .before .before .put-body5 .ensures)
+    rw (c .before .before .before .before .before .enum-told9 .given .1) (c .before .before .put-cdb2 .ensures)
 
 same-length-13 : tie.Need-same-length-13
 same-length-13 c = search needs
@@ -284,7 +294,7 @@ same-length-13 c = search needs
 returns-14 : tie.Need-returns-14
 unfolding shapeOf
 returns-14 c =
-    rw (c .before .before .before .before .before .before .reply5 .given .1) (c .before .before .put-body6 .ensures)
+    rw (c .before .before .before .before .before .before .reply5 .given .1) (c .before .before .put-body5 .ensures)
 
 same-length-14 : tie.Need-same-length-14
 same-length-14 c = search needs
@@ -292,7 +302,7 @@ same-length-14 c = search needs
 returns-15 : tie.Need-returns-15
 unfolding shapeOf
 returns-15 c =
-    rw (c .before .before .before .before .before .before .reply6 .given .1) (c .before .before .put-body7 .ensures)
+    rw (c .before .before .before .before .before .before .reply6 .given .1) (c .before .before .put-body6 .ensures)
 
 same-length-15 : tie.Need-same-length-15
 same-length-15 c = search needs
@@ -300,7 +310,7 @@ same-length-15 c = search needs
 returns-16 : tie.Need-returns-16
 unfolding shapeOf
 returns-16 c =
-    rw (c .before .before .before .before .before .before .reply7 .given .1) (rw part at (c .before .before .put-read .ensures))
+    rw (c .before .before .before .before .before .before .reply7 .given .1) (c .before .before .put-body7 .ensures)
 
 same-length-16 : tie.Need-same-length-16
 same-length-16 c = search needs
@@ -308,22 +318,30 @@ same-length-16 c = search needs
 returns-17 : tie.Need-returns-17
 unfolding shapeOf
 returns-17 c =
-    rw (c .before .before .before .before .before .reply8 .given .1) (c .before .before .put-data-state .ensures)
+    rw (c .before .before .before .before .before .before .reply8 .given .1) (rw part at (c .before .before .put-read .ensures))
 
 same-length-17 : tie.Need-same-length-17
 same-length-17 c = search needs
 
 returns-18 : tie.Need-returns-18
 unfolding shapeOf
-returns-18 c = rw (c .before .before .before .before .enum-told10 .given .1) (c .before .before .put-environment .ensures)
+returns-18 c =
+    rw (c .before .before .before .before .before .reply9 .given .1) (c .before .before .put-data-state .ensures)
 
 same-length-18 : tie.Need-same-length-18
 same-length-18 c = search needs
 
 returns-19 : tie.Need-returns-19
 unfolding shapeOf
-returns-19 c =
-    rw (c .before .before .before .before .before .reply9 .given .1) (c .before .before .put-mover-state .ensures)
+returns-19 c = rw (c .before .before .before .before .enum-told10 .given .1) (c .before .before .put-environment .ensures)
+
+same-length-19 : tie.Need-same-length-19
+same-length-19 c = search needs
+
+returns-20 : tie.Need-returns-20
+unfolding shapeOf
+returns-20 c =
+    rw (c .before .before .before .before .before .reply10 .given .1) (c .before .before .put-mover-state .ensures)
 
 pub write-body-spec : {M : Type 1} → statement M
 write-body-spec =
@@ -356,28 +374,31 @@ write-body-spec =
     put-cdb-requires
     enum-known-reply-3
     put-sense-requires
-    enum-told-9
-    put-check-requires
     enum-known-reply-4
+    put-check-requires
+    enum-told-9
+    slice-aggregate-put-cdb-3
+    put-cdb-requires-2
+    enum-known-reply-5
     slice-aggregate-put-body-5
     put-body-requires-5
-    enum-known-reply-5
+    enum-known-reply-6
     slice-aggregate-put-body-6
     put-body-requires-6
-    enum-known-reply-6
+    enum-known-reply-7
     slice-aggregate-put-body-7
     put-body-requires-7
-    enum-known-reply-7
+    enum-known-reply-8
     add-put-read
     sub-put-read
     part-put-read-start
     part-put-read-end
     put-read-requires
-    enum-known-reply-8
+    enum-known-reply-9
     put-data-state-requires
     enum-told-10
     put-environment-requires
-    enum-known-reply-9
+    enum-known-reply-10
     put-mover-state-requires
     returns
     same-length
@@ -415,4 +436,6 @@ write-body-spec =
     same-length-17
     returns-18
     same-length-18
-    returns-19)
+    returns-19
+    same-length-19
+    returns-20)

@@ -96,7 +96,7 @@ fn disturb(random: &mut Random, s: &mut Session) {
         12 => s.login.authorized = false,
         13 => s.first = false,
         14 => s.sequence = u32::MAX,
-        _ => s.changer.pending = true,
+        _ => s.changer.key = 5,
     }
 }
 
@@ -112,7 +112,7 @@ fn random_session(random: &mut Random, size: usize, entries: usize) -> Session {
         source: random_data(random, &mover),
         mover,
         tape: Tape { opened: true, writable: true, position },
-        changer: Changer { opened: random.below(2) == 0, pending: false },
+        changer: Changer { opened: random.below(2) == 0, key: 0, code: 0, qualifier: 0 },
     };
     if random.below(4) == 0 {
         disturb(random, &mut s);

@@ -85,7 +85,8 @@ pub struct Tape {
 #[derive(Clone, PartialEq, Debug)]
 pub struct Changer {
     pub open: bool,
-    pub pending: bool,
+    /// The pending sense: its key, code and qualifier; zeros where none is pending.
+    pub sense: [u8; 3],
 }
 
 impl Data {
@@ -153,7 +154,7 @@ impl State {
             data: Data::at_rest(),
             mover: Mover::at_rest(10_240),
             tape: Tape { open: false, writable: false, position: 0 },
-            changer: Changer { open: false, pending: false },
+            changer: Changer { open: false, sense: [0; 3] },
         }
     }
 
