@@ -1,7 +1,10 @@
--- `Laws` has the laws of elements and of the tests of a move, and `Bytes` those of the layouts: they serve the crates above too. `Counts` and
--- `Lists` serve `MovesHold` and `StatusHolds`.
+-- They serve the crates above too: `Laws` has the laws of elements and of the tests of a move, `Staying` what a move
+-- leaves of a slot list of any length, `Bytes` the laws of the layouts. `Counts`, `Moves` and `Lists` serve `MovesHold`
+-- and `StatusHolds`.
 pub mod Laws
 pub mod Counts
+pub mod Moves
+pub mod Staying
 pub mod MovesHold
 pub mod MoveCases
 pub mod Lists

@@ -7,7 +7,7 @@ use mathlib.Core.Path.{_≡_}
 use lib.ListN.{length, getD}
 use Rattle.changer_elements.specs.declared.MoveDone.the-variants.{Moves}
 use Rattle.changer_elements.specs.Elements.{transport, drive, firstSlot, lastSlot, places, hasPlace, placeOf, cdbBytes}
-use Rattle.changer_elements.specs.Slots.{namesNoneTwice, times}
+use Rattle.changer_elements.specs.Slots.{namesNoneTwice, inDrive, times}
 use Rattle.changer_elements.specs.Move.{transportField, sourceField, destinationField, moveMedium, slotsAfter}
 
 -- a cartridge is in one place, and in no other
@@ -84,13 +84,19 @@ pub record ListHolds : Type 0 where
   -- no cartridge is lost, and none doubled
   pub same-times : (slots : List ℕ) (ms : List MoveCall) → length slots ≡ places → (v : ℕ) → (v ≡ 0 → ⊥) →
       times v (afterMoves slots ms) ≡ times v slots
-  pub none-twice : (slots : List ℕ) (ms : List MoveCall) → length slots ≡ places → namesNoneTwice slots ≡ true →
+  -- a list of any length that names none twice names none twice afterwards: after a list of calls, and after one
+  pub none-twice : (slots : List ℕ) (ms : List MoveCall) → namesNoneTwice slots ≡ true →
       namesNoneTwice (afterMoves slots ms) ≡ true
+  pub after : (cdb slots : List ℕ) (opened : Bool) → namesNoneTwice slots ≡ true →
+      namesNoneTwice (slotsAfter slots (moveMedium cdb slots opened)) ≡ true
   pub in-one : (slots : List ℕ) (ms : List MoveCall) → length slots ≡ places → namesNoneTwice slots ≡ true → (v : ℕ) → (v ≡ 0 → ⊥) →
       (i : ℕ) → getD slots i 0 ≡ v → InOnePlace v (afterMoves slots ms)
   -- while the tape is open the cartridge in the drive stays there, and an empty drive stays empty
   pub drive-stays : (slots cdb : List ℕ) →
       getD (slotsAfter slots (moveMedium cdb slots true)) (placeOf drive) 0 ≡ getD slots (placeOf drive) 0
+  pub held : (cdb slots : List ℕ) → inDrive (slotsAfter slots (moveMedium cdb slots true)) ≡ inDrive slots
+  -- what is in the drive is what its place holds
+  pub in-drive : (slots : List ℕ) → inDrive slots ≡ getD slots (placeOf drive) 0
 
 pub record ElementsHold : Type 0 where
   pub elements : PlacesHold

@@ -29,6 +29,10 @@ namesNoneTwice l = not (someAgain places 0 l)
 unfoldable pub moved : ℕ → ℕ → List ℕ → List ℕ
 moved from to l = set (set l to (getD l from 0)) from 0
 
+-- the cartridge in the drive, whose place is the first, or 0
+abbrev pub inDrive : List ℕ → ℕ
+inDrive slots = getD slots 0 0
+
 -- how often a number is named
 unfoldable pub times : ℕ → List ℕ → ℕ
 times v [] = 0
