@@ -1,17 +1,17 @@
 /* The session core of a tape vault that speaks NDMP version 4: seven calls, a reader of addresses, a listing of accounts, and two functions that look at a
  * cartridge, as C functions of the static library `capi` (`tools/library`).
  *
- * No call asks anything of its caller but that each pointer leads to as many bytes as the length beside it says (a length of 0 may have any
- * pointer), the challenge, which has none beside it, to MOSSGOBLIN_CHALLENGE bytes, and that no two buffers of a call overlap where one of them is
- * written: image, variables, out and dest are written. Whatever the bytes are, there is an answer. A call keeps nothing: the session goes in and
- * comes back by value, and the buffers are the caller's again when it returns.
+ * No call asks anything of its caller but that each pointer leads to as many bytes as the length beside it says (a length of 0 may have any pointer), the
+ * challenge and the slot list, which have none beside them, to MOSSGOBLIN_CHALLENGE bytes and MOSSGOBLIN_PLACES words, and that no two buffers of a call
+ * overlap where one of them is written: image, variables, out and dest are written. Whatever the bytes are, there is an answer. A call keeps nothing: the
+ * session goes in and comes back by value, and the buffers are the caller's again when it returns.
  * It needs no heap, and less than 4,096 bytes of stack beside arguments and answer (measured: README.md, Sizes).
  *
  * The code of each of the seven calls is 0, 1001 or 1002, and comes before all else:
  *   1001  the output is shorter than MOSSGOBLIN_OUTPUT bytes; of mossgoblin_request also: the store has another length than MOSSGOBLIN_STORE_LENGTH
- *   1002  the session breaks the relation of docs/RELATION.md; no session that these calls give does
- * With 1001 and 1002 nothing is written and nothing changes: the session comes back as it went in (mossgoblin_open, which takes none and never gives 1002,
- * gives a closed one).
+ *   1002  the session breaks the relation of docs/RELATION.md; no session that these calls give does. Of mossgoblin_open: the slot list names a cartridge twice
+ * With 1001 and 1002 nothing is written and nothing changes: the session comes back as it went in (mossgoblin_open, which takes none, gives a closed one with
+ * an empty slot list).
  * On a closed session the code is 0, and nothing is written, moved or changed.
  *
  * `len` is how many bytes stand at the output's start: a reply and the notices behind it, or nothing. They are to be sent to the client as they are. The bytes
@@ -70,12 +70,29 @@ struct mossgoblin_tape {
     size_t position;
 };
 
-/* The changer; key, code and qualifier are the pending sense, and are 0 where none is. */
+/* The places of the changer that hold a cartridge: the drive, then eight slots. */
+#define MOSSGOBLIN_PLACES 9
+
+/* The changer; key, code and qualifier are the pending sense, and are 0 where none is. Slots is the slot list: the cartridge in each place, the drive's first
+ * (element address 1), then those of the slots 16 to 23. 0 is an empty place, and any other number a cartridge of the host's; no two places name the same
+ * one. The transport, element address 0, holds none.
+ *
+ * A session is opened with a list, and passes it on from call to call. MOVE MEDIUM (SCSI execute CDB, A5h) is the one request that changes it, where it is
+ * accepted with status 0: the cartridge goes from a full place to an empty one, and so each cartridge is in exactly one place from the first call to the last.
+ * SCSI open, close and reset, a refused request, a move of bytes and the session's end leave it. READ ELEMENT STATUS (B8h) tells which places are full, and
+ * never a number. While the tape is open the drive is not empty, and nothing is moved out of it: MTIO 6 or TAPE close comes first. Both leave the
+ * cartridge in the drive. While the drive is empty TAPE open is refused with 10, and the image is looked at by nothing.
+ *
+ * The list is one record, used by one session at a time. A host takes it from the last session that these calls gave, of those that an accepted open began,
+ * and opens the next one with it: never from a refused open, whose list is empty. Where several sessions are open at once, it sets slots before a call to
+ * what the last call of any of them left. Such a list names none twice, and while a session has the tape open the host lets no other session move the
+ * cartridge in the drive: the core knows one session. */
 struct mossgoblin_changer {
     bool opened;
     uint8_t key;
     uint8_t code;
     uint8_t qualifier;
+    uint32_t slots[MOSSGOBLIN_PLACES];
 };
 
 /* The bytes of a challenge. */
@@ -90,9 +107,11 @@ struct mossgoblin_login {
 };
 
 /* A session. Its fields may be read; a session is to be made by mossgoblin_open, and each call is to be handed what the last one gave. Between two calls
- * its host may set sequence, the number of the next message, to any number, and nothing else: what docs/PROMISES.md says of the window, and of what comes
- * out, holds with that too. A host does so where it sends no reply, as to a request of its own, and the numbers of what it sends are to have no gap. First
- * is set until a request has been answered. */
+ * its host may set sequence, the number of the next message, to any number: it does so where it sends no reply, as to a request of its own, and the numbers of
+ * what it sends are to have no gap. And it may set changer.slots, as said above, to a list that names none twice and, while the tape is open, has the same
+ * cartridge in the drive. What docs/PROMISES.md says of the window, and of what comes out, holds with both too. Where another session has the tape or the
+ * changer open, it may set tape.opened or changer.opened for one request, with a cartridge in the drive, and sets them back behind it: so SCSI open is 3, and a
+ * move from or to the drive 53h/02h; that is in no proof. It sets nothing else. First is set until a request has been answered. */
 struct mossgoblin_session {
     bool closed;
     bool first;
@@ -177,8 +196,9 @@ struct mossgoblin_addresses {
  * refusal of the call. */
 #define MOSSGOBLIN_MOST_ACCOUNTS 8
 
-/* A new session. The notice of the connection status is written to the output, as message number 1. With 1001 the session that comes back is closed. */
-struct mossgoblin_answer mossgoblin_open(uint32_t time, uint8_t *out, size_t out_len);
+/* A new session, with this slot list. The notice of the connection status is written to the output, as message number 1. A list that names a cartridge twice is
+ * refused with 1002, after 1001; with either the session that comes back is closed, and its list is empty. 0 may stand often. `slots` is only read. */
+struct mossgoblin_answer mossgoblin_open(const uint32_t slots[MOSSGOBLIN_PLACES], uint32_t time, uint8_t *out, size_t out_len);
 
 /* One request: `input` is one whole record, the mark with it, of any bytes. `accounts` is whom a login may let in, as above.
  *
@@ -196,6 +216,9 @@ struct mossgoblin_answer mossgoblin_open(uint32_t time, uint8_t *out, size_t out
  *
  * `variables` is the store above: the same one with each request of a session, as the last call left it. Of another length than MOSSGOBLIN_STORE_LENGTH it is
  * refused with the code 1001, whatever the request is.
+ *
+ * `image` is the cartridge that the session's slot list names as being in the drive; where it names none, any bytes. TAPE requests alone look at it. A request
+ * that moves another cartridge into the drive is lent the one before it, and the next is lent that one: no tape is open between them.
  *
  * The image changes only by TAPE write, which writes the record that the client sends, and by MTIO 5, which writes marks: both outside any window of the
  * mover, at the tape's position, and only after login, with the tape open for writing and the mover neither in LISTEN nor ACTIVE. A refused request leaves all

@@ -6,6 +6,8 @@ The bodies are built from 004's layouts (Appendix C, by the lines named). Every 
 004 and paper 01; none is taken from the program. A line has the sequence number and the request: numbers in decimal; a text as its
 place in the body + its length, and = its bytes where they are at most 32; the pairs of a start request as the place of the first + their number.
 """
+import struct
+
 from wire import header, listed, marked, opaque, quad, text, word, write
 
 TIME = 1049155200  # 1 April 2003, in seconds
@@ -38,6 +40,18 @@ def scsi_open(device):  # line 13377
 
 def execute_cdb(flags, timeout, room, cdb, out):  # line 13408
     return word(flags, timeout, room) + opaque(cdb) + opaque(out)
+
+
+def cdb(room, data):  # the same, with a time of a minute and nothing sent
+    return execute_cdb(1, 60000, room, data, b'')
+
+
+def move_medium(source, to, transport=0, flags=b'\0\0\0\0', lun=0):  # SMC's MOVE MEDIUM, 12 bytes: addresses of two bytes from byte 2 on
+    return bytes([0xA5, lun]) + struct.pack('>HHH', transport, source, to) + flags
+
+
+def element_status(kind, start, count, room, options=0, end=b'\0\0'):  # SMC's READ ELEMENT STATUS, 12 bytes: an allocation of three bytes from byte 7 on
+    return bytes([0xB8, kind]) + struct.pack('>HH', start, count) + bytes([options]) + struct.pack('>I', room)[1:] + end
 
 
 def tape_open(device, mode):  # line 13442
@@ -555,7 +569,32 @@ AUTH = [
      '336 CONNECT_CLIENT_AUTH id 8+4=6e646d70 digest 12+16=5da7ac7324b97caf774d6ea4927f57d0'),
 ]
 
-SAMPLES = HANDLED + FRAMES + UNKNOWN + CONNECT + BARE + SCSI + TAPE + DATA + MOVER + FILL + TCP + ENVIRONMENT + AUTH
+# paper 02, 7: the changer's CDBs. What a CDB holds is no question of what the request is read as; a CDB above 16 bytes and a short one are read too.
+CHANGER = [
+    ('move_drive_to_slot', request(346, 0x206, cdb(0, move_medium(1, 16))), '346 SCSI_EXECUTE_CDB cdb 16+12=a50000000001001000000000 datain_len 0'),
+    ('move_slot_to_drive', request(347, 0x206, cdb(0, move_medium(23, 1))), '347 SCSI_EXECUTE_CDB cdb 16+12=a50000000017000100000000 datain_len 0'),
+    ('move_slot_to_slot', request(348, 0x206, cdb(0, move_medium(17, 22))), '348 SCSI_EXECUTE_CDB cdb 16+12=a50000000011001600000000 datain_len 0'),
+    ('move_flags', request(349, 0x206, cdb(18, move_medium(16, 1, flags=b'\xff\xff\x01\xc0', lun=0xE0))),
+     '349 SCSI_EXECUTE_CDB cdb 16+12=a5e0000000100001ffff01c0 datain_len 18'),
+    ('move_transport', request(350, 0x206, cdb(0, move_medium(0, 65535, transport=1))), '350 SCSI_EXECUTE_CDB cdb 16+12=a50000010000ffff00000000 datain_len 0'),
+    ('move_11', request(351, 0x206, cdb(0, move_medium(1, 16)[:11])), '351 SCSI_EXECUTE_CDB cdb 16+11=a500000000010010000000 datain_len 0'),
+    ('move_16', request(352, 0x206, cdb(0, move_medium(1, 16) + b'\xff' * 4)), '352 SCSI_EXECUTE_CDB cdb 16+16=a50000000001001000000000ffffffff datain_len 0'),
+    ('move_17', request(353, 0x206, cdb(0, move_medium(1, 16) + b'\0' * 5)), '353 SCSI_EXECUTE_CDB cdb 16+17=a500000000010010000000000000000000 datain_len 0'),
+    ('move_fill', request(354, 0x206, word(1, 60000, 0) + opaque(move_medium(1, 16)[:11], b'\1') + opaque(b'')), '354 bad'),
+    ('status_all', request(355, 0x206, cdb(152, element_status(0, 0, 10, 152))), '355 SCSI_EXECUTE_CDB cdb 16+12=b8000000000a000000980000 datain_len 152'),
+    ('status_slots', request(356, 0x206, cdb(4294967295, element_status(2, 20, 65535, 0xFFFFFF))),
+     '356 SCSI_EXECUTE_CDB cdb 16+12=b8020014ffff00ffffff0000 datain_len 4294967295'),
+    # VolTag and LUN, CURDATA and DVCID, control
+    ('status_flags', request(357, 0x206, cdb(8, element_status(0xF4, 1, 1, 8, options=0x03, end=b'\xff\xc0'))),
+     '357 SCSI_EXECUTE_CDB cdb 16+12=b8f40001000103000008ffc0 datain_len 8'),
+    ('status_1', request(358, 0x206, cdb(152, element_status(0, 0, 10, 152)[:1])), '358 SCSI_EXECUTE_CDB cdb 16+1=b8 datain_len 152'),
+    ('status_out', request(359, 0x206, execute_cdb(3, 0, 152, element_status(1, 0, 1, 152), b'out')),
+     '359 SCSI_EXECUTE_CDB cdb 16+12=b80100000001000000980000 datain_len 152'),
+    ('mtio_off', request(360, 0x303, mtio(6, 0)), '360 TAPE_MTIO op 6 count 0'),
+    ('mtio_off_count', request(361, 0x303, mtio(6, 4294967295)), '361 TAPE_MTIO op 6 count 4294967295'),
+]
+
+SAMPLES = HANDLED + FRAMES + UNKNOWN + CONNECT + BARE + SCSI + TAPE + DATA + MOVER + FILL + TCP + ENVIRONMENT + AUTH + CHANGER
 
 
 def vector(own, data, expected):

@@ -5,6 +5,8 @@ The bodies are built from 004's layouts (Appendix C, by the lines named) with th
 program. Of each there is a line with its name and length, then its bytes, seven words to a line: the mark and the header, then the
 body. The word aaaaaaaa behind it is the output as it was before.
 """
+import struct
+
 from wire import header, listed, marked, opaque, quad, text, word, write
 
 
@@ -105,6 +107,32 @@ def mover_paused(reason, seek):  # line 13886
 SENSE = bytes.fromhex('70 00 05 00 00 00 00 0A 00 00 00 00 20 00 00 00 00 00')
 NO_SENSE = bytes.fromhex('70 00 00 00 00 00 00 0A 00 00 00 00 00 00 00 00 00 00')
 
+
+
+def sense(code, qualifier):  # paper 02, 7: the same with another code and a qualifier
+    return SENSE[:12] + bytes([code, qualifier]) + SENSE[14:]
+
+
+# ---- SMC's READ ELEMENT STATUS: types 1 transport, 2 storage, 4 data transfer; Full is bit 0, Access bit 3
+def element(address, flags):  # 12 bytes, no volume tags, no source
+    return struct.pack('>H', address) + bytes([flags]) + bytes(9)
+
+
+def page(kind, elements):
+    return bytes([kind, 0, 0, 12]) + word(12 * len(elements)) + b''.join(elements)
+
+
+def status(first, count, pages):
+    return struct.pack('>HH', first, count) + word(sum(map(len, pages))) + b''.join(pages)
+
+
+TRANSPORT = page(1, [element(0, 0)])
+# 9 in the drive, 3 in slot 17, 7 in slot 23
+DRIVE = page(4, [element(1, 0x09)])
+SLOTS = [element(16, 0x08), element(17, 0x09), element(18, 0x08), element(19, 0x08), element(20, 0x08), element(21, 0x08), element(22, 0x08),
+         element(23, 0x09)]
+ALL = status(0, 10, [TRANSPORT, DRIVE, page(2, SLOTS)])  # 152 bytes
+
 SAMPLES = [
     # "An unknown message's 1, and 18, stand in the header with no body"
     ('header_unknown', reply(1, 1001, 0x40B, 501, b'', error=1)),
@@ -180,6 +208,23 @@ SAMPLES = [
     # 0x103 too", and for all others but MD5
     ('auth_attr_md5', reply(56, 1056, 0x103, 556, auth_attr(0, MD5, CHALLENGE))),
     ('auth_attr_refused', reply(57, 1057, 0x103, 557, auth_attr(9, NONE))),
+    # paper 02: "status 2 with sense 05h/24h/00h for a CDB under 12 bytes and, moving, 05h/21h/01h .., 05h/3Bh/0Dh .., 05h/3Bh/0Eh .., 05h/53h/02h .."
+    ('check_short', reply(58, 1058, 0x206, 558, execute_cdb(0, 2, 0, b'', sense(0x24, 0x00)))),
+    ('check_element', reply(59, 1059, 0x206, 559, execute_cdb(0, 2, 0, b'', sense(0x21, 0x01)))),
+    ('check_full', reply(60, 1060, 0x206, 560, execute_cdb(0, 2, 0, b'', sense(0x3B, 0x0D)))),
+    ('check_empty', reply(61, 1061, 0x206, 561, execute_cdb(0, 2, 0, b'', sense(0x3B, 0x0E)))),
+    ('check_held', reply(62, 1062, 0x206, 562, execute_cdb(0, 2, 0, b'', sense(0x53, 0x02)))),
+    ('sense_full_14', reply(63, 1063, 0x206, 563, execute_cdb(0, 0, 0, sense(0x3B, 0x0D)[:14], b''))),
+    # "12-byte descriptors by rising address from any start, .. access bits 1 but at the transport; cut to allocation and data-in length"
+    ('status_all', reply(64, 1064, 0x206, 564, execute_cdb(0, 0, 0, ALL, b''))),
+    ('status_cut_101', reply(65, 1065, 0x206, 565, execute_cdb(0, 0, 0, ALL[:101], b''))),
+    ('status_cut_8', reply(66, 1066, 0x206, 566, execute_cdb(0, 0, 0, ALL[:8], b''))),
+    ('status_cut_0', reply(67, 1067, 0x206, 567, execute_cdb(0, 0, 0, b'', b''))),
+    ('status_drive', reply(68, 1068, 0x206, 568, execute_cdb(0, 0, 0, status(1, 1, [DRIVE]), b''))),
+    ('status_from_22', reply(69, 1069, 0x206, 569, execute_cdb(0, 0, 0, status(22, 2, [page(2, SLOTS[6:])]), b''))),
+    ('status_none', reply(70, 1070, 0x206, 570, execute_cdb(0, 0, 0, status(0, 0, []), b''))),
+    # "10 (no tape loaded) at tape open, after 3"; MTIO 6 is answered as `mtio` above
+    ('tape_open_not_loaded', reply(71, 1071, 0x300, 571, error_only(10))),
 ]
 
 

@@ -1,4 +1,4 @@
-/* A login by MD5, logins by text, which are refused, and the accounts listed. Then a backup of 3,000 bytes in records of 1,024, from C: the examples g, h and i
+/* A login by MD5, logins by text, which are refused, and the accounts listed. Cartridges that are moved from place to place. Then a backup of 3,000 bytes in records of 1,024, from C: the examples g, h and i
  * of the rules, with a variable that is given back. Then ends by TCP: a record that comes to the mover from a peer, and a data end that connects to one, with
  * more variables than fit. Each step is checked, and the first that is not as the rules say ends the program with 1. */
 #include "../../include/mossgoblin.h"
@@ -13,6 +13,9 @@ static uint8_t variables[MOSSGOBLIN_STORE_LENGTH];
 static uint8_t out[MOSSGOBLIN_OUTPUT];
 static struct mossgoblin_session session;
 static uint8_t stream[3000];
+
+/* One cartridge, in the drive. */
+static const uint32_t one_cartridge[MOSSGOBLIN_PLACES] = {1};
 
 /* What a host lends to a listen: one address, 10.0.0.1 and port 10,000, with no pairs. */
 static const uint8_t one_address[] = {0, 0, 0, 1, 10, 0, 0, 1, 0, 0, 39, 16, 0, 0, 0, 0};
@@ -60,7 +63,7 @@ static void by_md5(void)
     const uint32_t login[] = {MD5_LOGIN}, by_md5[] = {2}, by_text[] = {1}, by_three[] = {3};
     const uint32_t text_of_md5[] = {1, 4, 0x6E646D70, 4, 0x6E646D70}, text_of_text[] = {1, 1, 0x76000000, 2, 0x70770000};
     uint32_t wrong[] = {MD5_LOGIN};
-    session = mossgoblin_open(0, out, sizeof out).session;
+    session = mossgoblin_open(one_cartridge, 0, out, sizeof out).session;
     check(!session.login.authorized && !session.login.challenged, "a new session has no login, and no challenge");
     ask_lent("client auth by MD5 before a challenge is 4", 4, NULL, 0, false, 0x901, login, 7);
     size_t n = ask_lent("auth attributes of type 1 are 9", 9, NULL, 0, false, 0x103, by_text, 1);
@@ -110,6 +113,61 @@ static void listings(void)
     check(l.code == 1001 && l.len == 0 && to[0] == 'x', "a listing into 95 bytes is refused, and nothing is written");
     l = mossgoblin_accounts(eight, sizeof eight, to, sizeof to);
     check(l.code == 0 && l.len == sizeof to && to[sizeof to - 1] == '\n', "into 96 bytes it is not, and ends with its last line");
+}
+
+#define TAPE0 5, 0x74617065, 0x30000000
+#define CHANGER0 8, 0x6368616E, 0x67657230
+
+/* MOVE MEDIUM: error 0, and this status; with status 2 the extended sense has this code and qualifier. */
+static void moves(const char *what, uint32_t from, uint32_t to, uint32_t status, uint8_t code, uint8_t qualifier)
+{
+    const uint32_t body[] = {0, 0, 0, 12, 0xA5000000, from << 16 | to, 0, 0};
+    const size_t n = ask(what, 0x206, body, 8);
+    if (status == 0)
+        check(n == 48 && word(out + 32) == 0 && word(out + 40) == 0 && word(out + 44) == 0, "with status 0, and no sense");
+    else
+        check(n == 68 && word(out + 32) == 2 && word(out + 44) == 18 && out[48] == 0x70 && out[50] == 5 && out[60] == code && out[61] == qualifier,
+              "with status 2, and its sense");
+}
+
+/* 7 in the drive and 3 in slot 17: what holds the tape holds the drive too; then the two change their places. */
+static void changer(void)
+{
+    uint32_t slots[MOSSGOBLIN_PLACES] = {7, 0, 3, 0, 0, 0, 0, 0, 7};
+    const uint32_t tape[] = {TAPE0, 1}, login[] = {MD5_LOGIN}, by_md5[] = {2}, name[] = {CHANGER0}, off[] = {6, 0};
+    /* all elements from address 0 on, and 152 bytes of them */
+    const uint32_t elements[] = {0, 0, 152, 12, 0xB8000000, 0x000A0000, 0x00980000, 0};
+    struct mossgoblin_answer a = mossgoblin_open(slots, 0, out, sizeof out);
+    check(a.code == 1002 && a.len == 0 && a.session.closed && a.session.changer.slots[0] == 0, "open: a list that names a cartridge twice is refused");
+    slots[8] = 0;
+    session = mossgoblin_open(slots, 0, out, sizeof out).session;
+    check(memcmp(session.changer.slots, slots, sizeof slots) == 0, "a session has the list that it was opened with");
+    ask("auth attributes", 0x103, by_md5, 1);
+    ask("client auth", 0x901, login, 7);
+    ask("tape open", 0x300, tape, 4);
+    ask("changer open", 0x200, name, 3);
+    moves("from the drive while the tape is open is refused", 1, 16, 2, 0x53, 0x02);
+    moves("into a full drive is refused", 17, 1, 2, 0x3B, 0x0D);
+    moves("from an empty slot is refused", 16, 18, 2, 0x3B, 0x0E);
+    moves("to an element that is none is refused", 17, 24, 2, 0x21, 0x01);
+    check(memcmp(session.changer.slots, slots, sizeof slots) == 0, "the list is as it was");
+    size_t n = ask("MTIO 6", 0x303, off, 2);
+    check(n == 36 && word(out + 32) == 0 && !session.tape.opened && session.changer.slots[0] == 7, "the tape is closed, and its cartridge in the drive");
+    moves("from the drive to slot 16", 1, 16, 0, 0, 0);
+    check(session.changer.slots[0] == 0 && session.changer.slots[1] == 7 && session.changer.slots[2] == 3, "7 is in slot 16");
+    ask_lent("tape open with an empty drive is 10", 10, NULL, 0, false, 0x300, tape, 4);
+    n = ask("element status", 0x206, elements, 8);
+    check(n == 28 + 16 + 152 + 4 && word(out + 40) == 152 && word(out + 44) == 10 && word(out + 48) == 144, "ten elements, in 144 bytes behind the first eight");
+    /* behind the eight come the pages of the transport (20 bytes), the drive (20) and the slots; a flag stands in byte 2 of each descriptor */
+    check(out[44 + 28] == 4 && out[44 + 38] == 0x08 && out[44 + 48] == 2 && out[44 + 58] == 0x09 && out[44 + 70] == 0x09 && out[44 + 82] == 0x08,
+          "the drive is empty, slots 16 and 17 are full, and slot 18 is empty");
+    moves("from slot 17 into the drive", 17, 1, 0, 0, 0);
+    check(session.changer.slots[0] == 3 && session.changer.slots[2] == 0, "3 is in the drive: its image is lent from here on");
+    ask("tape open", 0x300, tape, 4);
+    a.session = session;
+    a.session.changer.slots[0] = 0;
+    a = mossgoblin_end_method(a.session, true, 0, out, sizeof out);
+    check(a.code == 1002 && a.len == 0, "an open tape beside an empty drive is a session that no call gives");
 }
 
 static struct mossgoblin_moved feed(const uint8_t *stream, size_t n, bool last)
@@ -248,9 +306,11 @@ int main(void)
     by_md5();
     listings();
 
-    struct mossgoblin_answer a = mossgoblin_open(0, out, sizeof out - 1);
-    check(a.code == 1001 && a.len == 0 && a.session.closed, "open: a short output is refused");
-    a = mossgoblin_open(0, out, sizeof out);
+    changer();
+
+    struct mossgoblin_answer a = mossgoblin_open(one_cartridge, 0, out, sizeof out - 1);
+    check(a.code == 1001 && a.len == 0 && a.session.closed && a.session.changer.slots[0] == 0, "open: a short output is refused");
+    a = mossgoblin_open(one_cartridge, 0, out, sizeof out);
     check(a.code == 0 && a.len == 40 && word(out + 16) == 0x502, "open");
     check(a.session.mover.size == MOSSGOBLIN_FIRST_SIZE, "open: the first record size");
     session = a.session;

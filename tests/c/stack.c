@@ -286,7 +286,8 @@ static size_t space_over_both(void)
 
 static void log_in(void)
 {
-    session = mossgoblin_open(0, out, sizeof out).session;
+    static const uint32_t slots[MOSSGOBLIN_PLACES] = {1, 0, 2};
+    session = mossgoblin_open(slots, 0, out, sizeof out).session;
     ASK(0x900, 4);
     ASK(0x108);
     ASK(0x103, 2);
@@ -294,6 +295,21 @@ static void log_in(void)
     ASK(0x102);
     ASK(0x108);
     make_table(4);
+    ASK(0x300, 5, 0x74617065, 0x30000000, 1);
+}
+
+/* The status of all elements, a move that is refused, one from slot to slot, and the tape off line and open again. */
+static void change(void)
+{
+    ASK(0x200, 8, 0x6368616E, 0x67657230);
+    ASK(0x206, 0, 0, 152, 12, 0xB8000000, 0x000A0000, 0x00980000, 0);
+    check(answer.len == 28 + 16 + 152 + 4, "the status of the elements is not whole");
+    ASK(0x206, 0, 0, 0, 12, 0xA5000000, 0x00010010, 0, 0);
+    check(session.changer.slots[0] == 1, "the drive is changed while the tape is open");
+    ASK(0x206, 0, 0, 0, 12, 0xA5000000, 0x00110010, 0, 0);
+    check(session.changer.slots[1] == 2 && session.changer.slots[2] == 0, "nothing is moved from slot to slot");
+    space(6, 0, 0);
+    check(!session.tape.opened, "the tape is not off line");
     ASK(0x300, 5, 0x74617065, 0x30000000, 1);
 }
 
@@ -370,6 +386,7 @@ static void by_tcp(void)
 int main(void)
 {
     log_in();
+    change();
     size_t spacing = space_over_both();
     back_up();
     recover();

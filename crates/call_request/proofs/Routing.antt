@@ -3,10 +3,13 @@ use Prim.Native.Nat.{ℕ, _≤_}
 use mathlib.Core.Bool.{Bool, true, false}
 use mathlib.Core.List.{List, []}
 use mathlib.Core.Path.{_≡_, refl, sym, ap, _∙_}
-use lib.ListN.{length, drop}
+use native.Mathlib.Omega.{arith}
+use lib.ListN.{length, take, drop}
 use lib.Dec.{eqb}
 use Rattle.codes.specs.Codes.{storeLength}
 use Rattle.xdr.specs.Choose.{choose}
+use Rattle.changer_elements.specs.declared.Asked.{Asked}
+use Rattle.changer_status.specs.Writers.{HandsOver}
 use Rattle.wire_frame.specs.Frame.{wellFramed}
 use Rattle.wire_frame.specs.Messages.{rowOf}
 use Rattle.wire_frame.specs.declared.Message.{Message}
@@ -20,19 +23,26 @@ use Rattle.wire_replies.specs.declared.Notice.the-variants as Notice
 use Rattle.wire_replies.specs.Fit.{Sendable}
 use Rattle.wire_requests.specs.declared.DataRequest.{DataRequest}
 use Rattle.wire_requests.specs.declared.DataRequest.the-variants as DataRequest
+use Rattle.wire_requests.specs.declared.ScsiRequest.{ScsiRequest}
 use Rattle.wire_requests.specs.declared.TapeRequest.{TapeRequest}
 use Rattle.wire_requests.specs.declared.MoverRequest.{MoverRequest}
 use Rattle.rules_parts.specs.declared.types.Mover.{Mover}
+use Rattle.rules_parts.specs.declared.types.Changer.{Changer}
 use Rattle.rules_parts.specs.declared.types.Session.{Session}
 use Rattle.rules_parts.specs.Names.{leastRoom}
 use Rattle.rules.specs.declared.Guard.the-variants.{Stop, Go}
 use Rattle.rules.specs.TapeService.{Loaded, TapePart, deviceStep, withLoaded, withMover, tapeStep, moverPartStep}
+use Rattle.rules.specs.ScsiService.{scsiStep, scsiShown}
 use Rattle.rules.specs.DataService.{variablesAfter, dataShown}
 use Rattle.rules.specs.MoverService.{moverStep}
 use Rattle.rules.specs.Judge.{Outcome, refuse, accept, onto, Accepts}
 use Rattle.rules.specs.Answer.{Kept, Lent, Answered, Done, silent, guarded, answered, requested, replying, halting, noticed, refusing, refusedIn, isUnread, settled, requestIn, messageIn, judged}
 use Rattle.rules.specs.Answer.{held, roomOf, isLocked, isClose, closing, outcome}
 use Rattle.rules.proofs.Guarding.{when-stopped, when-goes, roomy, stored}
+use Rattle.rules.proofs.Sending.{scsi-sends}
+use Rattle.serve_changer.specs.declared.ChangerChange.{ChangerChange}
+use Rattle.serve_changer.specs.declared.ScsiDone.the-variants as ScsiDone
+use Rattle.serve_changer.specs.Done.{Tells}
 use Rattle.rules.proofs.Calls.{judged-locked, judged-free}
 use Rattle.rules_parts.specs.declared.types.Answer.{Answer}
 use Rattle.call_sending.specs.Call.{CallTold}
@@ -64,14 +74,15 @@ module _ {A : Type 0} (k : Kept) (time : ℕ) (r : List ℕ) (q : Request) (put 
 
 -- ---- the service TAPE and MOVER: what an interface of it came to, as the service's own outcome
 module _ (p : TapePart) where
-  pub tape-refuses : (q : TapeRequest) (body : List ℕ) (e : ℕ) → deviceStep (p .mover .state) (p .tape) (p .image) q body ≡ refuse e → refuse e ≡ tapeStep p q body
+  pub tape-refuses : (drive : ℕ) (q : TapeRequest) (body : List ℕ) (e : ℕ) → deviceStep drive (p .mover .state) (p .tape) (p .image) q body ≡ refuse e
+      → refuse e ≡ tapeStep drive p q body
   unfolding tapeStep onto
-  tape-refuses q body e h = rw h
+  tape-refuses drive q body e h = rw h
 
-  pub tape-accepts : (q : TapeRequest) (body : List ℕ) (reply : Reply) (s : Loaded) → deviceStep (p .mover .state) (p .tape) (p .image) q body ≡ accept reply s
-      → accept reply (withLoaded p s) ≡ tapeStep p q body
+  pub tape-accepts : (drive : ℕ) (q : TapeRequest) (body : List ℕ) (reply : Reply) (s : Loaded)
+      → deviceStep drive (p .mover .state) (p .tape) (p .image) q body ≡ accept reply s → accept reply (withLoaded p s) ≡ tapeStep drive p q body
   unfolding tapeStep onto
-  tape-accepts q body reply s h = rw h
+  tape-accepts drive q body reply s h = rw h
 
   pub mover-refuses : (q : MoverRequest) (list : List ℕ) (e : ℕ) → refuse e ≡ moverStep (p .mover) (p .tape) q list → refuse e ≡ moverPartStep p q list
   unfolding moverPartStep onto
@@ -129,7 +140,7 @@ room-is k l h = h
 pub room-there : (k : Kept) (l : Lent) {n : ℕ} → n ≡ roomOf k l → leastRoom ≤ n → (leastRoom ≤ l .room) × (length (k .variables) ≡ storeLength)
 room-there k l h g = let z : leastRoom ≤ roomOf k l = rw h at g in (roomy k l z, stored k l z)
 
--- ---- the reply of a data request, by the bytes that it shows
+-- ---- a reply by the bytes that it shows
 pub sends-as : (reply : Reply) {x y : List ℕ} → x ≡ y → Sendable reply y → Sendable reply x
 sends-as reply e t = rw e t
 
@@ -137,7 +148,17 @@ pub shows-as : (r : List ℕ) (time : ℕ) (reply : Reply) (k : Kept) {a : Answe
     → CallTold (replying r time reply x k) a image variables l l′ → CallTold (replying r time reply y k) a image variables l l′
 shows-as r time reply k e c = rw e at c
 
--- what it shows of the store is not changed by the request
+-- of the changer: a reply that changes something shows none, and the status of elements shows what was written
+pub change-sends : (tape : Bool) (c : Changer) (q : ScsiRequest) (body : List ℕ) (reply : Reply) (change : ChangerChange)
+    → Tells c (scsiStep tape c q body) (scsiShown q body (c .slots)) (ScsiDone.Accept reply change) → Sendable reply []
+change-sends tape c q body reply change t =
+    rw (t .1) at (accepted-says (λ (r : Reply) _. Sendable r (scsiShown q body (c .slots))) _ _ _ (sym (t .0)) (scsi-sends tape c q body))
+
+pub status-sends : (a : Asked) (slots : List ℕ) (n : ℕ) (l : List ℕ) → HandsOver a slots n l → Sendable Reply.Elements (take n l)
+unfolding Sendable
+status-sends a slots n l h = rw (h .bytes) (let e = h .end in let f = h .few in omega arith)
+
+-- of a data request: what it shows of the store is not changed by the request
 shown-after : (q : DataRequest) (body list v : List ℕ) → dataShown q list (variablesAfter q body v) ≡ dataShown q list v
 unfolding dataShown variablesAfter
 shown-after DataRequest.State body list v = refl

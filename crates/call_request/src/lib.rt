@@ -8,6 +8,8 @@ ghost use lib.Dec.{eqb};
 ghost use Rattle.codes.specs.Codes.{storeLength};
 ghost use Rattle.xdr.specs.Choose.{choose};
 ghost use Rattle.xdr.specs.Xdr.{word};
+ghost use Rattle.changer_elements.specs.Slots.{inDrive};
+ghost use Rattle.changer_elements.specs.Status.{statusData};
 ghost use Rattle.wire_frame.specs.Frame.{bodyOf};
 ghost use Rattle.wire_requests.specs.Within.{textsWithin};
 ghost use Rattle.wire_requests.specs.declared.Request.{Request};
@@ -17,7 +19,7 @@ ghost use Rattle.wire_replies.specs.Fit.{Sendable};
 ghost use Rattle.rules.specs.Judge.{Accepts, onto};
 ghost use Rattle.rules.specs.DataService.{dataStep, dataShown};
 ghost use Rattle.rules.specs.TapeService.{tapeStep, moverPartStep};
-ghost use Rattle.rules.specs.ScsiService.{scsiStep};
+ghost use Rattle.rules.specs.ScsiService.{scsiStep, scsiShown};
 ghost use Rattle.rules.specs.Joint.{jointStep};
 ghost use Rattle.rules.specs.Connection.{connectStep};
 ghost use Rattle.rules.specs.Answer.{held, closing, replying, tapePart, withData, withPart, withTape, withChanger, withLogin, withEnds, requestIn, outcome, isUnread, settled, isClose, judged, answered};
@@ -25,6 +27,7 @@ ghost use Rattle.rules.specs.Calls.{opening};
 ghost use Rattle.serve_connect.specs.Done.{outcomeOf};
 ghost use Rattle.call_sending.specs.Call.{CallTold, Ready};
 ghost use Rattle.call_request.specs.Call.{lent, Sends};
+use changer_elements::Asked;
 use rules::Guard;
 use rules_parts::types::Answer;
 use rules_parts::types::Session;
@@ -115,22 +118,36 @@ fn data_call(
     }
 }
 
-fn scsi_call(s: Session, q: ScsiRequest, input: &[u8], time: u32, out: &mut [u8]) -> Answer
-    requires { ⌜ Ready (now input) (now out) × textsWithin (bodyOf (now input)) (Request.Scsi q) ⌝ }
-    ensures { λ r. ⌜ ((image variables : List ℕ) → CallTold (settled (held s image variables) time (now (input .entry)) (Request.Scsi q) (onto (withChanger (held s image variables)) (scsiStep (s .changer) q (bodyOf (now (input .entry)))))) r image variables (now (out .entry)) (now (out .exit))) ⌝ }
+// The reply to READ ELEMENT STATUS, which shows the elements. Nothing changes but the counter.
+fn status_reply(s: Session, asked: Asked, input: &[u8], time: u32, out: &mut [u8]) -> Answer
+    requires { ⌜ Ready (now input) (now out) ⌝ }
+    ensures { λ r. ⌜ ((image variables : List ℕ) → CallTold (replying (now (input .entry)) time Reply.Elements (statusData asked (s .changer .slots)) (held s image variables)) r image variables (now (out .entry)) (now (out .exit))) ⌝ }
 {
     let c = s.changer;
-    let done = serve_changer::serve(c, q, &input[28..]);
+    let slots = c.slots;
+    let mut status = [0u8; 152];
+    let n = changer_status::write_status(&mut status, asked, slots);
+    call_sending::finish(s, input, time, Reply::Elements, &status[..n], out)
+}
+
+fn scsi_call(s: Session, q: ScsiRequest, input: &[u8], time: u32, out: &mut [u8]) -> Answer
+    requires { ⌜ Ready (now input) (now out) × textsWithin (bodyOf (now input)) (Request.Scsi q) ⌝ }
+    ensures { λ r. ⌜ ((image variables : List ℕ) → CallTold (settled (held s image variables) time (now (input .entry)) (Request.Scsi q) (onto (withChanger (held s image variables) (scsiShown q (bodyOf (now (input .entry))) (s .changer .slots))) (scsiStep (s .tape .opened) (s .changer) q (bodyOf (now (input .entry)))))) r image variables (now (out .entry)) (now (out .exit))) ⌝ }
+{
+    let c = s.changer;
+    let t = s.tape;
+    let done = serve_changer::serve(t.opened, c, q, &input[28..]);
     match done {
         ScsiDone::Refuse(e) => call_sending::refuse(s, e, input, time, out),
-        ScsiDone::Accept(reply, next) => {
+        ScsiDone::Accept(reply, change) => {
+            let next = serve_changer::changed(c, change);
             let g = s.login;
             let d = s.source;
             let m = s.mover;
-            let t = s.tape;
             let session = s.with_parts(g, d, m, t, next);
             call_sending::finish(session, input, time, reply, b"", out)
         }
+        ScsiDone::Reports(asked) => status_reply(s, asked, input, time, out),
     }
 }
 
@@ -143,17 +160,18 @@ fn tape_call(
     out: &mut [u8],
 ) -> Answer
     requires { ⌜ Ready (now input) (now out) × textsWithin (bodyOf (now input)) (Request.Tape q) ⌝ }
-    ensures { λ r. ⌜ ((variables : List ℕ) → CallTold (settled (held s (now (image .entry)) variables) time (now (input .entry)) (Request.Tape q) (onto (withTape (held s (now (image .entry)) variables)) (tapeStep (tapePart (held s (now (image .entry)) variables)) q (bodyOf (now (input .entry)))))) r (now (image .exit)) variables (now (out .entry)) (now (out .exit))) ⌝ }
+    ensures { λ r. ⌜ ((variables : List ℕ) → CallTold (settled (held s (now (image .entry)) variables) time (now (input .entry)) (Request.Tape q) (onto (withTape (held s (now (image .entry)) variables)) (tapeStep (inDrive (s .changer .slots)) (tapePart (held s (now (image .entry)) variables)) q (bodyOf (now (input .entry)))))) r (now (image .exit)) variables (now (out .entry)) (now (out .exit))) ⌝ }
 {
     let m = s.mover;
     let t = s.tape;
-    let done = serve_tape::serve(m.state, t, image, q, &input[28..]);
+    let c = s.changer;
+    let slots = c.slots;
+    let done = serve_tape::serve(slots[0], m.state, t, image, q, &input[28..]);
     match done {
         TapeDone::Refuse(e) => call_sending::refuse(s, e, input, time, out),
         TapeDone::Accept(reply, next) => {
             let g = s.login;
             let d = s.source;
-            let c = s.changer;
             let session = s.with_parts(g, d, m, next, c);
             call_sending::finish(session, input, time, reply, image, out)
         }
@@ -346,11 +364,11 @@ fn framed_call(
     )
 }
 
-// A new session: the notice of the connection status is its message 1.
-pub fn open(time: u32, out: &mut [u8]) -> Answer
-    ensures { λ r. ⌜ CallTold (opening time (length (now (out .entry)))) r [] [] (now (out .entry)) (now (out .exit)) ⌝ }
+// A new session with a slot list: the notice of the connection status is its message 1.
+pub fn open(slots: [u32; 9], time: u32, out: &mut [u8]) -> Answer
+    ensures { λ r. ⌜ CallTold (opening slots time (length (now (out .entry)))) r [] [] (now (out .entry)) (now (out .exit)) ⌝ }
 {
-    call_sending::begin(time, out)
+    call_sending::begin(slots, time, out)
 }
 
 // One request: the session, the accounts, the challenge to give a client that asks for one, the list that a listen by TCP answers, whether the

@@ -6,7 +6,7 @@ ghost use lib.ListN.{length};
 ghost use Rattle.wire_replies.specs.Fit.{Sendable};
 ghost use Rattle.rules_parts.specs.Names.{leastRoom};
 ghost use Rattle.rules.specs.Answer.{held, Answered, silent, closing, replying, refusedIn, noticed, halting};
-ghost use Rattle.rules.specs.Calls.{opening};
+ghost use Rattle.rules.specs.Calls.{unopenedSession, opening};
 ghost use Rattle.call_sending.specs.Call.{CallTold, Ready};
 use rules_parts::types::Answer;
 use rules_parts::types::Session;
@@ -91,16 +91,26 @@ pub fn quiet(code: u32, s: Session) -> Answer
     }
 }
 
-// A new session: the notice of the connection status is its message 1.
-pub fn begin(time: u32, out: &mut [u8]) -> Answer
-    ensures { λ r. ⌜ CallTold (opening time (length (now (out .entry)))) r [] [] (now (out .entry)) (now (out .exit)) ⌝ }
+// A refused open: a session that was never opened, closed and with an empty slot list.
+fn unopened(code: u32) -> Answer
+    ensures { λ r. ⌜ ((l : List ℕ) → CallTold (silent code (held unopenedSession [] [])) r [] [] l l) ⌝ }
+{
+    let session = Session::begins(true, 1, [0; 9]);
+    quiet(code, session)
+}
+
+// A new session with a slot list: the notice of the connection status is its message 1.
+pub fn begin(slots: [u32; 9], time: u32, out: &mut [u8]) -> Answer
+    ensures { λ r. ⌜ CallTold (opening slots time (length (now (out .entry)))) r [] [] (now (out .entry)) (now (out .exit)) ⌝ }
 {
     if out.len() < codes::LARGEST_MESSAGE {
-        let unopened = Session::begins(true, 1);
-        return quiet(codes::SHORT_OUTPUT, unopened);
+        return unopened(codes::SHORT_OUTPUT);
+    }
+    if !changer_moves::names_none_twice(slots) {
+        return unopened(codes::BROKEN_SESSION);
     }
     let len = wire_writing::write_notice(out, 0, 1, time, Notice::Connected);
-    let session = Session::begins(false, 2);
+    let session = Session::begins(false, 2, slots);
     Answer {
         code: 0,
         len,

@@ -20,12 +20,12 @@ use rules_parts::types::Moved;
 use rules_parts::types::Session;
 use wire_layouts::Addresses;
 
-// A new session.
+// A new session with a slot list, the drive first.
 #[no_mangle]
-pub extern "C" fn mossgoblin_open(time: u32, out: &mut [u8]) -> Answer
-    ensures { λ r. ⌜ CallTold (opening time (length (now (out .entry)))) r [] [] (now (out .entry)) (now (out .exit)) ⌝ }
+pub extern "C" fn mossgoblin_open(slots: &[u32; 9], time: u32, out: &mut [u8]) -> Answer
+    ensures { λ r. ⌜ CallTold (opening (now (slots .entry)) time (length (now (out .entry)))) r [] [] (now (out .entry)) (now (out .exit)) ⌝ }
 {
-    call_request::open(time, out)
+    call_request::open(*slots, time, out)
 }
 
 // One request: the session, the accounts, the challenge for a client that asks for one, the list of addresses for a listen by TCP, whether the

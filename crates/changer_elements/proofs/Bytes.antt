@@ -125,7 +125,7 @@ pub asked-is : {kind kind′ start start′ number number′ cut cut′ : ℕ} �
     ≡ Reports (record { kind = kind′; start = start′; number = number′; cut = cut′ })
 asked-is h k m n = cc
 
-least-min : (a b : ℕ) → min a b ≡ least a b
+pub least-min : (a b : ℕ) → min a b ≡ least a b
 unfolding least
 least-min a b = by-test (λ (k : ℕ). min a b ≡ k) (ltb a b) a b (λ h. let z = ltb-true a b h in omega arith) (λ h. let z = ltb-false a b h in omega arith)
 

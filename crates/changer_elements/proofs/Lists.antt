@@ -7,14 +7,14 @@ use mathlib.Core.Path.{_≡_, refl, sym, ap, _∙_}
 use native.Mathlib.Omega.{arith}
 use native.Mathlib.Nat.{sub-zero}
 use lib.Dec.{leb}
-use lib.ListN.{length, take, length-append, length-take}
+use lib.ListN.{length, getD, take, length-append, length-take}
 use borrow.Author.Tests.{leb-true, eqb-true}
 use Rattle.xdr.specs.Choose.{choose}
 use Rattle.xdr.proofs.Tests.{eqb-yes, eqb-no}
 use Rattle.xdr_opaque.specs.Put.{Each}
 use Rattle.changer_elements.specs.declared.Asked.{Asked}
 use Rattle.changer_elements.specs.Status.{elements, typeOf, isAsked, those, reported, isType, ofType}
-use Rattle.changer_elements.specs.StatusHolds.{RisingFrom}
+use Rattle.changer_elements.specs.StatusHolds.{RisingFrom, Among}
 use Rattle.changer_elements.proofs.Laws.{both, by-cases}
 
 -- ---- those for which a test holds
@@ -117,6 +117,49 @@ unfolding reported
 reported-rise a =
     rising-from 0 (a .start) (reported a) (rising-take (a .number) 0 (those (isAsked a) elements) (rising-those (isAsked a) 0 elements elements-rise))
     (each-map (λ (e : ℕ). isAsked a e ≡ true) (λ (e : ℕ). a .start ≤ e) (reported a) (asked-from a) (reported-asked a))
+
+-- ---- the first of those that are asked for
+among-head : (x f : ℕ) (es : List ℕ) → x ≡ f → Among f (x ∷ es)
+among-head x f es q = record { place = 0; within = omega arith; there = q }
+
+among-tail : (x f : ℕ) (es : List ℕ) → Among f es → Among f (x ∷ es)
+among-tail x f es m = record { place = suc (m .place); within = omega (arith, m .within); there = m .there }
+
+-- by the place: one for which the test holds is kept
+kept : (p : ℕ → Bool) (es : List ℕ) (f i : ℕ) → i < length es → getD es i 0 ≡ f → p f ≡ true → Among f (those p es)
+unfolding those choose
+kept p [] f i h q t = absurd (omega arith)
+kept p (x ∷ es) f zero h q t = rw (ap p q ∙ t) (among-head x f (those p es) q)
+kept p (x ∷ es) f (suc i) h q t =
+    let rest : Among f (those p es) = kept p es f i (omega arith) q t in
+    by-cases (p x) (λ y. rw y (among-tail x f (those p es) rest)) (λ y. rw y rest)
+
+each-at : (P : ℕ → Type 0) (es : List ℕ) (i : ℕ) → i < length es → Each P es → P (getD es i 0)
+each-at P [] i h k = absurd (omega arith)
+each-at P (x ∷ es) zero h k = k .0
+each-at P (x ∷ es) (suc i) h k = each-at P es i (omega arith) (k .1)
+
+-- what is smaller than one of the first n of a rising list is one of them
+taken : (n b : ℕ) (es : List ℕ) → RisingFrom b es → (e f i j : ℕ) → i < length (take n es) → getD (take n es) i 0 ≡ e →
+    j < length es → getD es j 0 ≡ f → f < e → Among f (take n es)
+taken zero b es r e f i j h q k m l = absurd (omega arith)
+taken (suc n) b [] r e f i j h q k m l = absurd (omega arith)
+taken (suc n) b (x ∷ es) r e f i zero h q k m l = among-head x f (take n es) m
+taken (suc n) b (x ∷ es) r e f zero (suc j) h q k m l =
+    let behind = rising-each (suc x) es (r .1) in
+    let above : suc x ≤ getD es j 0 = each-at (λ (y : ℕ). suc x ≤ y) es j (omega arith) behind in
+    absurd (omega arith)
+taken (suc n) b (x ∷ es) r e f (suc i) (suc j) h q k m l =
+    among-tail x f (take n es) (taken n (suc x) es (r .1) e f i j (omega arith) q (omega arith) m l)
+
+pub reported-first : (a : Asked) (e f : ℕ) → Among e (reported a) → Among f elements → isAsked a f ≡ true → f < e →
+    Among f (reported a)
+unfolding reported
+reported-first a e f me mf t l =
+    let es : List ℕ = those (isAsked a) elements in
+    let m : Among f es = kept (isAsked a) elements f (mf .place) (mf .within) (mf .there) t in
+    let rise : RisingFrom 0 es = rising-those (isAsked a) 0 elements elements-rise in
+    taken (a .number) 0 es rise e f (me .place) (m .place) (me .within) (me .there) (m .within) (m .there) l
 
 pub those-length : (p : ℕ → Bool) (es : List ℕ) → length (those p es) ≤ length es
 unfolding those choose

@@ -15,7 +15,7 @@ use Rattle.changer_elements.specs.declared.MoveDone.{MoveDone}
 use Rattle.changer_elements.specs.declared.MoveDone.the-variants.{Refused, Moves}
 use Rattle.changer_elements.specs.Elements.{hasPlace, placeOf, isFull, half}
 use Rattle.changer_elements.specs.Slots.{moved, times}
-use Rattle.changer_elements.specs.Move.{shortCdb, wrongElement, destinationFull, sourceEmpty, driveHeld, isMovable, isHeld, judgeMove, moveMedium, slotsAfter}
+use Rattle.changer_elements.specs.Move.{isMovable, isHeld, judgeMove, moveMedium, slotsAfter}
 use Rattle.changer_elements.specs.MovesHold.{PlacesHold, Movable, MovesHold}
 use Rattle.changer_elements.proofs.Laws.{both, by-cases, slot-between, place-drive, place-slot, full-yes, full-no, fields-are}
 use Rattle.changer_elements.proofs.Counts.{moved-times, moved-to, moved-from, moved-other}
@@ -41,7 +41,8 @@ unfolding hasPlace
 no-between e h k = sym (pick-else _ (eqb-no (λ (q : e ≡ 1). omega arith)) (pick-else _ (leb-no k) refl))
 
 -- the place of the drive is 0, and that of a slot is not
-drive-or-slot : {A : Type 0} (e : ℕ) → hasPlace e ≡ true → (e ≡ 1 → placeOf e ≡ 0 → A) → (16 ≤ e → e ≤ 23 → placeOf e ≡ e - 15 → A) → A
+pub drive-or-slot : {A : Type 0} (e : ℕ) → hasPlace e ≡ true → (e ≡ 1 → placeOf e ≡ 0 → A) →
+    (16 ≤ e → e ≤ 23 → placeOf e ≡ e - 15 → A) → A
 drive-or-slot e h f g =
     by-cases (eqb e 1)
     (λ p. let d = eqb-true e 1 p in f d (sym (place-drive e d)))
@@ -70,7 +71,7 @@ places-hold =
     }
 
 -- ---- one move
--- a test that does not refuse
+-- a test that does not refuse, whatever its sense
 passes : (b : Bool) (s : Sense) {o : MoveDone} {from to : ℕ} → choose b (Refused s) o ≡ Moves from to → (b ≡ false) × (o ≡ Moves from to)
 unfolding choose
 passes true s h = absurd (let z : _≡_ {A = ℕ} 0 1 = cc in omega arith)
@@ -94,11 +95,11 @@ is-free opened source destination h o =
 only-so : (cdb slots : List ℕ) (opened : Bool) (from to : ℕ) → moveMedium cdb slots opened ≡ Moves from to → Movable cdb slots opened
 unfolding moveMedium judgeMove isMovable
 only-so cdb slots opened from to h =
-    let first = passes (ltb (length cdb) 12) shortCdb h in
-    let second = passes (not (isMovable (half cdb 2) (half cdb 4) (half cdb 6))) wrongElement (first .1) in
-    let third = passes (isFull slots (half cdb 6)) destinationFull (second .1) in
-    let fourth = passes (not (isFull slots (half cdb 4))) sourceEmpty (third .1) in
-    let fifth = passes (isHeld opened (half cdb 4) (half cdb 6)) driveHeld (fourth .1) in
+    let first = passes (ltb (length cdb) 12) _ h in
+    let second = passes (not (isMovable (half cdb 2) (half cdb 4) (half cdb 6))) _ (first .1) in
+    let third = passes (isFull slots (half cdb 6)) _ (second .1) in
+    let fourth = passes (not (isFull slots (half cdb 4))) _ (third .1) in
+    let fifth = passes (isHeld opened (half cdb 4) (half cdb 6)) _ (fourth .1) in
     let named = both (eqb (half cdb 2) 0) (yes (second .0)) in
     let ends = both (hasPlace (half cdb 4)) (named .1) in
     record {

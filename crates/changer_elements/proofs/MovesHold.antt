@@ -10,6 +10,7 @@ use Rattle.changer_elements.specs.Move.{moveMedium}
 use Rattle.changer_elements.specs.MovesHold.{InOnePlace, MoveCall, afterMove, afterMoves, ListHolds, ElementsHold}
 use Rattle.changer_elements.proofs.Counts.{moved-length, in-one-place, times-some, names-hold}
 use Rattle.changer_elements.proofs.Moves.{places-hold, goes, goes-times, moves-hold, by-outcome}
+use Rattle.changer_elements.proofs.Senses.{senses-hold}
 use Rattle.changer_elements.proofs.Staying.{none-twice-after, drive-stays, drive-after, in-drive}
 
 one-length : (slots : List ℕ) (m : MoveCall) → length (afterMove slots m) ≡ length slots
@@ -59,4 +60,11 @@ lists-hold =
     }
 
 pub elements-hold : ElementsHold
-elements-hold = record { elements = places-hold; names = names-hold; moves = moves-hold; lists = lists-hold }
+elements-hold =
+    record {
+      elements = places-hold;
+      names = names-hold;
+      moves = moves-hold;
+      senses = senses-hold;
+      lists = lists-hold;
+    }

@@ -1,29 +1,38 @@
 -- What holds of every status: by the laws of lists and bytes. Assumes nothing.
-use Prim.Native.Nat.{ℕ, suc, _+_, _*_, _%_, _≤_, _<_}
+use Prim.Native.Nat.{ℕ, suc, _+_, _*_, _/_, _%_, _≤_, _<_}
 use mathlib.Core.Bool.{true}
 use mathlib.Core.List.{List, [], _∷_}
 use mathlib.Core.Path.{_≡_, refl, sym, _∙_}
 use native.Mathlib.Omega.{arith}
 use lib.Dec.{eqb}
-use lib.ListN.{length, getD}
+use lib.ListN.{length, getD, length-take}
 use lib.Seq.{take-all}
-use Rattle.xdr.specs.Choose.{choose}
-use Rattle.xdr.proofs.Tests.{pick-else, ltb-no}
+use Rattle.xdr.specs.Choose.{choose, least}
+use Rattle.xdr.proofs.Tests.{pick-if, pick-else, ltb-no}
 use Rattle.xdr_opaque.specs.Put.{Each}
-use Rattle.changer_elements.specs.Elements.{isFull, half}
+use Rattle.changer_elements.specs.Elements.{hasPlace, placeOf, isFull, half}
 use Rattle.changer_elements.specs.declared.Asked.{Asked}
 use Rattle.changer_elements.specs.declared.StatusDone.the-variants.{Reports}
 use Rattle.changer_elements.specs.Status.{elements, typeOf, allocation, askedBy, readStatus, isAsked, those, reported, be16, be24, flagsOf, descriptor}
 use Rattle.changer_elements.specs.Status.{descriptors, ofType, pageOf, pages, firstOf, statusOf, statusData}
 use Rattle.changer_elements.specs.StatusHolds.{RisingFrom, WhichHold, BytesHold, StatusHolds}
-use Rattle.changer_elements.proofs.Lists.{each-map, rising-each, reported-asked, asked-kind, reported-rise, reported-few, reported-small, reported-most, reported-in-order, reported-types}
-use Rattle.changer_elements.proofs.Bytes.{descriptors-length, status-length, pages-most, status-most, cut-length, asked-is}
-use Rattle.changer_elements.proofs.Laws.{by-cases}
+use Rattle.changer_elements.proofs.Lists.{each-map, rising-each, reported-asked, asked-kind}
+use Rattle.changer_elements.proofs.Lists.{reported-rise, reported-first, reported-few, reported-small}
+use Rattle.changer_elements.proofs.Lists.{reported-most, reported-in-order, reported-types}
+use Rattle.changer_elements.proofs.Bytes.{descriptors-length, status-length, pages-most, status-most}
+use Rattle.changer_elements.proofs.Bytes.{least-min, cut-length, asked-is}
+use Rattle.changer_elements.proofs.Laws.{by-cases, full-yes, full-no}
+use Rattle.changer_elements.proofs.Moves.{drive-or-slot, places-hold}
 
 -- ---- which elements
 all : (a : Asked) → length (those (isAsked a) elements) ≤ a .number → reported a ≡ those (isAsked a) elements
 unfolding reported
 all a h = take-all (a .number) (those (isAsked a) elements) h
+
+as-many : (a : Asked) → length (reported a) ≡ least (a .number) (length (those (isAsked a) elements))
+unfolding reported
+as-many a =
+    length-take (a .number) (those (isAsked a) elements) ∙ least-min (a .number) (length (those (isAsked a) elements))
 
 -- an element is of one of three types
 three-types : {A : Type 0} (e k : ℕ) → typeOf e ≡ k → (k ≡ 1 → A) → (k ≡ 4 → A) → (k ≡ 2 → A) → A
@@ -59,6 +68,8 @@ which =
       of-kind = of-kind;
       at-most = reported-most;
       all = all;
+      as-many = as-many;
+      earlier = reported-first;
       unknown = unknown;
       smallest = λ a. first-least (a .start) (reported a) (reported-rise a);
     }
@@ -87,6 +98,31 @@ each-first P (e ∷ es) z h = h .0
 first-small : (a : Asked) → firstOf (reported a) < 65536
 first-small a = let z = each-first (λ (e : ℕ). e < 24) (reported a) (omega arith) (reported-small a) in omega arith
 
+-- the address of an element that has a place fits a byte
+low-address : (e : ℕ) → hasPlace e ≡ true → e < 256
+low-address e h = drive-or-slot e h (λ d p. omega arith) (λ l m p. omega arith)
+
+told : (slots : List ℕ) (e flags : ℕ) → e < 256 → flagsOf slots e ≡ flags →
+    descriptor slots e ≡ 0 ∷ e ∷ flags ∷ 0 ∷ 0 ∷ 0 ∷ 0 ∷ 0 ∷ 0 ∷ 0 ∷ 0 ∷ 0 ∷ []
+unfolding descriptor be16
+told slots e flags h k =
+    let high : e / 256 % 256 ≡ 0 = omega arith in
+    let low : e % 256 ≡ e = omega arith in
+    rw (high, low, k)
+
+module _ (slots : List ℕ) (e : ℕ) (h : hasPlace e ≡ true) where
+  empty-flags : getD slots (placeOf e) 0 ≡ 0 → flagsOf slots e ≡ 8
+  unfolding flagsOf
+  empty-flags z = sym (pick-if _ h (pick-else _ (full-no e _ slots refl z) refl))
+
+  full-flags : (getD slots (placeOf e) 0 ≡ 0 → ⊥) → flagsOf slots e ≡ 9
+  unfolding flagsOf
+  full-flags z = sym (pick-if _ h (pick-if _ (full-yes e _ slots refl z) refl))
+
+transport-flags : (slots : List ℕ) → flagsOf slots 0 ≡ 0
+unfolding flagsOf
+transport-flags slots = sym (pick-else _ (places-hold .no-transport) refl)
+
 bytes : BytesHold
 bytes =
     record {
@@ -98,6 +134,9 @@ bytes =
       number = λ a slots. head-number slots (reported a) (omega (arith, reported-few a));
       bytes = λ a slots. head-bytes slots (reported a) (omega (arith, pages-most slots (reported a) (reported-types a)));
       cut = cut-length;
+      of-empty = λ slots e h z. told slots e 8 (low-address e h) (empty-flags slots e h z);
+      of-full = λ slots e h z. told slots e 9 (low-address e h) (full-flags slots e h z);
+      of-transport = λ slots. told slots 0 0 (omega arith) (transport-flags slots);
     }
 
 -- ---- what they hang on

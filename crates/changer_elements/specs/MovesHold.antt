@@ -5,7 +5,7 @@ use mathlib.Core.Bool.{Bool, true, false}
 use mathlib.Core.List.{List, [], _∷_}
 use mathlib.Core.Path.{_≡_}
 use lib.ListN.{length, getD}
-use Rattle.changer_elements.specs.declared.MoveDone.the-variants.{Moves}
+use Rattle.changer_elements.specs.declared.MoveDone.the-variants.{Refused, Moves}
 use Rattle.changer_elements.specs.Elements.{transport, drive, firstSlot, lastSlot, places, hasPlace, placeOf, cdbBytes}
 use Rattle.changer_elements.specs.Slots.{namesNoneTwice, inDrive, times}
 use Rattle.changer_elements.specs.Move.{transportField, sourceField, destinationField, moveMedium, slotsAfter}
@@ -78,6 +78,44 @@ pub record MovesHold : Type 0 where
   pub by-fields : (a b slots : List ℕ) (opened : Bool) → cdbBytes ≤ length a → cdbBytes ≤ length b →
       ((i : ℕ) → 2 ≤ i → i < 8 → getD a i 0 ≡ getD b i 0) → moveMedium a slots opened ≡ moveMedium b slots opened
 
+-- a CDB that is long enough, and names the transport and two elements that have places
+pub record Named (cdb : List ℕ) : Type 0 where
+  pub long : 12 ≤ length cdb
+  pub by : transportField cdb ≡ transport
+  pub source : hasPlace (sourceField cdb) ≡ true
+  pub destination : hasPlace (destinationField cdb) ≡ true
+
+-- a move that is refused, with its sense's key, code and qualifier
+abbrev pub RefusedWith : ℕ → ℕ → ℕ → List ℕ → List ℕ → Bool → Type 0
+RefusedWith key code qualifier cdb slots opened =
+    moveMedium cdb slots opened ≡ Refused (record { key = key; code = code; qualifier = qualifier })
+
+-- which sense a refused move gets, "in that order": each whatever else is at fault behind it. The senses are numbers
+-- here, so that the names of `Move` are held to the paper too
+pub record SensesHold : Type 0 where
+  -- "05h/24h/00h for a CDB under 12 bytes"
+  pub short : (cdb slots : List ℕ) (opened : Bool) → length cdb < 12 → RefusedWith 5 0x24 0 cdb slots opened
+  -- "05h/21h/01h for an unknown element, the transport or a transport field other than 0"
+  pub by-other : (cdb slots : List ℕ) (opened : Bool) → 12 ≤ length cdb → (transportField cdb ≡ 0 → ⊥) →
+      RefusedWith 5 0x21 1 cdb slots opened
+  pub source : (cdb slots : List ℕ) (opened : Bool) → 12 ≤ length cdb → hasPlace (sourceField cdb) ≡ false →
+      RefusedWith 5 0x21 1 cdb slots opened
+  pub destination : (cdb slots : List ℕ) (opened : Bool) → 12 ≤ length cdb → hasPlace (destinationField cdb) ≡ false →
+      RefusedWith 5 0x21 1 cdb slots opened
+  -- "05h/3Bh/0Dh for a full destination"
+  pub full : (cdb slots : List ℕ) (opened : Bool) → Named cdb →
+      (getD slots (placeOf (destinationField cdb)) 0 ≡ 0 → ⊥) → RefusedWith 5 0x3B 0x0D cdb slots opened
+  -- "05h/3Bh/0Eh for an empty source"
+  pub empty : (cdb slots : List ℕ) (opened : Bool) → Named cdb → getD slots (placeOf (destinationField cdb)) 0 ≡ 0 →
+      getD slots (placeOf (sourceField cdb)) 0 ≡ 0 → RefusedWith 5 0x3B 0x0E cdb slots opened
+  -- "05h/53h/02h for a move from or to the drive while the tape is open"
+  pub from-drive : (cdb slots : List ℕ) → Named cdb → getD slots (placeOf (destinationField cdb)) 0 ≡ 0 →
+      (getD slots (placeOf (sourceField cdb)) 0 ≡ 0 → ⊥) → sourceField cdb ≡ drive →
+      RefusedWith 5 0x53 2 cdb slots true
+  pub to-drive : (cdb slots : List ℕ) → Named cdb → getD slots (placeOf (destinationField cdb)) 0 ≡ 0 →
+      (getD slots (placeOf (sourceField cdb)) 0 ≡ 0 → ⊥) → destinationField cdb ≡ drive →
+      RefusedWith 5 0x53 2 cdb slots true
+
 -- over lists of calls
 pub record ListHolds : Type 0 where
   pub long : (slots : List ℕ) (ms : List MoveCall) → length (afterMoves slots ms) ≡ length slots
@@ -102,4 +140,5 @@ pub record ElementsHold : Type 0 where
   pub elements : PlacesHold
   pub names : NamesHold
   pub moves : MovesHold
+  pub senses : SensesHold
   pub lists : ListHolds

@@ -7,15 +7,22 @@ use mathlib.Core.Path.{_≡_}
 use lib.ListN.{length, getD}
 use Rattle.xdr.specs.Choose.{least}
 use Rattle.xdr_opaque.specs.Put.{Each}
-use Rattle.changer_elements.specs.Elements.{isFull, half, cdbBytes}
+use Rattle.changer_elements.specs.Elements.{transport, hasPlace, placeOf, isFull, half, cdbBytes}
 use Rattle.changer_elements.specs.declared.Asked.{Asked}
 use Rattle.changer_elements.specs.Status.{elements, allTypes, transportType, slotType, driveType, typeOf, readStatus, isAsked, those, reported}
-use Rattle.changer_elements.specs.Status.{descriptorBytes, descriptors, ofType, pages, firstOf, statusOf, statusData}
+use Rattle.changer_elements.specs.Status.{descriptorBytes, descriptor, descriptors, ofType, pages}
+use Rattle.changer_elements.specs.Status.{firstOf, statusOf, statusData}
 
 -- a rising list of numbers from one on
 abbrev pub RisingFrom : ℕ → List ℕ → Type 0
 RisingFrom b [] = Unit
 RisingFrom b (e ∷ es) = (b ≤ e) × RisingFrom (suc e) es
+
+-- a number is one of a list
+pub record Among (f : ℕ) (es : List ℕ) : Type 0 where
+  pub place : ℕ
+  pub within : place < length es
+  pub there : getD es place 0 ≡ f
 
 pub record WhichHold : Type 0 where
   -- "by rising address from any start"
@@ -25,6 +32,10 @@ pub record WhichHold : Type 0 where
   pub at-most : (a : Asked) → length (reported a) ≤ a .number
   -- none is left out while the number allows it
   pub all : (a : Asked) → length (those (isAsked a) elements) ≤ a .number → reported a ≡ those (isAsked a) elements
+  -- where it does not, as many as it allows are told, and they are the first: none is passed over for a later one
+  pub as-many : (a : Asked) → length (reported a) ≡ least (a .number) (length (those (isAsked a) elements))
+  pub earlier : (a : Asked) (e f : ℕ) → Among e (reported a) → Among f elements → isAsked a f ≡ true → f < e →
+      Among f (reported a)
   -- "unknown types have no elements"
   pub unknown : (a : Asked) → (a .kind ≡ allTypes → ⊥) → (a .kind ≡ transportType → ⊥) → (a .kind ≡ slotType → ⊥) →
       (a .kind ≡ driveType → ⊥) → reported a ≡ []
@@ -45,6 +56,13 @@ pub record BytesHold : Type 0 where
       getD (statusOf slots (reported a)) 5 0 * 65536 + half (statusOf slots (reported a)) 6 ≡ length (pages slots (reported a))
   -- "cut to allocation and data-in length"
   pub cut : (a : Asked) (slots : List ℕ) → length (statusData a slots) ≡ least (a .cut) (length (statusOf slots (reported a)))
+  -- a descriptor, written out: the address, the flags, "no volume tags or source". Full (1) where its place names a
+  -- cartridge; Access (8): "access bits 1 but at the transport"
+  pub of-empty : (slots : List ℕ) (e : ℕ) → hasPlace e ≡ true → getD slots (placeOf e) 0 ≡ 0 →
+      descriptor slots e ≡ 0 ∷ e ∷ 8 ∷ 0 ∷ 0 ∷ 0 ∷ 0 ∷ 0 ∷ 0 ∷ 0 ∷ 0 ∷ 0 ∷ []
+  pub of-full : (slots : List ℕ) (e : ℕ) → hasPlace e ≡ true → (getD slots (placeOf e) 0 ≡ 0 → ⊥) →
+      descriptor slots e ≡ 0 ∷ e ∷ 9 ∷ 0 ∷ 0 ∷ 0 ∷ 0 ∷ 0 ∷ 0 ∷ 0 ∷ 0 ∷ 0 ∷ []
+  pub of-transport : (slots : List ℕ) → descriptor slots transport ≡ 0 ∷ 0 ∷ 0 ∷ 0 ∷ 0 ∷ 0 ∷ 0 ∷ 0 ∷ 0 ∷ 0 ∷ 0 ∷ 0 ∷ []
 
 pub record HangsOn : Type 0 where
   -- of the slot list only on which places are full: a cartridge's number is never told

@@ -25,6 +25,9 @@ ioError = 7
 abbrev pub illegalArguments : ℕ
 illegalArguments = 9
 
+abbrev pub noTapeLoaded : ℕ
+noTapeLoaded = 10
+
 abbrev pub atMark : ℕ
 atMark = 12
 
@@ -176,7 +179,7 @@ versionFour = 4
 abbrev pub errors : List ℕ
 errors =
     notSupported ∷ deviceOpened ∷ notAuthorized ∷ permissionDenied ∷ notOpen ∷ ioError
-    ∷ illegalArguments ∷ atMark ∷ atEnd ∷ badFile ∷ noDevice ∷ undecodable
+    ∷ illegalArguments ∷ noTapeLoaded ∷ atMark ∷ atEnd ∷ badFile ∷ noDevice ∷ undecodable
     ∷ illegalState ∷ noMemory ∷ otherNotListening ∷ readInProgress ∷ precondition ∷ []
 
 -- 004's MTIO operations, in its order
@@ -184,7 +187,7 @@ abbrev pub mtioOperations : List ℕ
 mtioOperations = forwardFiles ∷ backFiles ∷ forwardRecords ∷ backRecords ∷ rewindTape ∷ writeMarks ∷ offLine ∷ []
 
 pub record AsWritten : Type 0 where
-  pub errors-are : errors ≡ 1 ∷ 3 ∷ 4 ∷ 5 ∷ 6 ∷ 7 ∷ 9 ∷ 12 ∷ 13 ∷ 15 ∷ 16 ∷ 18 ∷ 19 ∷ 22 ∷ 23 ∷ 25 ∷ 26 ∷ []
+  pub errors-are : errors ≡ 1 ∷ 3 ∷ 4 ∷ 5 ∷ 6 ∷ 7 ∷ 9 ∷ 10 ∷ 12 ∷ 13 ∷ 15 ∷ 16 ∷ 18 ∷ 19 ∷ 22 ∷ 23 ∷ 25 ∷ 26 ∷ []
   pub calls-are : shortOutput ∷ brokenSession ∷ [] ≡ 1001 ∷ 1002 ∷ []
   pub operations-are : mtioOperations ≡ 0 ∷ 1 ∷ 2 ∷ 3 ∷ 4 ∷ 5 ∷ 6 ∷ []
   pub opcodes-are : testReady ∷ requestSense ∷ moveMediumCode ∷ elementStatusCode ∷ mostStatus ∷ [] ≡ 0 ∷ 3 ∷ 165 ∷ 184 ∷ 152 ∷ []

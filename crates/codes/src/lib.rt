@@ -16,6 +16,8 @@ pub const IO_ERROR: u32 = 7;
 
 pub const ILLEGAL_ARGUMENTS: u32 = 9;
 
+pub const NO_TAPE_LOADED: u32 = 10;
+
 pub const AT_MARK: u32 = 12;
 
 pub const AT_END: u32 = 13;

@@ -28,12 +28,12 @@ use Rattle.rules_parts.specs.declared.types.Session.{Session}
 use Rattle.rules_parts.specs.Names.{leastRoom}
 use Rattle.rules.specs.Judge.{test, Outcome, refuse, accept, judge, onto}
 use Rattle.rules_parts.specs.Parts.{holdsTape}
-use Rattle.rules.specs.TapeService.{Loaded, loaded, movedTo, isRefusal, protects, tapeMtio, deviceStep, withLoaded, tapeStep}
+use Rattle.rules.specs.TapeService.{Loaded, loaded, afterMtio, isRefusal, protects, tapeMtio, deviceStep, withLoaded, tapeStep}
 use Rattle.rules.specs.Relation.{keeps}
 use Rattle.rules.specs.Answer.{Lent, held, Answered, guarded, roomOf, answered, requested, judged, isClose, settled, verdict, isLocked, outcome}
 use Rattle.rules.specs.Answer.{noticed, silent, closing, tapePart, withTape, requestIn}
 use Rattle.rules.specs.Alike.{SameAnswer, SpacesAlike}
-use Rattle.rules.proofs.Numbers.{refusal-facts}
+use Rattle.rules.proofs.Numbers.{refusal-facts, after-at}
 
 -- nothing is passed from a position to itself
 none-passed : (f : Bool) (p i : ℕ) → Passed f p p i → ⊥
@@ -52,15 +52,15 @@ data SameOutcome (l m : List ℕ) : Outcome Loaded → Outcome Loaded → Type 0
 
 -- ---- the tape's outcome
 -- behind the other tests: what was given, judged
-abbrev given : Tape → List ℕ → Spaced → Outcome Loaded
-given t image g =
-    choose (isRefusal (g .error)) (refuse (g .error)) (accept (Reply.Mtio (g .error) (g .residue)) (loaded (movedTo (g .position) t) image))
+abbrev given : Tape → ℕ → List ℕ → Spaced → Outcome Loaded
+given t op image g =
+    choose (isRefusal (g .error)) (refuse (g .error)) (accept (Reply.Mtio (g .error) (g .residue)) (loaded (afterMtio op (g .position) t) image))
 
-given-same : (l m : List ℕ) (t : Tape) (g : Spaced) → SameOutcome l m (given t l g) (given t m g)
-given-same l m t g =
-    by-both (SameOutcome l m) (isRefusal (g .error)) _ _ _ _ (λ _. refused (g .error)) (λ _. accepted (g .error) (g .residue) (movedTo (g .position) t))
+given-same : (l m : List ℕ) (t : Tape) (op : ℕ) (g : Spaced) → SameOutcome l m (given t op l g) (given t op m g)
+given-same l m t op g =
+    by-both (SameOutcome l m) (isRefusal (g .error)) _ _ _ _ (λ _. refused (g .error)) (λ _. accepted (g .error) (g .residue) (afterMtio op (g .position) t))
 
-module _ (l m : List ℕ) (a : Sound l) (b : Sound m) (one : count l ≡ count m) (t : Tape) (op times : ℕ) (few : op < 5) where
+module _ (l m : List ℕ) (a : Sound l) (b : Sound m) (one : count l ≡ count m) (t : Tape) (op times : ℕ) (other : op ≡ 5 → ⊥) where
   abbrev Agree : ℕ → Type 0
   Agree q = AgreeInKind (goesForward op) (t .position) q l m
 
@@ -68,20 +68,20 @@ module _ (l m : List ℕ) (a : Sound l) (b : Sound m) (one : count l ≡ count m
   Alike o o′ = Agree (leftAt (t .position) o) → SameOutcome l m o o′
 
   -- a refusal passes nothing
-  agree-given : Agree (leftAt (t .position) (given t l (mtioStep l op (t .position) times .gives))) → Agree (mtioStep l op (t .position) times .gives .position)
+  agree-given : Agree (leftAt (t .position) (given t op l (mtioStep l op (t .position) times .gives))) → Agree (mtioStep l op (t .position) times .gives .position)
   agree-given =
       let g = mtioStep l op (t .position) times .gives in
       by-test (λ (o : Outcome Loaded). Agree (leftAt (t .position) o) → Agree (g .position)) (isRefusal (g .error)) _ _
       (λ e _ i. rw (cartridge.promises .stand l (t .position) .mtio op times (refusal-facts _ e)) (λ h. absurd (none-passed (goesForward op) (t .position) i h)))
-      (λ _ h. h)
+      (λ e h. rw (after-at l op (t .position) times t e) at h)
 
-  given-alike : Alike (given t (mtioStep l op (t .position) times .image) (mtioStep l op (t .position) times .gives))
-      (given t (mtioStep m op (t .position) times .image) (mtioStep m op (t .position) times .gives))
+  given-alike : Alike (given t op (mtioStep l op (t .position) times .image) (mtioStep l op (t .position) times .gives))
+      (given t op (mtioStep m op (t .position) times .image) (mtioStep m op (t .position) times .gives))
   unfolding Alike
   given-alike =
       let p = t .position in
-      rw (cartridge.promises .leave l p .spacing op times few, cartridge.promises .leave m p .spacing op times few)
-      (λ agree. rw (sym (cartridge.promises .alike l m a b one op p times few (agree-given agree))) (given-same l m t (mtioStep l op p times .gives)))
+      rw (cartridge.promises .leave l p .spacing op times other, cartridge.promises .leave m p .spacing op times other)
+      (λ agree. rw (sym (cartridge.promises .alike l m a b one op p times other (agree-given agree))) (given-same l m t op (mtioStep l op p times .gives)))
 
   mtio-alike : (mover : ℕ) → Alike (tapeMtio mover t l op times) (tapeMtio mover t m op times)
   unfolding tapeMtio judge Alike
@@ -108,7 +108,7 @@ module _ (s : Session) (l m v : List ℕ) (lent : Lent) (r : List ℕ) (q : Requ
   made-at (refuse e) = refl
   made-at (accept reply n) = refl
 
-module _ (s : Session) (l m v : List ℕ) (lent : Lent) (r : List ℕ) (op times : ℕ) (a : Sound l) (b : Sound m) (one : count l ≡ count m) (few : op < 5) where
+module _ (s : Session) (l m v : List ℕ) (lent : Lent) (r : List ℕ) (op times : ℕ) (a : Sound l) (b : Sound m) (one : count l ≡ count m) (other : op ≡ 5 → ⊥) where
   -- what is shown of the two calls
   Answers : Answered → Answered → Type 0
   Answers x y = AgreeInKind (goesForward op) (s .tape .position) (x .next .session .tape .position) l m → SameAnswer l m v x y
@@ -123,7 +123,7 @@ module _ (s : Session) (l m v : List ℕ) (lent : Lent) (r : List ℕ) (op times
   served : Answers (made s l m v lent r q l (ofTape l)) (made s l m v lent r q m (ofTape m))
   unfolding Answers Alike
   served agree =
-      made-same s l m v lent r q _ _ (mtio-alike l m a b one (s .tape) op times few (s .mover .state) (rw (made-at s l m v lent r q (ofTape l)) at agree))
+      made-same s l m v lent r q _ _ (mtio-alike l m a b one (s .tape) op times other (s .mover .state) (rw (made-at s l m v lent r q (ofTape l)) at agree))
 
   -- nothing done, and closing
   still : (code : ℕ) → Answers (silent code (held s l v)) (silent code (held s m v))
@@ -158,4 +158,4 @@ module _ (s : Session) (l m v : List ℕ) (lent : Lent) (r : List ℕ) (op times
 
 pub spaces-alike : SpacesAlike
 unfolding Answers
-spaces-alike s l m v lent r op times a b one e few = calls s l m v lent r op times a b one few e
+spaces-alike s l m v lent r op times a b one e other = calls s l m v lent r op times a b one other e

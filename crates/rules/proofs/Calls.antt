@@ -1,15 +1,16 @@
 -- Every request call keeps the relation and leaves a sound image sound; what a call that is refused leaves. Assumes nothing.
-use Prim.Native.Nat.{ℕ, _≤_}
+use Prim.Native.Nat.{ℕ, _≤_, _<_}
 use mathlib.Core.Bool.{Bool, true, false, not}
 use mathlib.Core.List.{List, [], _∷_}
 use mathlib.Core.Path.{_≡_, refl, ap, _∙_}
 use native.Mathlib.Omega.{arith}
-use lib.ListN.{length}
+use lib.ListN.{length, replicate}
 use lib.Dec.{eqb, ltb}
 use borrow.Author.Tests.{ne-eqb, eq-eqb}
 use Rattle.codes.specs.Codes.{storeLength}
 use Rattle.xdr.specs.Choose.{choose}
-use Rattle.xdr.proofs.Tests.{by-test, yes}
+use Rattle.xdr.proofs.Tests.{by-test, none-of, yes, ltb-yes, ltb-no}
+use Rattle.changer_elements.specs.Slots.{isAgain, someAgain, namesNoneTwice, inDrive}
 use Rattle.tape_image.specs.Image.{isSound, faulty}
 use Rattle.tape_image.specs.Sound.{Sound, Placed}
 use Rattle.tape_image.proofs.Laws.{sound-holds, placed}
@@ -27,6 +28,7 @@ use Rattle.wire_requests.specs.declared.ConnectRequest.the-variants as ConnectR
 use Rattle.wire_layouts.specs.declared.Text.{Text}
 use Rattle.wire_requests.specs.declared.DataRequest.{DataRequest}
 use Rattle.wire_requests.specs.declared.DataRequest.the-variants as DataRequest
+use Rattle.wire_requests.specs.declared.MoverRequest.{MoverRequest}
 use Rattle.wire_requests.specs.declared.TapeRequest.{TapeRequest}
 use Rattle.wire_requests.specs.declared.TapeRequest.the-variants as TapeRequest
 use Rattle.wire_requests.specs.declared.Request.{Request}
@@ -34,24 +36,29 @@ use Rattle.wire_requests.specs.declared.Request.the-variants as Request
 use Rattle.wire_replies.specs.declared.Reply.{Reply}
 use Rattle.wire_replies.specs.declared.Reply.the-variants as Reply
 use Rattle.wire_replies.specs.declared.Notice.{Notice}
+use Rattle.wire_replies.specs.declared.Notice.the-variants as Notice
+use Rattle.wire_replies.specs.Replies.{noticeBytes}
 use Rattle.rules_parts.specs.declared.types.Data.{Data}
 use Rattle.rules_parts.specs.declared.types.Tape.{Tape}
+use Rattle.rules_parts.specs.declared.types.Changer.{Changer}
 use Rattle.rules_parts.specs.declared.types.Session.{Session}
 use Rattle.rules_parts.specs.Names.{leastRoom, firstSize}
 use Rattle.rules.specs.Judge.{Outcome, refuse, accept, judge, onto, Accepts}
 use Rattle.rules_parts.specs.Parts.{restMover, closedTape, dataPartnered, moverPartnered, addressWrong, dataJoined, moverJoined, afterMessage, shut}
 use Rattle.rules.specs.DataService.{pairsOf, dataState, dataListen, dataStart, dataEnvironment, dataStop, dataStep, variablesAfter}
-use Rattle.rules.specs.TapeService.{Loaded, tapeOpen, tapeClose, tapeState, tapeMtio, tapeWrite, tapeRead, deviceStep, withLoaded, withMover, tapeStep, moverPartStep}
+use Rattle.rules.specs.TapeService.{Loaded, tapeOpen, tapeClose, tapeState, tapeMtio, tapeWrite, tapeRead, deviceStep, TapePart, withLoaded, withMover, tapeStep, moverPartStep}
 use Rattle.rules.specs.Connection.{rightDigest, clientAuth, connectStep}
-use Rattle.rules.specs.Relation.{dataWrong, moverWrong, sameFlag, keeps}
+use Rattle.rules.specs.ScsiService.{scsiShown}
+use Rattle.rules.specs.Relation.{dataWrong, moverWrong, driveWrong, slotsWrong, sameFlag, keeps}
 use Rattle.rules.specs.Promises.{Keeps, JointKeeps, dataSide, partWrong, partSide}
 use Rattle.rules.specs.Answer.{Kept, Lent, held, Answered, guarded, roomOf, answered, requested, judged, isClose, settled, verdict, needsLogin, isLocked, outcome, refusing, isUnread}
 use Rattle.rules.specs.Answer.{refusedIn, noticed, silent, closing, replying, Done, tapePart, withData, withPart, withTape, withChanger, withLogin, withEnds, messageIn, requestIn}
 use Rattle.rules.specs.Order.{Call, run}
-use Rattle.rules.specs.Calls.{openedSession, Unmoved, Heard, isMislent, CallsKeep}
-use Rattle.rules.proofs.JudgeLaws.{judged-by, accepts, accepts-any, accepts-map, refusal-says, carried}
+use Rattle.rules.specs.Calls.{openedSession, unopenedSession, opening, Unopened, Opens, OpeningHolds, Unmoved, Heard, isMislent, CallsKeep}
+use Rattle.rules.proofs.JudgeLaws.{judged-by, accepts, accepts-any, accepts-map, accepts-both, refusal-says, carried}
 use Rattle.rules.proofs.Kept.{kept-mover}
 use Rattle.rules.proofs.Keeping.{clash, rest-kept, data-keeps, tape-keeps, mover-part-keeps, joint-keeps}
+use Rattle.rules.proofs.Changer.{scsi-drive, stays-none-twice, tape-drives}
 use Rattle.rules.proofs.Guarding.{by-guard, goes-on, stored, lent-well}
 use Rattle.rules.proofs.Numbers.{number-right, refusal-right}
 
@@ -106,6 +113,8 @@ module _ (Q : Kept → Type 0) (sends : (k : Kept) (first : Bool) → Q k → Q 
 pub record Fair (s : Session) : Type 0 where
   pub source : dataWrong (s .source) ≡ false
   pub mover : moverWrong (s .mover) (s .tape) ≡ false
+  pub drive : driveWrong (inDrive (s .changer .slots)) (s .tape) ≡ false
+  pub names : namesNoneTwice (s .changer .slots) ≡ true
   pub joined : sameFlag (dataPartnered (s .source)) (moverPartnered (s .mover)) ≡ true
 
 passed : (b x : Bool) → choose b false x ≡ true → (b ≡ false) × (x ≡ true)
@@ -114,31 +123,42 @@ passed true x h = absurd (let z : _≡_ {A = ℕ} 0 1 = cc in omega arith)
 passed false x h = (refl, h)
 
 pub kept-facts : (s : Session) → keeps s ≡ true → Fair s
-unfolding keeps
+unfolding keeps slotsWrong
 kept-facts s h =
     let a = passed _ _ h in
     let b = passed _ _ (a .1) in
-    record { source = a .0; mover = b .0; joined = b .1 }
+    let c = passed _ _ (b .1) in
+    let d = none-of _ (c .0) in
+    record { source = a .0; mover = b .0; drive = d .0; names = yes (d .1); joined = c .1 }
 
 pub facts-kept : (s : Session) → Fair s → keeps s ≡ true
-unfolding keeps choose
-facts-kept s k = rw (k .source, k .mover) (k .joined)
+unfolding keeps slotsWrong choose
+facts-kept s k = rw (keeps, slotsWrong, k .source, k .mover, k .drive, k .names) (k .joined)
 
--- a session with the same ends and tape
-same-ends : (s n : Session) → n .source ≡ s .source → n .mover ≡ s .mover → n .tape ≡ s .tape → keeps s ≡ true → keeps n ≡ true
+-- a session with the same ends, tape and slot list
+same-ends : (s n : Session) → n .source ≡ s .source → n .mover ≡ s .mover → n .tape ≡ s .tape → n .changer .slots ≡ s .changer .slots
+    → keeps s ≡ true → keeps n ≡ true
 unfolding keeps
-same-ends s n d m t h = rw (d, m, t) h
+same-ends s n d m t c h = rw (d, m, t, c) h
+
+-- the mover's requests leave the tape
+mover-drives : (k : Kept) (q : MoverRequest) (list : List ℕ) → driveWrong (inDrive (k .session .changer .slots)) (k .session .tape) ≡ false
+    → Accepts (λ _ next. driveWrong (inDrive (k .session .changer .slots)) (next .tape) ≡ false) (moverPartStep (tapePart k) q list)
+unfolding moverPartStep
+mover-drives k q list h =
+    let P : Reply → TapePart → Type 0 = λ _ next. driveWrong (inDrive (k .session .changer .slots)) (next .tape) ≡ false in
+    carried P (withMover (tapePart k)) _ (accepts-any (λ r m. P r (withMover (tapePart k) m)) (λ _ _. h) _)
 
 Valid : Kept → Type 0
 Valid k = keeps (k .session) ≡ true
 
 valid-sends : (k : Kept) (first : Bool) → Valid k → Valid (held (afterMessage (k .session) first) (k .image) (k .variables))
 unfolding Valid
-valid-sends k first h = same-ends (k .session) _ refl refl refl h
+valid-sends k first h = same-ends (k .session) _ refl refl refl refl h
 
 valid-shuts : (k : Kept) → Valid k → Valid (held (shut (k .session)) (k .image) (k .variables))
 unfolding Valid
-valid-shuts k h = same-ends (k .session) _ refl refl refl h
+valid-shuts k h = same-ends (k .session) _ refl refl refl refl h
 
 module _ (k : Kept) (l : Lent) (r : List ℕ) (h : Valid k) where
   Stays : Reply → Done → Type 0
@@ -153,41 +173,64 @@ module _ (k : Kept) (l : Lent) (r : List ℕ) (h : Valid k) where
   unfolding outcome Stays Valid
   outcome-keeps Request.Unknown = refusal-says Stays _
   outcome-keeps Request.Bad = refusal-says Stays _
-  outcome-keeps (Request.Connect q) = aside (withLogin k _) (λ _. same-ends (k .session) _ refl refl refl h) _
-  outcome-keeps (Request.Config q) = aside (withLogin k _) (λ _. same-ends (k .session) _ refl refl refl h) _
-  outcome-keeps (Request.Scsi q) = aside (withChanger k) (λ _. same-ends (k .session) _ refl refl refl h) _
+  outcome-keeps (Request.Connect q) = aside (withLogin k _) (λ _. same-ends (k .session) _ refl refl refl refl h) _
+  outcome-keeps (Request.Config q) = aside (withLogin k _) (λ _. same-ends (k .session) _ refl refl refl refl h) _
+  outcome-keeps (Request.Scsi q) =
+      let f = kept-facts (k .session) h in
+      let c = k .session .changer in
+      let drives : Reply → Changer → Type 0 = λ _ next. driveWrong (inDrive (next .slots)) (k .session .tape) ≡ false in
+      let names : Reply → Changer → Type 0 = λ _ next. namesNoneTwice (next .slots) ≡ true in
+      carried Stays (withChanger k _) _
+      (accepts-map (λ r p. drives r p × names r p) (λ reply p. Stays reply (withChanger k (scsiShown q (bodyOf r) (c .slots)) p))
+      (λ _ p n. facts-kept _ (record { source = f .source; mover = f .mover; drive = n .0; names = n .1; joined = f .joined })) _
+      (accepts-both drives names _ (scsi-drive (k .session .tape) c q (bodyOf r) (f .drive)) (stays-none-twice (k .session .tape .opened) c q (bodyOf r) (f .names))))
   outcome-keeps (Request.Tape q) =
       let f = kept-facts (k .session) h in
+      let drive = inDrive (k .session .changer .slots) in
+      let drives : Reply → TapePart → Type 0 = λ _ next. driveWrong drive (next .tape) ≡ false in
+      let parts : Reply → TapePart → Type 0 = λ _ next. Keeps partWrong partSide (tapePart k) next in
       carried Stays (withTape k) _
-      (accepts-map (λ _ next. Keeps partWrong partSide (tapePart k) next) (λ reply p. Stays reply (withTape k p))
-      (λ _ p n. facts-kept _ (record { source = f .source; mover = n .good (f .mover); joined = rw (n .sides) (f .joined) })) _
-      (tape-keeps (tapePart k) q _))
+      (accepts-map (λ r p. parts r p × drives r p) (λ reply p. Stays reply (withTape k p))
+      (λ _ p n. facts-kept _ (record { source = f .source; mover = n .0 .good (f .mover); drive = n .1; names = f .names; joined = rw (n .0 .sides) (f .joined) })) _
+      (accepts-both parts drives _ (tape-keeps drive (tapePart k) q (bodyOf r)) (tape-drives drive (tapePart k) q (bodyOf r) (f .drive))))
   outcome-keeps (Request.Data q) =
       let f = kept-facts (k .session) h in
       carried Stays (withData k q _ _) _
       (accepts-map (λ _ next. Keeps dataWrong dataSide (k .session .source) next) (λ reply p. Stays reply (withData k q (bodyOf r) (l .addresses) p))
-      (λ _ p n. facts-kept _ (record { source = n .good (f .source); mover = f .mover; joined = rw (n .sides) (f .joined) })) _
+      (λ _ p n. facts-kept _ (record { source = n .good (f .source); mover = f .mover; drive = f .drive; names = f .names; joined = rw (n .sides) (f .joined) })) _
       (data-keeps (k .session .source) q _ _ _))
   outcome-keeps (Request.Mover q) =
       let f = kept-facts (k .session) h in
+      let parts : Reply → TapePart → Type 0 = λ _ next. Keeps partWrong partSide (tapePart k) next in
+      let drives : Reply → TapePart → Type 0 = λ _ next. driveWrong (inDrive (k .session .changer .slots)) (next .tape) ≡ false in
       carried Stays (withPart k (l .addresses)) _
-      (accepts-map (λ _ next. Keeps partWrong partSide (tapePart k) next) (λ reply p. Stays reply (withPart k (l .addresses) p))
-      (λ _ p n. facts-kept _ (record { source = f .source; mover = n .good (f .mover); joined = rw (n .sides) (f .joined) })) _
-      (mover-part-keeps (tapePart k) q _))
+      (accepts-map (λ r p. parts r p × drives r p) (λ reply p. Stays reply (withPart k (l .addresses) p))
+      (λ _ p n. facts-kept _ (record { source = f .source; mover = n .0 .good (f .mover); drive = n .1; names = f .names; joined = rw (n .0 .sides) (f .joined) })) _
+      (accepts-both parts drives _ (mover-part-keeps (tapePart k) q (l .addresses)) (mover-drives k q (l .addresses) (f .drive))))
   outcome-keeps (Request.Joint q) =
       let f = kept-facts (k .session) h in
       carried Stays (withEnds k) _
       (accepts-map (λ _ next. JointKeeps (k .session .tape) next) (λ reply p. Stays reply (withEnds k p))
-      (λ _ p n. facts-kept _ (record { source = n .source; mover = n .mover; joined = n .joined })) _
+      (λ _ p n. facts-kept _ (record { source = n .source; mover = n .mover; drive = f .drive; names = f .names; joined = n .joined })) _
       (joint-keeps (k .session .source) (k .session .mover) (k .session .tape) (f .source) (f .mover) (f .joined) q _))
 
 pub kept : (k : Kept) (l : Lent) (r : List ℕ) → keeps (k .session) ≡ true → keeps (answered k l r .next .session) ≡ true
 unfolding Valid Stays
 kept k l r h = call-holds Valid valid-sends valid-shuts k l r h (outcome-keeps k l r h (requestIn r))
 
-opened : keeps openedSession ≡ true
-unfolding dataWrong addressWrong dataPartnered moverPartnered dataJoined moverJoined sameFlag choose
-opened = facts-kept openedSession (record { source = refl; mover = kept-mover (restMover firstSize) closedTape (rest-kept firstSize closedTape (omega arith)); joined = refl })
+opened : (slots : List ℕ) → namesNoneTwice slots ≡ true → keeps (openedSession slots) ≡ true
+unfolding dataWrong addressWrong dataPartnered moverPartnered dataJoined moverJoined driveWrong sameFlag choose
+opened slots h =
+    facts-kept (openedSession slots) (record { source = refl; mover = kept-mover (restMover firstSize) closedTape (rest-kept firstSize closedTape (omega arith)); drive = refl; names = h; joined = refl })
+
+-- what opening gives: nothing, with a code, and a closed session with no cartridge; or a session with the slot list
+pub by-opening : (P : Answered → Type 0) (slots : List ℕ) (time room : ℕ) → ((code : ℕ) → (code ≡ 0 → ⊥) → P (silent code (held unopenedSession [] [])))
+    → (namesNoneTwice slots ≡ true → P (record { code = 0; reply = []; notices = noticeBytes 1 time Notice.Connected; next = held (openedSession slots) [] [] }))
+    → P (opening slots time room)
+unfolding opening
+by-opening P slots time room still goes =
+    by-test P (ltb room leastRoom) _ _ (λ _. still _ (λ z. omega arith))
+    (λ _. by-test P (not (namesNoneTwice slots)) _ _ (λ _. still _ (λ z. omega arith)) (λ h. goes (yes h)))
 
 -- ---- soundness. An operation of the tape leaves the image where the position is out of range
 sound-by : (l : List ℕ) (p : ℕ) (m : List ℕ) → isSound l ≡ true → (f : Bool) → faulty l p ≡ f → (f ≡ true → m ≡ l) → (Placed l p → Sound m) → isSound m ≡ true
@@ -203,8 +246,7 @@ write-faulty l p b e = by-test (Same l) (ltb 32768 (length b)) _ _ (λ _. refl) 
 
 mtio-faulty : (l : List ℕ) (op p times : ℕ) → faulty l p ≡ true → Same l (mtioStep l op p times)
 unfolding mtioStep Same choose
-mtio-faulty l op p times e =
-    by-test (Same l) (ltb 6 op) _ _ (λ _. refl) (λ _. by-test (Same l) (eqb op 6) _ _ (λ _. refl) (λ _. rw e refl))
+mtio-faulty l op p times e = by-test (Same l) (ltb 6 op) _ _ (λ _. refl) (λ _. rw e refl)
 
 module _ (l : List ℕ) (h : isSound l ≡ true) where
   write-sound : (p : ℕ) (b : List ℕ) → isSound (writeStep l p b .image) ≡ true
@@ -218,14 +260,14 @@ module _ (l : List ℕ) (h : isSound l ≡ true) where
   Loads : Reply → Loaded → Type 0
   Loads _ s = isSound (s .image) ≡ true
 
-  device-sound : (mover : ℕ) (t : Tape) (q : TapeRequest) (body : List ℕ) → Accepts Loads (deviceStep mover t l q body)
+  device-sound : (drive mover : ℕ) (t : Tape) (q : TapeRequest) (body : List ℕ) → Accepts Loads (deviceStep drive mover t l q body)
   unfolding deviceStep tapeOpen tapeClose tapeState tapeMtio tapeWrite tapeRead Loads
-  device-sound mover t (TapeRequest.Open name mode) body = accepts Loads _ _ _ (λ _. h)
-  device-sound mover t TapeRequest.Close body = accepts Loads _ _ _ (λ _. h)
-  device-sound mover t TapeRequest.State body = accepts Loads _ _ _ (λ _. h)
-  device-sound mover t (TapeRequest.Mtio op times) body = accepts Loads _ _ _ (λ _. mtio-sound op (t .position) times)
-  device-sound mover t (TapeRequest.Write bytes) body = accepts Loads _ _ _ (λ _. write-sound (t .position) (bytesAt body bytes))
-  device-sound mover t (TapeRequest.Read times) body = accepts Loads _ _ _ (λ _. h)
+  device-sound drive mover t (TapeRequest.Open name mode) body = accepts Loads _ _ _ (λ _. h)
+  device-sound drive mover t TapeRequest.Close body = accepts Loads _ _ _ (λ _. h)
+  device-sound drive mover t TapeRequest.State body = accepts Loads _ _ _ (λ _. h)
+  device-sound drive mover t (TapeRequest.Mtio op times) body = accepts Loads _ _ _ (λ _. mtio-sound op (t .position) times)
+  device-sound drive mover t (TapeRequest.Write bytes) body = accepts Loads _ _ _ (λ _. write-sound (t .position) (bytesAt body bytes))
+  device-sound drive mover t (TapeRequest.Read times) body = accepts Loads _ _ _ (λ _. h)
 
 module _ (k : Kept) (l : Lent) (r : List ℕ) (h : isSound (k .image) ≡ true) where
   Sounds : Reply → Done → Type 0
@@ -241,10 +283,10 @@ module _ (k : Kept) (l : Lent) (r : List ℕ) (h : isSound (k .image) ≡ true) 
   outcome-sound Request.Bad = refusal-says Sounds _
   outcome-sound (Request.Connect q) = unread (withLogin k _) (λ _. h) _
   outcome-sound (Request.Config q) = unread (withLogin k _) (λ _. h) _
-  outcome-sound (Request.Scsi q) = unread (withChanger k) (λ _. h) _
+  outcome-sound (Request.Scsi q) = unread (withChanger k _) (λ _. h) _
   outcome-sound (Request.Tape q) =
       carried Sounds (withTape k) _ (carried (λ reply p. Sounds reply (withTape k p)) (withLoaded (tapePart k)) _
-      (device-sound (k .image) h (k .session .mover .state) (k .session .tape) q _))
+      (device-sound (k .image) h _ (k .session .mover .state) (k .session .tape) q _))
   outcome-sound (Request.Data q) = unread (withData k q _ _) (λ _. h) _
   outcome-sound (Request.Mover q) =
       carried Sounds (withPart k _) _ (carried (λ reply p. Sounds reply (withPart k (l .addresses) p)) (withMover (tapePart k)) _
@@ -289,7 +331,7 @@ module _ (k : Kept) (l : Lent) (r : List ℕ) where
   outcome-follows h Request.Bad = refusal-says Followed _
   outcome-follows h (Request.Connect q) = unstored (withLogin k _) (λ _. refl) _
   outcome-follows h (Request.Config q) = unstored (withLogin k _) (λ _. refl) _
-  outcome-follows h (Request.Scsi q) = unstored (withChanger k) (λ _. refl) _
+  outcome-follows h (Request.Scsi q) = unstored (withChanger k _) (λ _. refl) _
   outcome-follows h (Request.Tape q) = unstored (withTape k) (λ _. refl) _
   outcome-follows h (Request.Data q) = carried Followed (withData k q _ _) _ (data-follows (k .session .source) q _ _ (k .variables) h)
   outcome-follows h (Request.Mover q) = unstored (withPart k _) (λ _. refl) _
@@ -504,10 +546,60 @@ module _ (k : Kept) (l : Lent) (r : List ℕ) (q : Request) where
   unfolding judged verdict judge choose
   judged-free h = rw (judged, verdict, h)
 
+-- ---- opening
+unopened : (code : ℕ) (a : Answered) → a ≡ silent code (held unopenedSession [] []) → Unopened code a
+unopened code a e =
+    record {
+      number = ap (λ (x : Answered). x .code) e;
+      reply = ap (λ (x : Answered). x .reply) e;
+      notices = ap (λ (x : Answered). x .notices) e;
+      closed = ap (λ (x : Answered). x .next .session .closed) e;
+      slots = ap (λ (x : Answered). x .next .session .changer .slots) e;
+    }
+
+-- the session that was never opened is, but for the mark and the counter, one that was opened with no cartridge
+pub unopened-keeps : keeps unopenedSession ≡ true
+unfolding namesNoneTwice someAgain isAgain choose
+unopened-keeps = same-ends (openedSession (replicate 9 0)) unopenedSession refl refl refl refl (opened (replicate 9 0) refl)
+
+module _ (slots : List ℕ) (time room : ℕ) where
+  short-is : room < leastRoom → opening slots time room ≡ silent 1001 (held unopenedSession [] [])
+  unfolding opening choose
+  short-is h = rw (opening, ltb-yes h)
+
+  twice-is : leastRoom ≤ room → namesNoneTwice slots ≡ false → opening slots time room ≡ silent 1002 (held unopenedSession [] [])
+  unfolding opening choose
+  twice-is h n = rw (opening, ltb-no h, n)
+
+  opens : leastRoom ≤ room → namesNoneTwice slots ≡ true → Opens slots time (opening slots time room)
+  unfolding opening choose
+  opens h n =
+      let e : opening slots time room ≡ record { code = 0; reply = []; notices = noticeBytes 1 time Notice.Connected; next = held (openedSession slots) [] [] } =
+      rw (opening, ltb-no h, n) in
+      record {
+        number = ap (λ (x : Answered). x .code) e;
+        reply = ap (λ (x : Answered). x .reply) e;
+        notices = ap (λ (x : Answered). x .notices) e;
+        closed = ap (λ (x : Answered). x .next .session .closed) e;
+        shelf = ap (λ (x : Answered). x .next .session .changer .slots) e;
+        changer = ap (λ (x : Answered). x .next .session .changer .opened) e;
+        tape = ap (λ (x : Answered). x .next .session .tape .opened) e;
+      }
+
+  opening-holds : OpeningHolds slots time room
+  opening-holds =
+      record {
+        short = λ h. unopened 1001 _ (short-is h);
+        twice = λ h n. unopened 1002 _ (twice-is h n);
+        opens = opens;
+        keeps-it = by-opening (λ (a : Answered). keeps (a .next .session) ≡ true) slots time room (λ _ _. unopened-keeps) (λ n. opened slots n);
+      }
+
 pub calls-keep : CallsKeep
 unfolding Refused
 calls-keep =
     record {
+      opening = opening-holds;
       opened = opened;
       kept = kept;
       never = never;

@@ -8,6 +8,7 @@ use lib.Dec.{eqb, ltb}
 use lib.ListN.{length}
 use Rattle.codes.specs.Codes.{storeLength}
 use Rattle.xdr.specs.Choose.{choose}
+use Rattle.changer_elements.specs.Slots.{inDrive}
 use Rattle.xdr.specs.Xdr.{be32, be32s, sameBytes}
 use Rattle.xdr.proofs.Tests.{no, ne-not, eq-not, no-not, yes-not, eqb-yes, eqb-no, is, yes, by-test, by-both}
 use Rattle.xdr.proofs.Comparing.{same-is, is-same}
@@ -150,7 +151,7 @@ environment-rules =
     }
 
 -- ---- what changes the store
-logged : (b : Bool) → choose b false true ≡ false → b ≡ true
+pub logged : (b : Bool) → choose b false true ≡ false → b ≡ true
 unfolding choose
 logged true h = refl
 logged false h = absurd (let z : _≡_ {A = ℕ} 0 1 = cc in omega arith)
@@ -184,7 +185,7 @@ module _ (k : Kept) (l : Lent) (r : List ℕ) where
   outcome-stores Request.Bad h = refusal-says (StoredBy Request.Bad) _
   outcome-stores (Request.Connect q) h = left (Request.Connect q) (withLogin k _) (λ _. refl) _
   outcome-stores (Request.Config q) h = left (Request.Config q) (withLogin k _) (λ _. refl) _
-  outcome-stores (Request.Scsi q) h = left (Request.Scsi q) (withChanger k) (λ _. refl) _
+  outcome-stores (Request.Scsi q) h = left (Request.Scsi q) (withChanger k _) (λ _. refl) _
   outcome-stores (Request.Tape q) h = left (Request.Tape q) (withTape k) (λ _. refl) _
   outcome-stores (Request.Data q) h = carried (StoredBy (Request.Data q)) (withData k q _ _) _ (data-stores q (logged _ h))
   outcome-stores (Request.Mover q) h = left (Request.Mover q) (withPart k _) (λ _. refl) _
@@ -363,11 +364,11 @@ module _ (k : Kept) (other : List ℕ) where
         settled-same (l .time) r (Request.Config q) (withLogin k (l .challenge)) (withLogin there (l .challenge)) (λ p. record { session = refl; image = refl; shown = refl; dwhy = refl; mwhy = refl }) _
         (configStep (k .session .login) (l .challenge) q)
     request-same (Request.Scsi q) n =
-        settled-same (l .time) r (Request.Scsi q) (withChanger k) (withChanger there) (λ p. record { session = refl; image = refl; shown = refl; dwhy = refl; mwhy = refl }) _
-        (scsiStep (k .session .changer) q (bodyOf r))
+        settled-same (l .time) r (Request.Scsi q) (withChanger k _) (withChanger there _) (λ p. record { session = refl; image = refl; shown = refl; dwhy = refl; mwhy = refl }) _
+        (scsiStep (k .session .tape .opened) (k .session .changer) q (bodyOf r))
     request-same (Request.Tape q) n =
         settled-same (l .time) r (Request.Tape q) (withTape k) (withTape there) (λ p. record { session = refl; image = refl; shown = refl; dwhy = refl; mwhy = refl }) _
-        (tapeStep (tapePart k) q (bodyOf r))
+        (tapeStep (inDrive (k .session .changer .slots)) (tapePart k) q (bodyOf r))
     request-same (Request.Mover q) n =
         settled-same (l .time) r (Request.Mover q) (withPart k (l .addresses)) (withPart there (l .addresses)) (λ p. record { session = refl; image = refl; shown = refl; dwhy = refl; mwhy = refl }) _
         (moverPartStep (tapePart k) q (l .addresses))

@@ -94,6 +94,11 @@ unfolding Accepts
 accepts-map P Q f (refuse e) h = tt
 accepts-map P Q f (accept r p) h = f r p h
 
+pub accepts-both : {A : Type 0} (P Q : Reply → A → Type 0) (o : Outcome A) → Accepts P o → Accepts Q o → Accepts (λ r p. P r p × Q r p) o
+unfolding Accepts
+accepts-both P Q (refuse e) h g = tt
+accepts-both P Q (accept r p) h g = (h, g)
+
 -- ---- tests that two requests share: their number first, then the rest
 abbrev numberedOn : Bool → Bool → Bool
 numberedOn true b = false

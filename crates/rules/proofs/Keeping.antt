@@ -343,19 +343,19 @@ module _ (p : TapePart) where
   busy-tape : holdsTape (p .mover .state) ≡ false → holdsTape (p .mover .state) ≡ true → ⊥
   busy-tape h e = clash (holdsTape (p .mover .state)) h e
 
-  device-keeps : (q : TapeRequest) (body : List ℕ) → Accepts Reloads (deviceStep (p .mover .state) (p .tape) (p .image) q body)
+  device-keeps : (drive : ℕ) (q : TapeRequest) (body : List ℕ) → Accepts Reloads (deviceStep drive (p .mover .state) (p .tape) (p .image) q body)
   unfolding deviceStep tapeOpen tapeClose tapeState tapeMtio tapeWrite tapeRead Reloads
-  device-keeps (TapeRequest.Open name mode) body = accepts Reloads _ _ _ (λ g. opens-keeps _ (g 2))
-  device-keeps TapeRequest.Close body = accepts Reloads _ _ _ (λ g. loaded-keeps _ (busy-tape (g 1)))
-  device-keeps TapeRequest.State body = accepts Reloads _ _ _ (λ _. stays partWrong partSide p)
-  device-keeps (TapeRequest.Mtio op times) body = accepts Reloads _ _ _ (λ g. loaded-keeps _ (busy-tape (g 1)))
-  device-keeps (TapeRequest.Write bytes) body = accepts Reloads _ _ _ (λ g. loaded-keeps _ (busy-tape (g 1)))
-  device-keeps (TapeRequest.Read times) body = accepts Reloads _ _ _ (λ g. loaded-keeps _ (busy-tape (g 1)))
+  device-keeps drive (TapeRequest.Open name mode) body = accepts Reloads _ _ _ (λ g. opens-keeps _ (g 2))
+  device-keeps drive TapeRequest.Close body = accepts Reloads _ _ _ (λ g. loaded-keeps _ (busy-tape (g 1)))
+  device-keeps drive TapeRequest.State body = accepts Reloads _ _ _ (λ _. stays partWrong partSide p)
+  device-keeps drive (TapeRequest.Mtio op times) body = accepts Reloads _ _ _ (λ g. loaded-keeps _ (busy-tape (g 1)))
+  device-keeps drive (TapeRequest.Write bytes) body = accepts Reloads _ _ _ (λ g. loaded-keeps _ (busy-tape (g 1)))
+  device-keeps drive (TapeRequest.Read times) body = accepts Reloads _ _ _ (λ g. loaded-keeps _ (busy-tape (g 1)))
 
 -- ---- the two interfaces of the service
-pub tape-keeps : (p : TapePart) (q : TapeRequest) (body : List ℕ) → Accepts (λ _ next. PartKeeps p next) (tapeStep p q body)
+pub tape-keeps : (drive : ℕ) (p : TapePart) (q : TapeRequest) (body : List ℕ) → Accepts (λ _ next. PartKeeps p next) (tapeStep drive p q body)
 unfolding tapeStep Reloads
-tape-keeps p q body = carried (λ _ next. PartKeeps p next) (withLoaded p) _ (device-keeps p q body)
+tape-keeps drive p q body = carried (λ _ next. PartKeeps p next) (withLoaded p) _ (device-keeps p drive q body)
 
 pub mover-part-keeps : (p : TapePart) (q : MoverRequest) (list : List ℕ) → Accepts (λ _ next. PartKeeps p next) (moverPartStep p q list)
 unfolding moverPartStep there MoverKeeps

@@ -9,6 +9,7 @@ use lib.Dec.{eqb, ltb}
 use borrow.Author.Tests.{ne-eqb, eqb-true, le-ltb}
 use Rattle.codes.specs.Codes.{errors, md5Auth, longestRecord, notAuthorized, illegalArguments, illegalState}
 use Rattle.xdr.specs.Choose.{choose}
+use Rattle.changer_elements.specs.Slots.{inDrive}
 use Rattle.xdr.specs.Xdr.{sameBytes}
 use Rattle.xdr.proofs.Tests.{by-test, yes}
 use Rattle.xdr.proofs.Comparing.{same-is, is-same}
@@ -18,7 +19,7 @@ use Rattle.tape_writing.specs.Writing.{roomFor, written, withMarks}
 use Rattle.tape_ops.specs.declared.Wrote.{Wrote}
 use Rattle.tape_ops.specs.declared.Part.{Part}
 use Rattle.tape_ops.specs.Step.{Step}
-use Rattle.tape_ops.specs.Operations.{writeStep, readPart, entryPart, markStep, mtioStep}
+use Rattle.tape_ops.specs.Operations.{writeStep, readPart, entryPart, markStep, rewinds, mtioStep}
 use Rattle.tape_ops.specs.Promises.{Refused}
 use Rattle.tape_ops.proofs.Promises as cartridge
 use Rattle.wire_frame.specs.Frame.{sequenceOf, messageWord, bodyOf}
@@ -42,7 +43,7 @@ use Rattle.wire_replies.proofs.Numbers as numbers
 use Rattle.rules_parts.specs.declared.types.Tape.{Tape}
 use Rattle.rules.specs.Judge.{test, Outcome, refuse, accept, judge, onto, Accepts, Refuses}
 use Rattle.rules_parts.specs.Parts.{withParts, afterMessage, challengedBy, holdsTape}
-use Rattle.rules.specs.TapeService.{movedTo, isRefusal, protects, tapeOpen, tapeClose, tapeState, tapeMtio, tapeWrite, tapeRead}
+use Rattle.rules.specs.TapeService.{movedTo, afterMtio, isRefusal, protects, tapeOpen, tapeClose, tapeState, tapeMtio, tapeWrite, tapeRead}
 use Rattle.rules.specs.TapeService.{deviceStep, withLoaded, withMover, tapeStep, moverPartStep}
 use Rattle.rules.specs.Connection.{connectOpen, clientAuth, connectStep, authAttributes, configStep}
 use Rattle.rules.specs.Answer.{Kept, Lent, held, Answered, answered, judged, isClose, settled, verdict, needsLogin, isLocked, outcome, refusing, isUnread}
@@ -53,9 +54,10 @@ use Rattle.rules.specs.Leaving.{Leaving, AtMark, mark-read, mark-spaced,
 use Rattle.rules.specs.Leaving.{no-body, zero-words, residue-word, InHeader, unknown-message, bad-body, beforeLogin, Replied, Closes}
 use Rattle.rules.specs.Leaving.{MayWrite, Touched, untouched, wrote, marked, CallsLeave}
 use Rattle.rules.proofs.Login.{login-holds, control, info, attributes-asked, withdrawn-asked}
+use Rattle.rules.proofs.Shelving.{shelving-holds}
 use Rattle.rules.proofs.Environment.{stored, stores, environment-asked, unseen}
-use Rattle.rules.proofs.JudgeLaws.{judged-by, accepts, accepts-any, accepts-map, refusal-says, carried}
-use Rattle.rules.proofs.Numbers.{number-right, refusal-right, refusal-facts}
+use Rattle.rules.proofs.JudgeLaws.{judged-by, accepts, accepts-any, accepts-map, accepts-both, refusal-says, carried}
+use Rattle.rules.proofs.Numbers.{number-right, refusal-right, refusal-facts, off-to-start, after-moved}
 use Rattle.rules.proofs.Services.{one-of}
 use Rattle.rules.proofs.Calls.{heard, call-judged, call-holds, verdict-free}
 
@@ -88,7 +90,7 @@ small-number e h =
                   omega arith,
                   (
                     omega arith,
-                    (omega arith, (omega arith, (omega arith, (omega arith, (omega arith, (omega arith, (omega arith, (omega arith, (omega arith, tt))))))))),
+                    (omega arith, (omega arith, (omega arith, (omega arith, (omega arith, (omega arith, (omega arith, (omega arith, (omega arith, (omega arith, tt)))))))))),
                   ),
                 ),
               ),
@@ -219,9 +221,19 @@ module _ (k : Kept) where
   abbrev tape : List ℕ
   tape = k .image
 
+  -- 6 has no outcome but 0, so that after another the tape is open
+  not-off : (op times : ℕ) → isRefusal (mtioStep tape op from times .gives .error) ≡ false → (mtioStep tape op from times .gives .error ≡ 0 → ⊥) → op ≡ 6 → ⊥
+  not-off op times h n z = n (ap (λ (s : Step Spaced). s .gives .error) (off-to-start tape op from times z h))
+
+  mtio-kept : (op p : ℕ) (image : List ℕ) → (op ≡ 6 → ⊥) → image ≡ k .image
+      → withTape k (withLoaded (tapePart k) (record { tape = afterMtio op p (k .session .tape); image = image })) .kept
+      ≡ (let s = k .session in held (withParts s (s .login) (s .source) (s .mover) (movedTo p (s .tape)) (s .changer)) (k .image) (k .variables))
+  mtio-kept op p image n e =
+      ap (λ (x : Tape). withTape k (withLoaded (tapePart k) (record { tape = x; image = image })) .kept) (after-moved op p (k .session .tape) n) ∙ tape-kept p image e
+
   mtio-good : (op times : ℕ) → (let s = mtioStep tape op from times in isRefusal (s .gives .error) ≡ false
       → Good (Request.Tape (TapeRequest.Mtio op times)) (Reply.Mtio (s .gives .error) (s .gives .residue))
-      (withTape k (withLoaded (tapePart k) (record { tape = movedTo (s .gives .position) (k .session .tape); image = s .image }))))
+      (withTape k (withLoaded (tapePart k) (record { tape = afterMtio op (s .gives .position) (k .session .tape); image = s .image }))))
   unfolding numberOf headerError
   mtio-good op times h =
       let s = mtioStep tape op from times in
@@ -237,13 +249,13 @@ module _ (k : Kept) where
         at-mark = λ e.
             record {
               position = s .gives .position;
-              is = tape-kept _ _ (leave (λ z. omega arith));
+              is = mtio-kept op (s .gives .position) (s .image) (not-off op times h (λ z. omega arith)) (leave (λ z. omega arith));
               holds = mark-spaced op times _ (o .mtio-mark op times e);
             };
         at-end = λ e.
             record {
               position = s .gives .position;
-              is = tape-kept _ _ (leave (λ z. omega arith));
+              is = mtio-kept op (s .gives .position) (s .image) (not-off op times h (λ z. omega arith)) (leave (λ z. omega arith));
               holds = end-spaced op times _ (o .mtio-end op times e);
             };
       }
@@ -290,11 +302,6 @@ module _ (k : Kept) where
         at-end = λ e. record { position = s .position; is = refl; holds = (let w = o .read-end times e in end-read times _ (w .0) (w .1)) };
       }
 
-accepts-both : {A : Type 0} (P Q : Reply → A → Type 0) (o : Outcome A) → Accepts P o → Accepts Q o → Accepts (λ r p. P r p × Q r p) o
-unfolding Accepts
-accepts-both P Q (refuse e) h g = tt
-accepts-both P Q (accept r p) h g = (h, g)
-
 module _ (k : Kept) (l : Lent) (r : List ℕ) where
   Counted : Reply → Done → Type 0
   Counted _ d = d .kept .session .sequence ≡ k .session .sequence
@@ -309,7 +316,7 @@ module _ (k : Kept) (l : Lent) (r : List ℕ) where
   outcome-counted Request.Bad = refusal-says Counted _
   outcome-counted (Request.Connect q) = counted (withLogin k _) (λ _. refl) _
   outcome-counted (Request.Config q) = counted (withLogin k _) (λ _. refl) _
-  outcome-counted (Request.Scsi q) = counted (withChanger k) (λ _. refl) _
+  outcome-counted (Request.Scsi q) = counted (withChanger k _) (λ _. refl) _
   outcome-counted (Request.Tape q) = counted (withTape k) (λ _. refl) _
   outcome-counted (Request.Data q) = counted (withData k q _ _) (λ _. refl) _
   outcome-counted (Request.Mover q) = counted (withPart k _) (λ _. refl) _
@@ -618,10 +625,9 @@ module _ (k : Kept) (l : Lent) (r : List ℕ) where
   mtio-touches op times m =
       let P = MtioTouches op times in
       by-test P (ltb 6 op) _ _ (λ _. untouched refl)
-      (λ _. by-test P (eqb op 6) _ _ (λ _. untouched refl)
       (λ _. by-test P (faulty (k .image) at) _ _ (λ _. untouched refl)
       (λ _. by-test P (eqb op 5) _ _ (λ e. let z = eqb-true op 5 e in marks-touch op times z (m z))
-      (λ _. by-test P (eqb op 4) _ _ (λ _. untouched refl) (λ _. untouched refl)))))
+      (λ _. by-test P (rewinds op) _ _ (λ _. untouched refl) (λ _. untouched refl))))
 
   unprotected : (op : ℕ) (w : Bool) → op ≡ 5 → protects op w ≡ false → w ≡ true
   unfolding protects choose
@@ -629,7 +635,7 @@ module _ (k : Kept) (l : Lent) (r : List ℕ) where
 
   device-touches : (q : TapeRequest) → k .session .login .authorized ≡ true
       → Accepts (λ reply p. TouchedBy (Request.Tape q) reply (withTape k (withLoaded (tapePart k) p)))
-      (deviceStep (k .session .mover .state) (k .session .tape) (k .image) q (bodyOf r))
+      (deviceStep (inDrive (k .session .changer .slots)) (k .session .mover .state) (k .session .tape) (k .image) q (bodyOf r))
   unfolding deviceStep tapeOpen tapeClose tapeState tapeMtio tapeWrite tapeRead TouchedBy WriteTouches MtioTouches
   device-touches (TapeRequest.Open name mode) a = accepts _ _ _ _ (λ _. untouched refl)
   device-touches TapeRequest.Close a = accepts _ _ _ _ (λ _. untouched refl)
@@ -650,7 +656,7 @@ module _ (k : Kept) (l : Lent) (r : List ℕ) where
   outcome-touches Request.Bad h = refusal-says (TouchedBy Request.Bad) _
   outcome-touches (Request.Connect q) h = left (Request.Connect q) (withLogin k _) (λ _. refl) _
   outcome-touches (Request.Config q) h = left (Request.Config q) (withLogin k _) (λ _. refl) _
-  outcome-touches (Request.Scsi q) h = left (Request.Scsi q) (withChanger k) (λ _. refl) _
+  outcome-touches (Request.Scsi q) h = left (Request.Scsi q) (withChanger k _) (λ _. refl) _
   outcome-touches (Request.Tape q) h =
       carried (TouchedBy (Request.Tape q)) (withTape k) _
       (carried (λ reply p. TouchedBy (Request.Tape q) reply (withTape k p)) (withLoaded (tapePart k)) _ (device-touches q (logged _ h)))
@@ -735,5 +741,6 @@ calls-leave =
       stored = stored;
       stores = stores;
       environment = environment-asked;
+      shelving = shelving-holds;
       unseen = λ k l r other. unseen k other l r;
     }

@@ -58,7 +58,7 @@ use Rattle.rules.specs.Login.{LogsIn, Entered, enters-here, enters-later
 use Rattle.rules.specs.Login.{LoginAlone, OfControl, of-open, of-md5, of-other, of-config, ControlLeaves}
 use Rattle.rules.proofs.JudgeLaws.{judged-by, accepts-any, carried}
 use Rattle.rules.proofs.Guarding.{by-guard, stored, roomy}
-use Rattle.rules.proofs.Calls.{heard, verdict-free, noticed-holds, undigested, untyped}
+use Rattle.rules.proofs.Calls.{by-opening, heard, verdict-free, noticed-holds, undigested, untyped}
 use Rattle.rules.proofs.Owning.{Owned, of-data, of-tape, of-mover, of-scsi, of-joint, of-control, unknown, bad, owned}
 
 clash : {A : Type 0} → false ≡ true → A
@@ -215,7 +215,7 @@ module _ (k : Kept) (l : Lent) (r : List ℕ) where
   verdict-login (Request.Config (ConfigRequest.AuthAttributes type)) =
       ap loginIn (verdict-free k l r (Request.Config (ConfigRequest.AuthAttributes type)) refl) ∙ attributes-login type
   verdict-login (Request.Config ConfigRequest.ServerInfo) = same-judged _ _ (kept-login (l .challenge) (Reply.ServerInfo (g .authorized)))
-  verdict-login (Request.Scsi q) = same-judged _ _ (same-onto (withChanger k) (λ _. refl) _)
+  verdict-login (Request.Scsi q) = same-judged _ _ (same-onto (withChanger k _) (λ _. refl) _)
   verdict-login (Request.Tape q) = same-judged _ _ (same-onto (withTape k) (λ _. refl) _)
   verdict-login (Request.Data q) = same-judged _ _ (same-onto (withData k q _ _) (λ _. refl) _)
   verdict-login (Request.Mover q) = same-judged _ _ (same-onto (withPart k _) (λ _. refl) _)
@@ -631,13 +631,12 @@ module _ (k : Kept) (c : Call) where
   wrong id digest h m e n = refused-login-body k lent ask 4 m (undigested k lent ask id digest h e (of-test _ (λ t. n (md5-in k c id digest e t))))
 
 -- ---- a new session
-stranger : (time room : ℕ) → authorized (opening time room .next) ≡ false
-unfolding opening
-stranger time room = by-test (λ (a : Answered). authorized (a .next) ≡ false) (ltb room leastRoom) _ _ (λ _. refl) (λ _. refl)
+stranger : (slots : List ℕ) (time room : ℕ) → authorized (opening slots time room .next) ≡ false
+stranger slots time room = by-opening (λ (a : Answered). authorized (a .next) ≡ false) slots time room (λ _ _. refl) (λ _. refl)
 
-fresh : (time room : ℕ) → newestOf (opening time room .next .session .login) ≡ none
-unfolding opening newestOf choose
-fresh time room = by-test (λ (a : Answered). newestOf (a .next .session .login) ≡ none) (ltb room leastRoom) _ _ (λ _. refl) (λ _. refl)
+fresh : (slots : List ℕ) (time room : ℕ) → newestOf (opening slots time room .next .session .login) ≡ none
+unfolding newestOf choose
+fresh slots time room = by-opening (λ (a : Answered). newestOf (a .next .session .login) ≡ none) slots time room (λ _ _. refl) (λ _. refl)
 
 pub login-holds : LoginHolds
 login-holds =

@@ -27,15 +27,17 @@ use Rattle.rules_parts.specs.declared.types.Changer.{Changer}
 use Rattle.rules_parts.specs.declared.types.Login.{Login}
 use Rattle.rules_parts.specs.declared.types.Session.{Session}
 use Rattle.rules_parts.specs.Names.{leastRoom}
-use Rattle.rules.specs.Judge.{test, Outcome, refuse, accept, judge, onto}
+use Rattle.rules.specs.Judge.{test, Outcome, refuse, accept, judge, onto, Accepts}
 use Rattle.rules_parts.specs.Parts.{restData, restMover, closedTape, closedChanger}
 use Rattle.rules.specs.TapeService.{TapePart}
 use Rattle.rules.specs.Relation.{keeps}
 use Rattle.rules.specs.Answer.{Kept, Lent, Answered, guarded, roomOf, answered, requested, judged, isClose, settled, verdict, isLocked, outcome, noticed, silent, tapePart, withData}
 use Rattle.rules.specs.Answer.{withPart, withTape, withChanger, messageIn, requestIn}
-use Rattle.rules.specs.Order.{Service, DataService, TapeService, ScsiService, routeOf, serviceNumber, sameService, Ask, Call, withList, Merge, done, left, middle, right, Asks, Roomy}
+use Rattle.rules.specs.ScsiService.{scsiStep, scsiShown, movesMedium}
+use Rattle.rules.specs.Order.{Service, DataService, TapeService, ScsiService, JointService, serviceOf, isMove, routeOf, serviceNumber, sameService, Ask, Call, withList, Merge, done, left, middle, right, Asks, Roomy}
 use Rattle.rules.specs.Order.{unstamped, Given, given, Run, run, repliesTo, refusal, AnyOrder}
 use Rattle.rules.proofs.Owning.{Owned, of-data, of-tape, of-mover, of-scsi, unknown, bad, owned}
+use Rattle.rules.proofs.Changer.{slots-stay, scsi-blind}
 use Rattle.rules.proofs.Guarding.{lent-well}
 use Rattle.rules.proofs.Calls.{kept, lengths}
 
@@ -85,10 +87,11 @@ abbrev lentAlone : List ℕ → Lent
 lentAlone list = record { accounts = []; challenge = []; time = 0; room = 0; addresses = list; made = false }
 
 abbrev dataStepped : Login → DataPart → Request → Ask → Step DataPart
-dataStepped g d q a = let b = judged (aloneOn g d restPart closedChanger) (lentAlone (a .addresses)) (a .request) q in record { sent = unstamped (b .reply); part = dataPart (b .next) }
+dataStepped g d q a = let b = judged (aloneOn g d restPart (closedChanger [])) (lentAlone (a .addresses)) (a .request) q in record { sent = unstamped (b .reply); part = dataPart (b .next) }
 
-abbrev tapeStepped : Login → TapePart → Request → Ask → Step TapePart
-tapeStepped g p q a = let b = judged (aloneOn g restSource p closedChanger) (lentAlone (a .addresses)) (a .request) q in record { sent = unstamped (b .reply); part = tapePart (b .next) }
+-- the tape's requests see the slot list, which none of the three services changes
+abbrev tapeStepped : Login → List ℕ → TapePart → Request → Ask → Step TapePart
+tapeStepped g slots p q a = let b = judged (aloneOn g restSource p (closedChanger slots)) (lentAlone (a .addresses)) (a .request) q in record { sent = unstamped (b .reply); part = tapePart (b .next) }
 
 abbrev scsiStepped : Login → Changer → Request → Ask → Step Changer
 scsiStepped g c q a = let b = judged (aloneOn g restSource restPart c) (lentAlone (a .addresses)) (a .request) q in record { sent = unstamped (b .reply); part = b .next .session .changer }
@@ -96,8 +99,8 @@ scsiStepped g c q a = let b = judged (aloneOn g restSource restPart c) (lentAlon
 abbrev dataBy : Login → DataPart → Ask → Step DataPart
 dataBy g d a = dataStepped g d (requestIn (a .request)) a
 
-abbrev tapeBy : Login → TapePart → Ask → Step TapePart
-tapeBy g p a = tapeStepped g p (requestIn (a .request)) a
+abbrev tapeBy : Login → List ℕ → TapePart → Ask → Step TapePart
+tapeBy g slots p a = tapeStepped g slots p (requestIn (a .request)) a
 
 abbrev scsiBy : Login → Changer → Ask → Step Changer
 scsiBy g c a = scsiStepped g c (requestIn (a .request)) a
@@ -130,13 +133,13 @@ ended v s n d p c =
 
 record Ends (v : Bool) (c : ℕ) (k : Kept) (xs ys zs : List Ask) (n : ℕ) (run : Run) : Type 0 where
   data-replies : repliesTo DataService (run .replies) ≡ turns v c (dataBy (k .session .login)) (dataPart k) xs
-  tape-replies : repliesTo TapeService (run .replies) ≡ turns v c (tapeBy (k .session .login)) (tapePart k) ys
+  tape-replies : repliesTo TapeService (run .replies) ≡ turns v c (tapeBy (k .session .login) (k .session .changer .slots)) (tapePart k) ys
   scsi-replies : repliesTo ScsiService (run .replies) ≡ turns v c (scsiBy (k .session .login)) (k .session .changer) zs
   codes : Each (λ g. g .code ≡ choose v 0 c) (run .replies)
   quiet : run .notices ≡ []
   end : run .last ≡ ended v (k .session) n
       (last v c (dataBy (k .session .login)) (dataPart k) xs)
-      (last v c (tapeBy (k .session .login)) (tapePart k) ys)
+      (last v c (tapeBy (k .session .login) (k .session .changer .slots)) (tapePart k) ys)
       (last v c (scsiBy (k .session .login)) (k .session .changer) zs)
 
 -- ---- one call
@@ -215,8 +218,19 @@ reaches true c d k l a f o h w =
     rw (answered, guarded, le-ltb (roomOf k l) leastRoom (lent-well k l w (e .0)), e .1, o, h .framed, requested, h .request)
 reaches false c d k l a f o h w = refused-by k l (a .request) c f w
 
-own-request : (d : Service) (a : Ask) → Asks d a → Owned d (requestIn (a .request))
-own-request d a h = rw (h .service) at (owned (messageIn (a .request)) (messageWord (a .request)) (bodyOf (a .request)))
+-- a request of a service, which is no joint one, is no MOVE MEDIUM
+routed : (b : Bool) (x d : Service) → eqb (serviceNumber d) 3 ≡ false → choose b JointService x ≡ d → (b ≡ false) × (x ≡ d)
+unfolding choose serviceNumber
+routed true x d n h = absurd (let m = rw (sym h) at n in let z : _≡_ {A = ℕ} 0 1 = cc in omega arith)
+routed false x d n h = (refl, h)
+
+module _ (d : Service) (apart : eqb (serviceNumber d) 3 ≡ false) (a : Ask) (h : Asks d a) where
+  route-is : (isMove (requestIn (a .request)) (bodyOf (a .request)) ≡ false) × (serviceOf (messageIn (a .request)) (messageWord (a .request)) ≡ d)
+  unfolding routeOf
+  route-is = let s : routeOf (a .request) ≡ d = h .service in routed _ _ d apart s
+
+  own-request : Owned d (requestIn (a .request))
+  own-request = rw (route-is .1) at (owned (messageIn (a .request)) (messageWord (a .request)) (bodyOf (a .request)))
 
 -- what a reply shows does not hang on its sequence and time stamp
 stamps : (q t m e : ℕ) (p : Reply) (l : List ℕ) → unstamped (replyBytes q t m e p l) ≡ unstamped (replyBytes 0 0 m e p l)
@@ -232,8 +246,8 @@ module _ (k : Kept) (l : Lent) (a : Ask) (o : k .session .closed ≡ false) (w :
   -- whatever the login test and the service come to
   data-alike : (q : Request) (p : DataRequest) (b : Bool) (x : Outcome Data)
       → (let here = settled k (l .time) (a .request) q (judge (test b 4 ∷ []) (onto (withData k p (bodyOf (a .request)) (a .addresses)) x)) in
-      let there = settled (aloneOn (k .session .login) (dataPart k) restPart closedChanger) 0 (a .request) q
-      (judge (test b 4 ∷ []) (onto (withData (aloneOn (k .session .login) (dataPart k) restPart closedChanger) p (bodyOf (a .request)) (a .addresses)) x)) in
+      let there = settled (aloneOn (k .session .login) (dataPart k) restPart (closedChanger [])) 0 (a .request) q
+      (judge (test b 4 ∷ []) (onto (withData (aloneOn (k .session .login) (dataPart k) restPart (closedChanger [])) p (bodyOf (a .request)) (a .addresses)) x)) in
       Gives a here (record { ask = a; code = 0; reply = unstamped (there .reply) }) (ended true (k .session) 1 (dataPart (there .next)) (tapePart k) (k .session .changer)))
   unfolding settled judge onto noticed ended counts marks choose
   data-alike q p true x = record { what = shown (k .session .sequence) (l .time) a _ _; quiet = refl; next = refl }
@@ -257,8 +271,8 @@ module _ (k : Kept) (l : Lent) (a : Ask) (o : k .session .closed ≡ false) (w :
   data-gives : (v : Bool) (c : ℕ) → Fate v c k → Asks DataService a
       → Gives a (answered k (withList a l) (a .request)) (turn v c (dataBy (k .session .login)) (dataPart k) a)
       (ended v (k .session) 1 (next v c (dataBy (k .session .login)) (dataPart k) a) (tapePart k) (k .session .changer))
-  unfolding turn next ended counts marks choose unstamped
-  data-gives true c e h = rw (reaches true c DataService k (withList a l) a e o h w) (data-served (requestIn (a .request)) (own-request DataService a h))
+  unfolding turn next ended counts marks choose unstamped serviceNumber
+  data-gives true c e h = rw (reaches true c DataService k (withList a l) a e o h w) (data-served (requestIn (a .request)) (own-request DataService refl a h))
   data-gives false c e h = rw (reaches false c DataService k (withList a l) a e o h w) (record { what = refl; quiet = refl; next = refl })
 
   data-valid : (v : Bool) (c : ℕ) → Fate v c k → Asks DataService a → Fate v c
@@ -270,8 +284,8 @@ module _ (k : Kept) (l : Lent) (a : Ask) (o : k .session .closed ≡ false) (w :
   -- whatever the login test and the service come to
   tape-alike : (q : Request) (b : Bool) (shows : TapePart → List ℕ) (x : Outcome TapePart)
       → (let here = settled k (l .time) (a .request) q (judge (test b 4 ∷ []) (onto (λ p. withPart k (shows p) p) x)) in
-      let there = settled (aloneOn (k .session .login) restSource (tapePart k) closedChanger) 0 (a .request) q
-      (judge (test b 4 ∷ []) (onto (λ p. withPart (aloneOn (k .session .login) restSource (tapePart k) closedChanger) (shows p) p) x)) in
+      let there = settled (aloneOn (k .session .login) restSource (tapePart k) (closedChanger (k .session .changer .slots))) 0 (a .request) q
+      (judge (test b 4 ∷ []) (onto (λ p. withPart (aloneOn (k .session .login) restSource (tapePart k) (closedChanger (k .session .changer .slots))) (shows p) p) x)) in
       Gives a here (record { ask = a; code = 0; reply = unstamped (there .reply) }) (ended true (k .session) 1 (dataPart k) (tapePart (there .next)) (k .session .changer)))
   unfolding settled judge onto noticed ended counts marks choose
   tape-alike q true shows x = record { what = shown (k .session .sequence) (l .time) a _ _; quiet = refl; next = refl }
@@ -279,20 +293,20 @@ module _ (k : Kept) (l : Lent) (a : Ask) (o : k .session .closed ≡ false) (w :
   tape-alike q false shows (accept reply p) = record { what = shown (k .session .sequence) (l .time) a _ _; quiet = refl; next = refl }
 
   of-tape-request : (q : TapeRequest)
-      → Gives a (judged k (withList a l) (a .request) (Request.Tape q)) (record { ask = a; code = 0; reply = tapeStepped (k .session .login) (tapePart k) (Request.Tape q) a .sent })
-      (ended true (k .session) 1 (dataPart k) (tapeStepped (k .session .login) (tapePart k) (Request.Tape q) a .part) (k .session .changer))
+      → Gives a (judged k (withList a l) (a .request) (Request.Tape q)) (record { ask = a; code = 0; reply = tapeStepped (k .session .login) (k .session .changer .slots) (tapePart k) (Request.Tape q) a .sent })
+      (ended true (k .session) 1 (dataPart k) (tapeStepped (k .session .login) (k .session .changer .slots) (tapePart k) (Request.Tape q) a .part) (k .session .changer))
   unfolding judged isClose verdict outcome choose
   of-tape-request q = tape-alike (Request.Tape q) _ (λ p. p .image) _
 
   of-mover-request : (q : MoverRequest)
-      → Gives a (judged k (withList a l) (a .request) (Request.Mover q)) (record { ask = a; code = 0; reply = tapeStepped (k .session .login) (tapePart k) (Request.Mover q) a .sent })
-      (ended true (k .session) 1 (dataPart k) (tapeStepped (k .session .login) (tapePart k) (Request.Mover q) a .part) (k .session .changer))
+      → Gives a (judged k (withList a l) (a .request) (Request.Mover q)) (record { ask = a; code = 0; reply = tapeStepped (k .session .login) (k .session .changer .slots) (tapePart k) (Request.Mover q) a .sent })
+      (ended true (k .session) 1 (dataPart k) (tapeStepped (k .session .login) (k .session .changer .slots) (tapePart k) (Request.Mover q) a .part) (k .session .changer))
   unfolding judged isClose verdict outcome choose
   of-mover-request q = tape-alike (Request.Mover q) _ (λ _. a .addresses) _
 
   tape-served : (q : Request) → Owned TapeService q
-      → Gives a (judged k (withList a l) (a .request) q) (record { ask = a; code = 0; reply = tapeStepped (k .session .login) (tapePart k) q a .sent })
-      (ended true (k .session) 1 (dataPart k) (tapeStepped (k .session .login) (tapePart k) q a .part) (k .session .changer))
+      → Gives a (judged k (withList a l) (a .request) q) (record { ask = a; code = 0; reply = tapeStepped (k .session .login) (k .session .changer .slots) (tapePart k) q a .sent })
+      (ended true (k .session) 1 (dataPart k) (tapeStepped (k .session .login) (k .session .changer .slots) (tapePart k) q a .part) (k .session .changer))
   unfolding judged isClose verdict outcome onto choose
   tape-served _ (of-tape q) = of-tape-request q
   tape-served _ (of-mover q) = of-mover-request q
@@ -300,49 +314,84 @@ module _ (k : Kept) (l : Lent) (a : Ask) (o : k .session .closed ≡ false) (w :
   tape-served _ (bad _) = tape-alike Request.Bad (isLocked (k .session .login) _) (λ p. p .image) (refuse _)
 
   tape-gives : (v : Bool) (c : ℕ) → Fate v c k → Asks TapeService a
-      → Gives a (answered k (withList a l) (a .request)) (turn v c (tapeBy (k .session .login)) (tapePart k) a)
-      (ended v (k .session) 1 (dataPart k) (next v c (tapeBy (k .session .login)) (tapePart k) a) (k .session .changer))
-  unfolding turn next ended counts marks choose unstamped
-  tape-gives true c e h = rw (reaches true c TapeService k (withList a l) a e o h w) (tape-served (requestIn (a .request)) (own-request TapeService a h))
+      → Gives a (answered k (withList a l) (a .request)) (turn v c (tapeBy (k .session .login) (k .session .changer .slots)) (tapePart k) a)
+      (ended v (k .session) 1 (dataPart k) (next v c (tapeBy (k .session .login) (k .session .changer .slots)) (tapePart k) a) (k .session .changer))
+  unfolding turn next ended counts marks choose unstamped serviceNumber
+  tape-gives true c e h = rw (reaches true c TapeService k (withList a l) a e o h w) (tape-served (requestIn (a .request)) (own-request TapeService refl a h))
   tape-gives false c e h = rw (reaches false c TapeService k (withList a l) a e o h w) (record { what = refl; quiet = refl; next = refl })
 
   tape-valid : (v : Bool) (c : ℕ) → Fate v c k → Asks TapeService a → Fate v c
-      (ended v (k .session) 1 (dataPart k) (next v c (tapeBy (k .session .login)) (tapePart k) a) (k .session .changer))
+      (ended v (k .session) 1 (dataPart k) (next v c (tapeBy (k .session .login) (k .session .changer .slots)) (tapePart k) a) (k .session .changer))
   unfolding next ended counts marks choose
   tape-valid true c e h = subst (Fate true c) (tape-gives true c e h .next) (fate-kept c k (withList a l) (a .request) e)
   tape-valid false c e h = e
 
   -- whatever the login test and the service come to
-  scsi-alike : (q : Request) (b : Bool) (x : Outcome Changer)
-      → (let here = settled k (l .time) (a .request) q (judge (test b 4 ∷ []) (onto (withChanger k) x)) in
+  scsi-alike : (q : Request) (b : Bool) (shows : List ℕ) (x : Outcome Changer)
+      → (let here = settled k (l .time) (a .request) q (judge (test b 4 ∷ []) (onto (withChanger k shows) x)) in
       let there = settled (aloneOn (k .session .login) restSource restPart (k .session .changer)) 0 (a .request) q
-      (judge (test b 4 ∷ []) (onto (withChanger (aloneOn (k .session .login) restSource restPart (k .session .changer))) x)) in
+      (judge (test b 4 ∷ []) (onto (withChanger (aloneOn (k .session .login) restSource restPart (k .session .changer)) shows) x)) in
       Gives a here (record { ask = a; code = 0; reply = unstamped (there .reply) }) (ended true (k .session) 1 (dataPart k) (tapePart k) (there .next .session .changer)))
   unfolding settled judge onto noticed ended counts marks choose
-  scsi-alike q true x = record { what = shown (k .session .sequence) (l .time) a _ _; quiet = refl; next = refl }
-  scsi-alike q false (refuse e) = record { what = shown (k .session .sequence) (l .time) a _ _; quiet = refl; next = refl }
-  scsi-alike q false (accept reply p) = record { what = shown (k .session .sequence) (l .time) a _ _; quiet = refl; next = refl }
+  scsi-alike q true shows x = record { what = shown (k .session .sequence) (l .time) a _ _; quiet = refl; next = refl }
+  scsi-alike q false shows (refuse e) = record { what = shown (k .session .sequence) (l .time) a _ _; quiet = refl; next = refl }
+  scsi-alike q false shows (accept reply p) = record { what = shown (k .session .sequence) (l .time) a _ _; quiet = refl; next = refl }
 
-  of-scsi-request : (q : ScsiRequest)
+  -- alone the tape is closed, which no request but a move looks at
+  scsi-alike-by : (q : Request) (b : Bool) (shows : List ℕ) (x y : Outcome Changer) → x ≡ y
+      → (let here = settled k (l .time) (a .request) q (judge (test b 4 ∷ []) (onto (withChanger k shows) x)) in
+      let there = settled (aloneOn (k .session .login) restSource restPart (k .session .changer)) 0 (a .request) q
+      (judge (test b 4 ∷ []) (onto (withChanger (aloneOn (k .session .login) restSource restPart (k .session .changer)) shows) y)) in
+      Gives a here (record { ask = a; code = 0; reply = unstamped (there .reply) }) (ended true (k .session) 1 (dataPart k) (tapePart k) (there .next .session .changer)))
+  scsi-alike-by q b shows x y e = rw e (scsi-alike q b shows y)
+
+  of-scsi-request : (q : ScsiRequest) → movesMedium q (bodyOf (a .request)) ≡ false
       → Gives a (judged k (withList a l) (a .request) (Request.Scsi q)) (record { ask = a; code = 0; reply = scsiStepped (k .session .login) (k .session .changer) (Request.Scsi q) a .sent })
       (ended true (k .session) 1 (dataPart k) (tapePart k) (scsiStepped (k .session .login) (k .session .changer) (Request.Scsi q) a .part))
   unfolding judged isClose verdict outcome choose
-  of-scsi-request q = scsi-alike (Request.Scsi q) _ _
+  of-scsi-request q m =
+      scsi-alike-by (Request.Scsi q) _ _ _ _ (scsi-blind (k .session .tape .opened) false (k .session .changer) q (bodyOf (a .request)) m)
 
-  scsi-served : (q : Request) → Owned ScsiService q
+  scsi-served : (q : Request) → Owned ScsiService q → isMove q (bodyOf (a .request)) ≡ false
       → Gives a (judged k (withList a l) (a .request) q) (record { ask = a; code = 0; reply = scsiStepped (k .session .login) (k .session .changer) q a .sent })
       (ended true (k .session) 1 (dataPart k) (tapePart k) (scsiStepped (k .session .login) (k .session .changer) q a .part))
-  unfolding judged isClose verdict outcome onto choose
-  scsi-served _ (of-scsi q) = of-scsi-request q
-  scsi-served _ (unknown _) = scsi-alike Request.Unknown (isLocked (k .session .login) _) (refuse _)
-  scsi-served _ (bad _) = scsi-alike Request.Bad (isLocked (k .session .login) _) (refuse _)
+  unfolding judged isClose verdict outcome onto isMove choose
+  scsi-served _ (of-scsi q) m = of-scsi-request q m
+  scsi-served _ (unknown _) m = scsi-alike Request.Unknown (isLocked (k .session .login) _) [] (refuse _)
+  scsi-served _ (bad _) m = scsi-alike Request.Bad (isLocked (k .session .login) _) [] (refuse _)
 
   scsi-gives : (v : Bool) (c : ℕ) → Fate v c k → Asks ScsiService a
       → Gives a (answered k (withList a l) (a .request)) (turn v c (scsiBy (k .session .login)) (k .session .changer) a)
       (ended v (k .session) 1 (dataPart k) (tapePart k) (next v c (scsiBy (k .session .login)) (k .session .changer) a))
-  unfolding turn next ended counts marks choose unstamped
-  scsi-gives true c e h = rw (reaches true c ScsiService k (withList a l) a e o h w) (scsi-served (requestIn (a .request)) (own-request ScsiService a h))
+  unfolding turn next ended counts marks choose unstamped serviceNumber
+  scsi-gives true c e h = rw (reaches true c ScsiService k (withList a l) a e o h w) (scsi-served (requestIn (a .request)) (own-request ScsiService refl a h) (route-is ScsiService refl a h .0))
   scsi-gives false c e h = rw (reaches false c ScsiService k (withList a l) a e o h w) (record { what = refl; quiet = refl; next = refl })
+
+  -- and it leaves the slot list
+  settled-slots : (q : Request) (b : Bool) (shows : List ℕ) (x : Outcome Changer) → Accepts (λ _ n. n .slots ≡ k .session .changer .slots) x
+      → settled (aloneOn (k .session .login) restSource restPart (k .session .changer)) 0 (a .request) q
+      (judge (test b 4 ∷ []) (onto (withChanger (aloneOn (k .session .login) restSource restPart (k .session .changer)) shows) x)) .next .session .changer .slots
+      ≡ k .session .changer .slots
+  unfolding settled judge onto noticed Accepts choose
+  settled-slots q true shows x h = refl
+  settled-slots q false shows (refuse e) h = refl
+  settled-slots q false shows (accept reply n) h = h
+
+  stepped-slots : (q : Request) → Owned ScsiService q → isMove q (bodyOf (a .request)) ≡ false
+      → scsiStepped (k .session .login) (k .session .changer) q a .part .slots ≡ k .session .changer .slots
+  unfolding judged isClose verdict outcome onto isMove Accepts choose
+  stepped-slots _ (of-scsi q) m =
+      let c = k .session .changer in
+      settled-slots (Request.Scsi q) _ (scsiShown q (bodyOf (a .request)) (c .slots)) (scsiStep false c q (bodyOf (a .request)))
+      (slots-stay false c q (bodyOf (a .request)) m)
+  stepped-slots _ (unknown _) m = settled-slots Request.Unknown (isLocked (k .session .login) _) [] (refuse _) tt
+  stepped-slots _ (bad _) m = settled-slots Request.Bad (isLocked (k .session .login) _) [] (refuse _) tt
+
+  scsi-slots : (v : Bool) (c : ℕ) → Asks ScsiService a
+      → next v c (scsiBy (k .session .login)) (k .session .changer) a .slots ≡ k .session .changer .slots
+  unfolding next choose serviceNumber
+  scsi-slots true c h = stepped-slots (requestIn (a .request)) (own-request ScsiService refl a h) (route-is ScsiService refl a h .0)
+  scsi-slots false c h = refl
 
   scsi-valid : (v : Bool) (c : ℕ) → Fate v c k → Asks ScsiService a → Fate v c
       (ended v (k .session) 1 (dataPart k) (tapePart k) (next v c (scsiBy (k .session .login)) (k .session .changer) a))
@@ -382,7 +431,7 @@ module _ (v : Bool) (c : ℕ) (k : Kept) (xs ys zs : List Ask) (ws : List Call) 
       })
 
   abbrev tape-next : Kept
-  tape-next = ended v (k .session) 1 (dataPart k) (next v c (tapeBy (k .session .login)) (tapePart k) a) (k .session .changer)
+  tape-next = ended v (k .session) 1 (dataPart k) (next v c (tapeBy (k .session .login) (k .session .changer .slots)) (tapePart k) a) (k .session .changer)
 
   tape-more : Asks TapeService a → Ends v c tape-next xs ys zs (length ws) (run tape-next ws) → Ends v c k xs (a ∷ ys) zs (suc (length ws)) (run k (here ∷ ws))
   unfolding turns last ended counts marks after turn sameService serviceNumber
@@ -390,7 +439,7 @@ module _ (v : Bool) (c : ℕ) (k : Kept) (xs ys zs : List Ask) (ws : List Call) 
       rw (first-call k here ws _ tape-next (tape-gives k l a o w v c e h))
       (record {
         data-replies = others DataService TapeService _ _ (h .service) refl ∙ ih .data-replies;
-        tape-replies = own TapeService _ _ (h .service) refl ∙ ap (turn v c (tapeBy (k .session .login)) (tapePart k) a ∷_) (ih .tape-replies);
+        tape-replies = own TapeService _ _ (h .service) refl ∙ ap (turn v c (tapeBy (k .session .login) (k .session .changer .slots)) (tapePart k) a ∷_) (ih .tape-replies);
         scsi-replies = others ScsiService TapeService _ _ (h .service) refl ∙ ih .scsi-replies;
         codes = (refl, ih .codes);
         quiet = ih .quiet;
@@ -403,14 +452,19 @@ module _ (v : Bool) (c : ℕ) (k : Kept) (xs ys zs : List Ask) (ws : List Call) 
   scsi-more : Asks ScsiService a → Ends v c scsi-next xs ys zs (length ws) (run scsi-next ws) → Ends v c k xs ys (a ∷ zs) (suc (length ws)) (run k (here ∷ ws))
   unfolding turns last ended counts marks after turn sameService serviceNumber
   scsi-more h ih =
+      let g = k .session .login in
+      let same = scsi-slots k l a o w v c h in
       rw (first-call k here ws _ scsi-next (scsi-gives k l a o w v c e h))
       (record {
         data-replies = others DataService ScsiService _ _ (h .service) refl ∙ ih .data-replies;
-        tape-replies = others TapeService ScsiService _ _ (h .service) refl ∙ ih .tape-replies;
+        tape-replies =
+            others TapeService ScsiService _ _ (h .service) refl ∙ ih .tape-replies ∙ ap (λ (slots : List ℕ). turns v c (tapeBy g slots) (tapePart k) ys) same;
         scsi-replies = own ScsiService _ _ (h .service) refl ∙ ap (turn v c (scsiBy (k .session .login)) (k .session .changer) a ∷_) (ih .scsi-replies);
         codes = (refl, ih .codes);
         quiet = ih .quiet;
-        end = ih .end;
+        end =
+            ih .end ∙ ap (λ (slots : List ℕ). ended v (scsi-next .session) (length ws) (last v c (dataBy g) (dataPart k) xs)
+            (last v c (tapeBy g slots) (tapePart k) ys) (last v c (scsiBy g) (scsi-next .session .changer) zs)) same;
       })
 
 -- every merge ends where the services end that serve their lists alone

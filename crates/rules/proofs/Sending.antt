@@ -7,9 +7,13 @@ use mathlib.Core.List.{List, []}
 use lib.ListN.{length, getD}
 use lib.Dec.{eqb}
 use borrow.Author.Tests.{eqb-true, ltb-false}
-use Rattle.codes.specs.Codes.{senseBytes, tcpAddress, md5Auth, mostLent, storeLength, challengeLength}
+use Rattle.codes.specs.Codes.{senseBytes, tcpAddress, md5Auth, mostLent, storeLength, challengeLength, mostStatus}
 use Rattle.xdr.specs.Choose.{choose, least}
 use Rattle.xdr.proofs.Tests.{by-test, least-right, yes}
+use Rattle.changer_elements.specs.declared.Asked.{Asked}
+use Rattle.changer_elements.specs.declared.StatusDone.the-variants as StatusDone
+use Rattle.changer_elements.specs.Status.{readStatus, reported, statusOf, statusData}
+use Rattle.changer_elements.proofs.Bytes.{status-most, cut-length}
 use Rattle.wire_layouts.specs.AddressLists.{lendable}
 use Rattle.rules_parts.proofs.Addressing.{tcp-right}
 use Rattle.tape_ops.proofs.Reading.{Copied, read-copies}
@@ -39,11 +43,12 @@ use Rattle.rules.specs.Judge.{Outcome, Accepts}
 use Rattle.rules.specs.DataService.{hasRun, dataState, dataListen, dataStart, dataEnvironment, dataStop, dataStep, dataShown}
 use Rattle.rules.specs.MoverService.{moverState, moverListen, moverContinue, moverStop, setWindow, moverRead, setSize, moverStep}
 use Rattle.rules.specs.TapeService.{Loaded, tapeOpen, tapeClose, tapeState, tapeMtio, tapeWrite, tapeRead, deviceStep}
-use Rattle.rules.specs.ScsiService.{scsiOpen, scsiClear, scsiState, senseLength, checks, runCdb, scsiCdb, scsiStep}
+use Rattle.rules.specs.ScsiService.{scsiOpen, scsiClear, scsiState, senseLength, checks, runCdb, scsiCdb, scsiStep, statusShown, cdbShown, scsiShown}
 use Rattle.rules.specs.Addresses.{listenWrong, listening}
 use Rattle.rules.specs.Joint.{dataConnect, moverConnect, dataAbort, moverAbort, moverClose, jointStep}
 use Rattle.rules.specs.Connection.{connectOpen, clientAuth, connectStep, authAttributes, configStep}
 use Rattle.rules.proofs.JudgeLaws.{judged-by, accepts}
+use Rattle.rules.proofs.Changer.{by-run}
 
 sense-length : (cdb : List ℕ) (room : ℕ) → senseLength cdb room ≤ senseBytes
 unfolding senseLength
@@ -88,19 +93,33 @@ joint-sends d m t JointRequest.MoverAbort made = accepts Sends _ _ _ (λ _. tt)
 joint-sends d m t JointRequest.MoverClose made = accepts Sends _ _ _ (λ _. tt)
 joint-sends d m t (JointRequest.MoverConnect mode address count) made = accepts Sends _ _ _ (λ _. tt)
 
-run-sends : (c : Changer) (cdb : List ℕ) (room : ℕ) → Accepts Sends (runCdb c cdb room)
-unfolding runCdb checks Sendable Accepts
-run-sends c cdb room =
-    by-test (Accepts Sends) (eqb (getD cdb 0 0) 0) _ _ (λ _. tt)
-    (λ _. by-test (Accepts Sends) (eqb (getD cdb 0 0) 3) _ _ (λ _. sense-length cdb room) (λ _. tt))
+-- of the changer, with the status that it shows
+status-sends : (a : Asked) (slots : List ℕ) → length (statusData a slots) ≤ mostStatus
+status-sends a slots =
+    let m = status-most a slots in
+    let n = least-right (a .cut) (length (statusOf slots (reported a))) in
+    rw (cut-length a slots) (omega arith)
 
-pub scsi-sends : (c : Changer) (q : ScsiRequest) (body : List ℕ) → Accepts Sends (scsiStep c q body)
-unfolding scsiStep scsiOpen scsiClear scsiState scsiCdb Sendable
-scsi-sends c (ScsiRequest.Open name) body = accepts Sends _ _ _ (λ _. tt)
-scsi-sends c ScsiRequest.Close body = accepts Sends _ _ _ (λ _. tt)
-scsi-sends c ScsiRequest.State body = accepts Sends _ _ _ (λ _. tt)
-scsi-sends c ScsiRequest.Reset body = accepts Sends _ _ _ (λ _. tt)
-scsi-sends c (ScsiRequest.Cdb cdb room) body = judged-by Sends _ _ (λ _. run-sends c (bytesAt body cdb) room)
+shown-sends : (cdb : List ℕ) (room : ℕ) (slots : List ℕ) (a : Asked) → eqb (getD cdb 0 0) 0xB8 ≡ true → readStatus cdb room ≡ StatusDone.Reports a
+    → length (cdbShown cdb room slots) ≤ mostStatus
+unfolding cdbShown statusShown choose
+shown-sends cdb room slots a e h = rw (cdbShown, e, h) (status-sends a slots)
+
+run-sends : (tape : Bool) (c : Changer) (cdb : List ℕ) (room : ℕ) → Accepts (λ r _. Sendable r (cdbShown cdb room (c .slots))) (runCdb tape c cdb room)
+unfolding checks Sendable Accepts
+run-sends tape c cdb room =
+    by-run (Accepts (λ r _. Sendable r (cdbShown cdb room (c .slots)))) tape c cdb room tt (sense-length cdb room) (λ _. tt) (λ _ _ _ _. tt)
+    (λ a e h. shown-sends cdb room (c .slots) a e h)
+
+pub scsi-sends : (tape : Bool) (c : Changer) (q : ScsiRequest) (body : List ℕ)
+    → Accepts (λ r _. Sendable r (scsiShown q body (c .slots))) (scsiStep tape c q body)
+unfolding scsiStep scsiOpen scsiClear scsiState scsiCdb scsiShown Sendable
+scsi-sends tape c (ScsiRequest.Open name) body = accepts Sends _ _ _ (λ _. tt)
+scsi-sends tape c ScsiRequest.Close body = accepts Sends _ _ _ (λ _. tt)
+scsi-sends tape c ScsiRequest.State body = accepts Sends _ _ _ (λ _. tt)
+scsi-sends tape c ScsiRequest.Reset body = accepts Sends _ _ _ (λ _. tt)
+scsi-sends tape c (ScsiRequest.Cdb cdb room) body =
+    judged-by (λ r _. Sendable r (cdbShown (bytesAt body cdb) room (c .slots))) _ _ (λ _. run-sends tape c (bytesAt body cdb) room)
 
 pub connect-sends : (fresh : Bool) (g : Login) (a : List ℕ) (q : ConnectRequest) (body : List ℕ) → Accepts Sends (connectStep fresh g a q body)
 unfolding connectStep connectOpen clientAuth Sendable Accepts
@@ -133,11 +152,11 @@ mover-sends m t (MoverRequest.Size size) list = accepts (λ r _. Sendable r list
 abbrev SendsHere : Reply → Loaded → Type 0
 SendsHere r s = Sendable r (s .image)
 
-pub tape-sends : (mover : ℕ) (t : Tape) (l : List ℕ) (q : TapeRequest) (body : List ℕ) → Accepts SendsHere (deviceStep mover t l q body)
+pub tape-sends : (drive mover : ℕ) (t : Tape) (l : List ℕ) (q : TapeRequest) (body : List ℕ) → Accepts SendsHere (deviceStep drive mover t l q body)
 unfolding deviceStep tapeOpen tapeClose tapeState tapeMtio tapeWrite tapeRead Sendable Copied
-tape-sends mover t l (TapeRequest.Open name mode) body = accepts SendsHere _ _ _ (λ _. tt)
-tape-sends mover t l TapeRequest.Close body = accepts SendsHere _ _ _ (λ _. tt)
-tape-sends mover t l TapeRequest.State body = accepts SendsHere _ _ _ (λ _. tt)
-tape-sends mover t l (TapeRequest.Mtio op times) body = accepts SendsHere _ _ _ (λ _. tt)
-tape-sends mover t l (TapeRequest.Write bytes) body = accepts SendsHere _ _ _ (λ _. tt)
-tape-sends mover t l (TapeRequest.Read times) body = accepts SendsHere _ _ _ (λ _. read-copies l (t .position) times)
+tape-sends drive mover t l (TapeRequest.Open name mode) body = accepts SendsHere _ _ _ (λ _. tt)
+tape-sends drive mover t l TapeRequest.Close body = accepts SendsHere _ _ _ (λ _. tt)
+tape-sends drive mover t l TapeRequest.State body = accepts SendsHere _ _ _ (λ _. tt)
+tape-sends drive mover t l (TapeRequest.Mtio op times) body = accepts SendsHere _ _ _ (λ _. tt)
+tape-sends drive mover t l (TapeRequest.Write bytes) body = accepts SendsHere _ _ _ (λ _. tt)
+tape-sends drive mover t l (TapeRequest.Read times) body = accepts SendsHere _ _ _ (λ _. read-copies l (t .position) times)

@@ -11,8 +11,14 @@ use Rattle.xdr.proofs.Tests.{by-test}
 use Rattle.xdr_opaque.specs.Put.{Each}
 use Rattle.wire_frame.specs.Messages.{Line, is, look, table, rowOf, messageOf}
 use Rattle.wire_frame.specs.declared.Row.{Row}
+use Rattle.wire_frame.specs.Frame.{messageWord, bodyOf}
+use Rattle.wire_requests.specs.declared.ScsiRequest.the-variants as ScsiRequest
+use Rattle.wire_requests.specs.declared.Request.{Request}
+use Rattle.wire_requests.specs.declared.Request.the-variants as Request
+use Rattle.rules.specs.ScsiService.{movesMedium}
+use Rattle.rules.specs.Answer.{requestIn}
 use Rattle.rules.specs.Order.{Service, DataService, TapeService, ScsiService, JointService, ControlService, rangeOf, serviceOf}
-use Rattle.rules.specs.Order.{serviceNumber, sameService, jointNumbers, isOneOf, within, serviceBy, ServicesAre}
+use Rattle.rules.specs.Order.{serviceNumber, sameService, jointNumbers, isOneOf, within, serviceBy, isMove, routeOf, IsMoveMedium, ServicesAre}
 
 -- ---- a range by its bounds is a range by its high byte
 module _ (n k : ℕ) where
@@ -101,7 +107,40 @@ ranged : (n : ℕ)
 unfolding rangeOf
 ranged n = rw (range-is n 4, range-is n 3, range-is n 10, range-is n 2)
 
-pub services-are : ServicesAre
+numbers : (n : ℕ) → serviceOf (messageOf n) n ≡ serviceBy n
 unfolding serviceBy rowOf
-services-are n =
+numbers n =
     by-test (λ (s : Service). serviceOf (messageOf n) n ≡ s) (isOneOf jointNumbers n) _ _ (joint-is n) (λ j. looked table table-right n j ∙ ranged n)
+
+-- ---- MOVE MEDIUM
+aside : (r : List ℕ) → IsMoveMedium r → routeOf r ≡ JointService
+unfolding routeOf isMove movesMedium choose
+aside r m =
+    let b : isMove (requestIn r) (bodyOf r) ≡ true = rw (m .request, m .opcode) refl in
+    rw (routeOf, b)
+
+-- and no other record is set aside so
+is-move : (q : Request) (r : List ℕ) → requestIn r ≡ q → isMove q (bodyOf r) ≡ true → IsMoveMedium r
+unfolding isMove movesMedium
+is-move Request.Unknown r e h = none h
+is-move Request.Bad r e h = none h
+is-move (Request.Connect q) r e h = none h
+is-move (Request.Config q) r e h = none h
+is-move (Request.Scsi (ScsiRequest.Open name)) r e h = none h
+is-move (Request.Scsi ScsiRequest.Close) r e h = none h
+is-move (Request.Scsi ScsiRequest.State) r e h = none h
+is-move (Request.Scsi ScsiRequest.Reset) r e h = none h
+is-move (Request.Scsi (ScsiRequest.Cdb cdb room)) r e h = record { cdb = cdb; room = room; request = e; opcode = eqb-true _ 0xA5 h }
+is-move (Request.Tape q) r e h = none h
+is-move (Request.Data q) r e h = none h
+is-move (Request.Mover q) r e h = none h
+is-move (Request.Joint q) r e h = none h
+
+others : (r : List ℕ) → (IsMoveMedium r → ⊥) → routeOf r ≡ serviceBy (messageWord r)
+unfolding routeOf
+others r n =
+    by-test (λ (s : Service). s ≡ serviceBy (messageWord r)) (isMove (requestIn r) (bodyOf r)) _ _
+    (λ h. absurd (n (is-move (requestIn r) r refl h))) (λ _. numbers (messageWord r))
+
+pub services-are : ServicesAre
+services-are = record { numbers = numbers; aside = aside; others = others }

@@ -18,6 +18,7 @@ use Rattle.rules.proofs.JudgeLaws.{accepts}
 use Rattle.rules.proofs.Endless.{endless-rules}
 use Rattle.rules.proofs.Tcp.{tcp-rules}
 use Rattle.rules.proofs.Environment.{environment-rules}
+use Rattle.rules.proofs.ChangerRules.{changer-rules}
 use Rattle.rules.proofs.Kept.{mover-kept}
 use Rattle.rules.proofs.Keeping.{data-keeps, tape-keeps, mover-part-keeps, joint-keeps}
 
@@ -77,4 +78,5 @@ promises =
       endless = endless-rules;
       tcp = tcp-rules;
       environment = environment-rules;
+      changer = changer-rules;
     }

@@ -1,6 +1,6 @@
 -- Two cartridges that answer a spacing call alike (paper 02, No. 4), of the whole call: what is sent, and what is passed on. It is said by the session's
 -- position before and after the call, and not by the definitions of spacing, so that these are held against it.
-use Prim.Native.Nat.{ℕ, _<_}
+use Prim.Native.Nat.{ℕ}
 use mathlib.Core.List.{List}
 use mathlib.Core.Path.{_≡_}
 use Rattle.codes.specs.Codes.{writeMarks}
@@ -23,11 +23,12 @@ pub record SameAnswer (l m v : List ℕ) (a b : Answered) : Type 0 where
   pub second-image : b .next .image ≡ m
   pub stores : (a .next .variables ≡ v) × (b .next .variables ≡ v)
 
--- "two sound images of one n answer the same call alike if the entries passed agree in kind": FSF, BSF, FSR, BSR, and REW, which passes none. Any session,
--- any record that is such a request, well framed or not, and whatever is lent: a call that is refused passes no entry, and then nothing is asked of them
+-- "two sound images of one n answer the same call alike if the entries passed agree in kind": every MTIO but that of
+-- marks; REW and 6 pass none. Any session, any record that is such a request, well framed or not, and whatever is lent: a
+-- call that is refused passes no entry, and then nothing is asked of them
 abbrev pub SpacesAlike : Type 0
 SpacesAlike =
     (s : Session) (l m v : List ℕ) (lent : Lent) (r : List ℕ) (op times : ℕ) → Sound l → Sound m → count l ≡ count m
-    → requestIn r ≡ Request.Tape (TapeRequest.Mtio op times) → op < writeMarks
+    → requestIn r ≡ Request.Tape (TapeRequest.Mtio op times) → (op ≡ writeMarks → ⊥)
     → AgreeInKind (goesForward op) (s .tape .position) (answered (held s l v) lent r .next .session .tape .position) l m
     → SameAnswer l m v (answered (held s l v) lent r) (answered (held s m v) lent r)

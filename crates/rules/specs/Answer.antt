@@ -6,6 +6,7 @@ use lib.ListN.{length}
 use lib.Dec.{ltb, eqb}
 use Rattle.codes.specs.Codes.{notSupported, notAuthorized, undecodable, shortOutput, brokenSession, storeLength}
 use Rattle.xdr.specs.Choose.{choose}
+use Rattle.changer_elements.specs.Slots.{inDrive}
 use Rattle.wire_frame.specs.Frame.{wellFramed, sequenceOf, kindOf, messageWord, bodyOf}
 use Rattle.wire_frame.specs.Messages.{rowOf, messageOf}
 use Rattle.wire_frame.specs.declared.Message.{Message}
@@ -31,7 +32,7 @@ use Rattle.rules.specs.Judge.{test, Outcome, refuse, accept, judge, onto
 use Rattle.rules_parts.specs.Parts.{withParts, afterMessage, shut}
 use Rattle.rules.specs.DataService.{dataStep, variablesAfter, dataShown}
 use Rattle.rules.specs.TapeService.{TapePart, tapeStep, moverPartStep}
-use Rattle.rules.specs.ScsiService.{scsiStep}
+use Rattle.rules.specs.ScsiService.{scsiStep, scsiShown}
 use Rattle.rules.specs.declared.Ends.{Ends}
 use Rattle.rules.specs.Joint.{jointStep}
 use Rattle.rules.specs.Connection.{connectStep, configStep}
@@ -83,7 +84,7 @@ guarded s room idle x =
 unfoldable pub roomOf : Kept → Lent → ℕ
 roomOf k l = choose (eqb (length (k .variables)) storeLength) (l .room) 0
 
--- a reply to the record r, whose lent bytes, those of a read, a list of addresses, a challenge or a store, lie in `shown`; k has the session with its next parts
+-- a reply to the record r, whose lent bytes, those of a read, a list of addresses, a challenge, a store or a status of elements, lie in `shown`; k has the session with its next parts
 abbrev pub replying : List ℕ → ℕ → Reply → List ℕ → Kept → Answered
 replying r time reply shown k =
     record {
@@ -135,8 +136,8 @@ withPart k shown p = let s = k .session in quietly (held (withParts s (s .login)
 abbrev pub withTape : Kept → TapePart → Done
 withTape k p = withPart k (p .image) p
 
-abbrev pub withChanger : Kept → Changer → Done
-withChanger k c = let s = k .session in quietly (held (withParts s (s .login) (s .source) (s .mover) (s .tape) c) (k .image) (k .variables)) []
+abbrev pub withChanger : Kept → List ℕ → Changer → Done
+withChanger k shown c = let s = k .session in quietly (held (withParts s (s .login) (s .source) (s .mover) (s .tape) c) (k .image) (k .variables)) shown
 
 abbrev pub withLogin : Kept → List ℕ → Login → Done
 withLogin k shown g = let s = k .session in quietly (held (withParts s g (s .source) (s .mover) (s .tape) (s .changer)) (k .image) (k .variables)) shown
@@ -160,8 +161,9 @@ outcome k l r Request.Unknown = refuse notSupported
 outcome k l r Request.Bad = refuse undecodable
 outcome k l r (Request.Connect q) = onto (withLogin k []) (connectStep (k .session .first) (k .session .login) (l .accounts) q (bodyOf r))
 outcome k l r (Request.Config q) = onto (withLogin k (l .challenge)) (configStep (k .session .login) (l .challenge) q)
-outcome k l r (Request.Scsi q) = onto (withChanger k) (scsiStep (k .session .changer) q (bodyOf r))
-outcome k l r (Request.Tape q) = onto (withTape k) (tapeStep (tapePart k) q (bodyOf r))
+outcome k l r (Request.Scsi q) =
+    onto (withChanger k (scsiShown q (bodyOf r) (k .session .changer .slots))) (scsiStep (k .session .tape .opened) (k .session .changer) q (bodyOf r))
+outcome k l r (Request.Tape q) = onto (withTape k) (tapeStep (inDrive (k .session .changer .slots)) (tapePart k) q (bodyOf r))
 outcome k l r (Request.Data q) =
     onto (withData k q (bodyOf r) (l .addresses)) (dataStep (k .session .source) q (bodyOf r) (l .addresses) (k .variables))
 outcome k l r (Request.Mover q) = onto (withPart k (l .addresses)) (moverPartStep (tapePart k) q (l .addresses))

@@ -1,12 +1,14 @@
 -- What holds of every request call, and of every list of calls, for any session, image and store.
-use Prim.Native.Nat.{ℕ, _≤_}
+use Prim.Native.Nat.{ℕ, _≤_, _<_}
 use mathlib.Core.Bool.{Bool, true, false, not}
-use mathlib.Core.List.{List, []}
+use mathlib.Core.List.{List, [], _∷_}
 use mathlib.Core.Path.{_≡_}
-use lib.ListN.{length}
+use lib.ListN.{length, replicate}
 use lib.Dec.{eqb, ltb}
 use Rattle.codes.specs.Codes.{errors, notSupported, notAuthorized, illegalArguments, undecodable, shortOutput, brokenSession, storeLength}
 use Rattle.xdr.specs.Choose.{choose}
+use Rattle.changer_elements.specs.Elements.{places}
+use Rattle.changer_elements.specs.Slots.{namesNoneTwice}
 use Rattle.tape_image.specs.Image.{isSound}
 use Rattle.wire_pairs.specs.Store.{isLaid}
 use Rattle.wire_frame.specs.Frame.{wellFramed, kindOf, bodyOf}
@@ -31,19 +33,47 @@ use Rattle.rules.specs.Relation.{keeps}
 use Rattle.rules.specs.Answer.{Kept, Lent, held, Answered, answered, silent, closing, replying, messageIn, requestIn, verdict, refusing, refusedIn}
 use Rattle.rules.specs.Order.{isOneOf, Call, run}
 
--- the session after `open`, whose notice of the connection status was message number 1
-abbrev pub openedSession : Session
-openedSession = newSession false 2
+-- the session after `open`, whose notice of the connection status was message number 1, with the slot list that it was given
+abbrev pub openedSession : List ℕ → Session
+openedSession slots = newSession false 2 slots
 
--- a session that was never opened: it is closed, so that nothing is answered on it
+-- a session that was never opened: it is closed, so that nothing is answered on it, and has no cartridge
 abbrev pub unopenedSession : Session
-unopenedSession = newSession true 1
+unopenedSession = newSession true 1 (replicate places 0)
 
--- "Opening a session sends connection status (connected 0, version 4, empty text) as number 1." No image and no store is handed to it.
-unfoldable pub opening : ℕ → ℕ → Answered
-opening time room =
+-- "Opening a session sends connection status (connected 0, version 4, empty text) as number 1." No image and no store is handed to it. 02 No. 7: a slot
+-- list that names one twice is refused with 1002
+unfoldable pub opening : List ℕ → ℕ → ℕ → Answered
+opening slots time room =
     choose (ltb room leastRoom) (silent shortOutput (held unopenedSession [] []))
-    (record { code = 0; reply = []; notices = noticeBytes 1 time Notice.Connected; next = held openedSession [] [] })
+    (choose (not (namesNoneTwice slots)) (silent brokenSession (held unopenedSession [] []))
+    (record { code = 0; reply = []; notices = noticeBytes 1 time Notice.Connected; next = held (openedSession slots) [] [] }))
+
+-- a refused opening: nothing is sent, and a closed session with no cartridge comes back
+pub record Unopened (code : ℕ) (a : Answered) : Type 0 where
+  pub number : a .code ≡ code
+  pub reply : a .reply ≡ []
+  pub notices : a .notices ≡ []
+  pub closed : a .next .session .closed ≡ true
+  pub slots : a .next .session .changer .slots ≡ 0 ∷ 0 ∷ 0 ∷ 0 ∷ 0 ∷ 0 ∷ 0 ∷ 0 ∷ 0 ∷ []
+
+-- an accepted one: the notice is sent, and the session has the slot list, with neither device open
+pub record Opens (slots : List ℕ) (time : ℕ) (a : Answered) : Type 0 where
+  pub number : a .code ≡ 0
+  pub reply : a .reply ≡ []
+  pub notices : a .notices ≡ noticeBytes 1 time Notice.Connected
+  pub closed : a .next .session .closed ≡ false
+  pub shelf : a .next .session .changer .slots ≡ slots
+  pub changer : a .next .session .changer .opened ≡ false
+  pub tape : a .next .session .tape .opened ≡ false
+
+-- "1001 if the output is under 36,864 bytes", and then 02 No. 7: "from one that names none twice (else 1002)"
+pub record OpeningHolds (slots : List ℕ) (time room : ℕ) : Type 0 where
+  pub short : room < leastRoom → Unopened shortOutput (opening slots time room)
+  pub twice : leastRoom ≤ room → namesNoneTwice slots ≡ false → Unopened brokenSession (opening slots time room)
+  pub opens : leastRoom ≤ room → namesNoneTwice slots ≡ true → Opens slots time (opening slots time room)
+  -- what comes back keeps the relation, refused or not
+  pub keeps-it : keeps (opening slots time room .next .session) ≡ true
 
 -- nothing is sent, and session, image and store are as they were
 pub record Unmoved (k : Kept) (a : Answered) : Type 0 where
@@ -122,8 +152,9 @@ pub record RefusalsOfCalls : Type 0 where
       → answered k l r ≡ replying r (l .time) (refusedIn r illegalArguments) [] k
 
 pub record CallsKeep : Type 0 where
+  pub opening : (slots : List ℕ) (time room : ℕ) → OpeningHolds slots time room
   -- the relation holds of a new session, every call keeps it, and no call on a session that has it is refused with 1002
-  pub opened : keeps openedSession ≡ true
+  pub opened : (slots : List ℕ) → namesNoneTwice slots ≡ true → keeps (openedSession slots) ≡ true
   pub kept : (k : Kept) (l : Lent) (r : List ℕ) → keeps (k .session) ≡ true → keeps (answered k l r .next .session) ≡ true
   pub never : (k : Kept) (l : Lent) (r : List ℕ) → keeps (k .session) ≡ true → answered k l r .code ≡ brokenSession → ⊥
   -- a sound image stays sound

@@ -37,6 +37,7 @@ use Rattle.rules.specs.Environment.{dumpBytes, Starts, Answering}
 use Rattle.rules.specs.Answer.{Kept, Lent, held, Answered, answered, requestIn}
 use Rattle.rules.specs.Order.{isOneOf}
 use Rattle.rules.specs.Calls.{Heard}
+use Rattle.rules.specs.Shelving.{ShelvingHolds}
 use Rattle.rules.specs.Login.{LoginHolds, OfControl, ControlLeaves, AttributesAsked, WithdrawnAsked}
 
 -- ---- what a number leaves
@@ -212,6 +213,8 @@ pub record CallsLeave : Type 0 where
   pub stores : Stores
   pub environment : (k : Kept) (l : Lent) (r : List ℕ) → Heard k l r → messageWord r ≡ 0x404 → length (bodyOf r) ≡ 0
       → k .session .login .authorized ≡ true → EnvironmentAsked k l r
+  -- 02 No. 7: what changes the slot list, and what the changer's client is told
+  pub shelving : ShelvingHolds
   -- no other request looks at the store
   pub unseen : (k : Kept) (l : Lent) (r other : List ℕ) → length other ≡ length (k .variables) → (requestIn r ≡ Request.Data DataRequest.Environment → ⊥)
       → SameTold (answered k l r) (answered (held (k .session) (k .image) other) l r)

@@ -10,10 +10,12 @@ pub mod Relation
 pub mod Endless
 pub mod Tcp
 pub mod Environment
+pub mod Changer
 pub mod Promises
 pub mod Answer
 pub mod Order
 pub mod Calls
 pub mod Login
+pub mod Shelving
 pub mod Leaving
 pub mod Alike

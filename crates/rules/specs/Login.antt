@@ -103,8 +103,8 @@ pub record LoginHolds : Type 0 where
       → requestIn (c .ask .request) ≡ Request.Connect (ConnectRequest.Md5Auth id digest) → (LogsIn (newestOf (k .session .login)) c → ⊥)
       → bodyIn (answered k (c .lent) (c .ask .request) .reply) ≡ be32 notAuthorized
   -- a new session is nobody's, and no challenge was given
-  pub stranger : (time room : ℕ) → authorized (opening time room .next) ≡ false
-  pub fresh : (time room : ℕ) → newestOf (opening time room .next .session .login) ≡ none
+  pub stranger : (slots : List ℕ) (time room : ℕ) → authorized (opening slots time room .next) ≡ false
+  pub fresh : (slots : List ℕ) (time room : ℕ) → newestOf (opening slots time room .next .session .login) ≡ none
   -- what a session holds is the newest challenge: no other request, no login, right or wrong, and nothing that is not heard changes it
   pub newest-held : (k : Kept) (cs : List Call) → newestOf (run k cs .last .session .login) ≡ newest (newestOf (k .session .login)) k cs
 

@@ -4,18 +4,24 @@ use Prim.Native.Nat.{ℕ, _/_, _≤_}
 use mathlib.Core.Path.{_≡_}
 use mathlib.Core.Bool.{Bool, true, false}
 use mathlib.Core.List.{List, [], _∷_, _++_}
-use lib.ListN.{length, take, drop}
+use lib.ListN.{length, take, drop, getD}
 use lib.Dec.{eqb, leb}
 use Rattle.codes.specs.Codes.{shortOutput, brokenSession, storeLength}
 use Rattle.xdr.specs.Choose.{choose}
 use Rattle.xdr_opaque.specs.Put.{Each}
-use Rattle.wire_frame.specs.Frame.{wellFramed, kindOf, messageWord}
+use Rattle.wire_frame.specs.Frame.{wellFramed, kindOf, messageWord, bodyOf}
 use Rattle.wire_frame.specs.Messages.{messageOf}
 use Rattle.wire_frame.specs.declared.Message.{Message}
 use Rattle.wire_frame.specs.declared.Message.the-variants as Message
+use Rattle.wire_layouts.specs.declared.Text.{Text}
+use Rattle.wire_requests.specs.Within.{bytesAt}
+use Rattle.wire_requests.specs.declared.ScsiRequest.the-variants as ScsiRequest
+use Rattle.wire_requests.specs.declared.Request.{Request}
+use Rattle.wire_requests.specs.declared.Request.the-variants as Request
 use Rattle.rules_parts.specs.Names.{leastRoom}
 use Rattle.rules.specs.Relation.{keeps}
-use Rattle.rules.specs.Answer.{Kept, Lent, Answered, answered}
+use Rattle.rules.specs.ScsiService.{movesMedium}
+use Rattle.rules.specs.Answer.{Kept, Lent, Answered, answered, requestIn}
 
 -- ---- the services ("Desks go by message number: DATA; TAPE and MOVER; SCSI")
 pub data Service : Type 0 where
@@ -45,8 +51,20 @@ serviceOf (Message.Mover k) n = TapeService
 serviceOf (Message.Joint k) n = JointService
 serviceOf Message.Unknown n = rangeOf n
 
-abbrev pub routeOf : List ℕ → Service
-routeOf r = serviceOf (messageOf (messageWord r)) (messageWord r)
+-- 02 No. 7: "MOVE MEDIUM joins the set-aside requests of demand 3"
+unfoldable pub isMove : Request → List ℕ → Bool
+isMove (Request.Scsi q) body = movesMedium q body
+isMove Request.Unknown body = false
+isMove Request.Bad body = false
+isMove (Request.Connect q) body = false
+isMove (Request.Config q) body = false
+isMove (Request.Tape q) body = false
+isMove (Request.Data q) body = false
+isMove (Request.Mover q) body = false
+isMove (Request.Joint q) body = false
+
+unfoldable pub routeOf : List ℕ → Service
+routeOf r = choose (isMove (requestIn r) (bodyOf r)) JointService (serviceOf (messageOf (messageWord r)) (messageWord r))
 
 -- The same by the numbers of 004 alone, for `ServicesAre`. Joint are data abort and data connect; mover abort, mover close and mover connect
 abbrev pub jointNumbers : List ℕ
@@ -68,9 +86,19 @@ serviceBy n =
     (choose (within 0x200 0x2FF n) ScsiService
     ControlService))))
 
--- only those five are set aside: every other number of the three ranges, handled or not, is its service's, and no number else is
-abbrev pub ServicesAre : Type 0
-ServicesAre = (n : ℕ) → serviceOf (messageOf n) n ≡ serviceBy n
+-- an execute CDB whose bytes decode, the first byte of the CDB being A5h
+pub record IsMoveMedium (r : List ℕ) : Type 0 where
+  pub cdb : Text
+  pub room : ℕ
+  pub request : requestIn r ≡ Request.Scsi (ScsiRequest.Cdb cdb room)
+  pub opcode : getD (bytesAt (bodyOf r) cdb) 0 0 ≡ 0xA5
+
+pub record ServicesAre : Type 0 where
+  -- of the numbers only those five are set aside: every other number of the three ranges, handled or not, is its service's, and no number else is
+  pub numbers : (n : ℕ) → serviceOf (messageOf n) n ≡ serviceBy n
+  -- and MOVE MEDIUM, whatever it comes to; no other record
+  pub aside : (r : List ℕ) → IsMoveMedium r → routeOf r ≡ JointService
+  pub others : (r : List ℕ) → (IsMoveMedium r → ⊥) → routeOf r ≡ serviceBy (messageWord r)
 
 unfoldable pub serviceNumber : Service → ℕ
 serviceNumber DataService = 0

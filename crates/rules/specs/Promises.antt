@@ -23,6 +23,7 @@ use Rattle.rules.specs.Relation.{dataWrong, moverWrong, sameFlag, Legal}
 use Rattle.rules.specs.Endless.{EndlessRules}
 use Rattle.rules.specs.Tcp.{TcpRules}
 use Rattle.rules.specs.Environment.{EnvironmentRules}
+use Rattle.rules.specs.Changer.{ChangerRules}
 
 -- a step keeps what its part owes by itself, and what the other parts see of it
 pub record Keeps {A : Type 0} (wrong side : A → Bool) (p : A) (next : A) : Type 0 where
@@ -47,7 +48,7 @@ pub record JointKeeps (t : Tape) (next : Ends) : Type 0 where
 pub record RelationKept : Type 0 where
   pub source : (d : Data) (q : DataRequest) (body list variables : List ℕ)
       → Accepts (λ _ next. Keeps dataWrong dataSide d next) (dataStep d q body list variables)
-  pub tape : (p : TapePart) (q : TapeRequest) (body : List ℕ) → Accepts (λ _ next. Keeps partWrong partSide p next) (tapeStep p q body)
+  pub tape : (drive : ℕ) (p : TapePart) (q : TapeRequest) (body : List ℕ) → Accepts (λ _ next. Keeps partWrong partSide p next) (tapeStep drive p q body)
   pub mover : (p : TapePart) (q : MoverRequest) (list : List ℕ) → Accepts (λ _ next. Keeps partWrong partSide p next) (moverPartStep p q list)
   pub joint : (d : Data) (m : Mover) (t : Tape) → dataWrong d ≡ false → moverWrong m t ≡ false
       → sameFlag (dataPartnered d) (moverPartnered m) ≡ true → (q : JointRequest) (made : Bool) → Accepts (λ _ next. JointKeeps t next) (jointStep d m t q made)
@@ -89,3 +90,4 @@ pub record Promises : Type 0 where
   pub endless : EndlessRules
   pub tcp : TcpRules
   pub environment : EnvironmentRules
+  pub changer : ChangerRules

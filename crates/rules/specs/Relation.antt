@@ -1,9 +1,11 @@
 -- The relation of a session (docs/RELATION.md): what every call keeps, and a call refuses with 1002 where it is broken.
 use Prim.Native.Nat.{ℕ, _+_, _%_, _≤_}
 use mathlib.Core.Bool.{Bool, true, false, not}
+use mathlib.Core.List.{List}
 use mathlib.Core.Path.{_≡_}
 use lib.Dec.{eqb, ltb}
 use Rattle.xdr.specs.Choose.{choose}
+use Rattle.changer_elements.specs.Slots.{namesNoneTwice, inDrive}
 use Rattle.rules_parts.specs.declared.types.Data.{Data}
 use Rattle.rules_parts.specs.declared.types.Mover.{Mover}
 use Rattle.rules_parts.specs.declared.types.Tape.{Tape}
@@ -83,11 +85,20 @@ unfoldable pub sameFlag : Bool → Bool → Bool
 sameFlag true b = b
 sameFlag false b = not b
 
+-- 02 No. 7: a tape that is open has a cartridge in the drive
+unfoldable pub driveWrong : ℕ → Tape → Bool
+driveWrong drive t = choose (t .opened) (eqb drive 0) false
+
+-- and a slot list "names none twice (else 1002)"
+unfoldable pub slotsWrong : List ℕ → Tape → Bool
+slotsWrong slots t = choose (driveWrong (inDrive slots) t) true (not (namesNoneTwice slots))
+
 unfoldable pub keeps : Session → Bool
 keeps s =
     choose (dataWrong (s .source)) false
     (choose (moverWrong (s .mover) (s .tape)) false
-    (sameFlag (dataPartnered (s .source)) (moverPartnered (s .mover))))
+    (choose (slotsWrong (s .changer .slots) (s .tape)) false
+    (sameFlag (dataPartnered (s .source)) (moverPartnered (s .mover)))))
 
 -- ---- the same in words, as facts: what `moverWrong m t ≡ false` says
 pub record Legal (size offset length : ℕ) : Type 0 where

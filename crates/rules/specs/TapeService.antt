@@ -1,9 +1,10 @@
--- The requests of the tape interface (paper 01, "Data and mover states" and "The cartridge"). They see the mover, the tape and the image.
+-- The requests of the tape interface (paper 01, "Data and mover states" and "The cartridge"). They see the mover, the tape and the image, and of the
+-- changer which cartridge is in the drive, or 0 (02 No. 7).
 use Prim.Native.Nat.{ℕ}
 use mathlib.Core.Bool.{Bool, true, false, not}
 use mathlib.Core.List.{List, [], _∷_}
 use lib.Dec.{eqb, ltb}
-use Rattle.codes.specs.Codes.{writeMarks, deviceOpened, permissionDenied, notOpen, illegalArguments, atMark, atEnd, badFile, noDevice, illegalState}
+use Rattle.codes.specs.Codes.{writeMarks, offLine, deviceOpened, permissionDenied, notOpen, illegalArguments, noTapeLoaded, atMark, atEnd, badFile, noDevice, illegalState}
 use Rattle.xdr.specs.Choose.{choose}
 use Rattle.xdr.specs.Xdr.{sameBytes}
 use Rattle.tape_image.specs.Image.{isSound}
@@ -37,11 +38,11 @@ unfoldable pub tape0 : List ℕ
 tape0 = 0x74 ∷ 0x61 ∷ 0x70 ∷ 0x65 ∷ 0x30 ∷ []
 
 -- "Tape open: mode 0 reads, 1 also writes, else 9; position 0." "16, 3: name other than `tape0`; that same device already open"; "image
--- unsound: 15 at tape open"
-unfoldable pub tapeOpen : Tape → List ℕ → Bool → ℕ → Outcome Loaded
-tapeOpen t l named mode =
+-- unsound: 15 at tape open"; 02 No. 7: "10 (no tape loaded) at tape open, after 3"
+unfoldable pub tapeOpen : ℕ → Tape → List ℕ → Bool → ℕ → Outcome Loaded
+tapeOpen drive t l named mode =
     judge
-    (test (ltb readWrite mode) illegalArguments ∷ test (not named) noDevice ∷ test (t .opened) deviceOpened ∷ test (not (isSound l)) badFile ∷ [])
+    (test (ltb readWrite mode) illegalArguments ∷ test (not named) noDevice ∷ test (t .opened) deviceOpened ∷ test (eqb drive 0) noTapeLoaded ∷ test (not (isSound l)) badFile ∷ [])
     (accept Reply.Plain (loaded (record { opened = true; writable = eqb mode readWrite; position = 0 }) l))
 
 -- "12, 13: tape outcomes": what the cartridge gives beside 0 and these is a refusal
@@ -67,11 +68,15 @@ tapeState t l =
 unfoldable pub protects : ℕ → Bool → Bool
 protects op writable = choose (eqb op writeMarks) (not writable) false
 
+-- 02 No. 7: "MTIO 6, which rewinds and closes the tape device"; the others leave it open, at their position
+unfoldable pub afterMtio : ℕ → ℕ → Tape → Tape
+afterMtio op position t = choose (eqb op offLine) closedTape (movedTo position t)
+
 unfoldable pub tapeMtio : ℕ → Tape → List ℕ → ℕ → ℕ → Outcome Loaded
 tapeMtio mover t l op times =
     let s = mtioStep l op (t .position) times in
     judge (tapeTests t mover (protects op (t .writable)) (s .gives .error))
-    (accept (Reply.Mtio (s .gives .error) (s .gives .residue)) (loaded (movedTo (s .gives .position) t) (s .image)))
+    (accept (Reply.Mtio (s .gives .error) (s .gives .residue)) (loaded (afterMtio op (s .gives .position) t) (s .image)))
 
 unfoldable pub tapeWrite : ℕ → Tape → List ℕ → List ℕ → Outcome Loaded
 tapeWrite mover t l bytes =
@@ -85,13 +90,13 @@ tapeRead mover t l times =
     judge (tapeTests t mover false (r .error)) (accept (Reply.Read (r .error) (r .start) (r .len)) (loaded (movedTo (r .position) t) l))
 
 -- the requests of the tape interface
-unfoldable pub deviceStep : ℕ → Tape → List ℕ → TapeRequest → List ℕ → Outcome Loaded
-deviceStep mover t l (Open name mode) body = tapeOpen t l (sameBytes (bytesAt body name) tape0) mode
-deviceStep mover t l Close body = tapeClose mover t l
-deviceStep mover t l State body = tapeState t l
-deviceStep mover t l (Mtio op times) body = tapeMtio mover t l op times
-deviceStep mover t l (Write bytes) body = tapeWrite mover t l (bytesAt body bytes)
-deviceStep mover t l (Read times) body = tapeRead mover t l times
+unfoldable pub deviceStep : ℕ → ℕ → Tape → List ℕ → TapeRequest → List ℕ → Outcome Loaded
+deviceStep drive mover t l (Open name mode) body = tapeOpen drive t l (sameBytes (bytesAt body name) tape0) mode
+deviceStep drive mover t l Close body = tapeClose mover t l
+deviceStep drive mover t l State body = tapeState t l
+deviceStep drive mover t l (Mtio op times) body = tapeMtio mover t l op times
+deviceStep drive mover t l (Write bytes) body = tapeWrite mover t l (bytesAt body bytes)
+deviceStep drive mover t l (Read times) body = tapeRead mover t l times
 
 -- ---- the service "TAPE and MOVER": its part of the session, and its step for either interface
 pub record TapePart : Type 0 where
@@ -105,8 +110,8 @@ withLoaded p s = record { mover = p .mover; tape = s .tape; image = s .image }
 abbrev pub withMover : TapePart → Mover → TapePart
 withMover p m = record { mover = m; tape = p .tape; image = p .image }
 
-unfoldable pub tapeStep : TapePart → TapeRequest → List ℕ → Outcome TapePart
-tapeStep p q body = onto (withLoaded p) (deviceStep (p .mover .state) (p .tape) (p .image) q body)
+unfoldable pub tapeStep : ℕ → TapePart → TapeRequest → List ℕ → Outcome TapePart
+tapeStep drive p q body = onto (withLoaded p) (deviceStep drive (p .mover .state) (p .tape) (p .image) q body)
 
 unfoldable pub moverPartStep : TapePart → MoverRequest → List ℕ → Outcome TapePart
 moverPartStep p q list = onto (withMover p) (moverStep (p .mover) (p .tape) q list)

@@ -38,12 +38,13 @@ pub fn services_are()
     ensures { λ r. ⌜ ServicesAre ⌝ }
 {}
 
-// No work: its contract is what every request call keeps, and what a refused call leaves.
+// No work: its contract is what opening gives, what every request call keeps, and what a refused call leaves.
 pub fn calls_keep()
     ensures { λ r. ⌜ CallsKeep ⌝ }
 {}
 
-// No work: its contract is what every number of a reply leaves, who becomes authorized and by which challenge, and what writes to the cartridge and to the store.
+// No work: its contract is what every number of a reply leaves, who becomes authorized and by which challenge, and what writes to the cartridge and to the
+// store and changes the slot list.
 pub fn calls_leave()
     ensures { λ r. ⌜ CallsLeave ⌝ }
 {}

@@ -239,7 +239,7 @@ module _ (size asked end given : ℕ) (w : Kept) (a : Along size asked end given
     outcome-along Request.Bad = refusal-says (DoneLeft Other) _
     outcome-along (Request.Connect q) = off-mover (withLogin w []) (λ _ _. a) _
     outcome-along (Request.Config q) = off-mover (withLogin w (l .challenge)) (λ _ _. a) _
-    outcome-along (Request.Scsi q) = off-mover (withChanger w) (λ _ _. a) _
+    outcome-along (Request.Scsi q) = off-mover (withChanger w _) (λ _ _. a) _
     outcome-along (Request.Data q) = off-mover (withData w q _ _) (λ _ _. a) _
     outcome-along (Request.Tape q) =
         carried (DoneLeft Other) (withTape w) _ (carried (λ reply p. DoneLeft Other reply (withTape w p)) (withLoaded (tapePart w)) _

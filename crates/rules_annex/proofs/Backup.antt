@@ -14,7 +14,7 @@ use Rattle.tape_writing.specs.Writing.{fillTo}
 use Rattle.rules.specs.Relation.{keeps}
 use Rattle.rules.specs.Answer.{Kept}
 use Rattle.rules.proofs.Keeping.{clash}
-use Rattle.rules_moves.specs.Sequence.{Event, Asked, ToTape, FromTape, Ended, Made, Lost, Inserted, Renumbered, StoreLent, step, runs}
+use Rattle.rules_moves.specs.Sequence.{Event, Asked, ToTape, FromTape, Ended, Made, Lost, Inserted, Renumbered, StoreLent, SlotsLent, step, runs}
 use Rattle.rules_moves.proofs.Sequence.{stepped}
 use Rattle.rules_annex.specs.Aside.{Untouched}
 use Rattle.rules_annex.specs.RoundTrip.{filledUp, Backs}
@@ -141,6 +141,9 @@ taped size stream taken rest w (Renumbered n ∷ es) h b a =
 taped size stream taken rest w (StoreLent variables ∷ es) h b a =
     taped size stream taken rest (step (StoreLent variables) w) es (stepped w h (StoreLent variables) .kept)
     (same-backed size stream taken rest w _ (aside-stays w h (StoreLent variables) (a .0)) b) (a .1)
+taped size stream taken rest w (SlotsLent slots ∷ es) h b a =
+    taped size stream taken rest (step (SlotsLent slots) w) es (stepped w h (SlotsLent slots) .kept)
+    (same-backed size stream taken rest w _ (aside-stays w h (SlotsLent slots) (a .0)) b) (a .1)
 
 -- ---- a tape that is not sound, or stands past its end, stays so: nothing is written on it
 fed-stuck : (now p : ℕ) (l part : List ℕ) (last : Bool) (l′ : List ℕ) (p′ n : ℕ) → faulty l p ≡ true → Fed now p l part last l′ p′ n → faulty l′ p′ ≡ true
@@ -172,3 +175,5 @@ stuck size rest w (Renumbered n ∷ es) h f b =
     stuck size rest (step (Renumbered n) w) es (stepped w h (Renumbered n) .kept) (same-stuck w _ (aside-stays w h (Renumbered n) (b .0)) f) (b .1)
 stuck size rest w (StoreLent variables ∷ es) h f b =
     stuck size rest (step (StoreLent variables) w) es (stepped w h (StoreLent variables) .kept) (same-stuck w _ (aside-stays w h (StoreLent variables) (b .0)) f) (b .1)
+stuck size rest w (SlotsLent slots ∷ es) h f b =
+    stuck size rest (step (SlotsLent slots) w) es (stepped w h (SlotsLent slots) .kept) (same-stuck w _ (aside-stays w h (SlotsLent slots) (b .0)) f) (b .1)

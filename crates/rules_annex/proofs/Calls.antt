@@ -32,7 +32,7 @@ use Rattle.rules.proofs.Calls.{kept-facts, call-holds}
 use Rattle.rules_moves.specs.declared.Move.{Move}
 use Rattle.rules_moves.specs.Moves.{idle, streamEnds, scant, writing, filling, toTape, haltsWith, methodEnd, madeAt, lostAt}
 use Rattle.rules_moves.specs.Events.{Moving, announced, movedToTape, methodEnded, connectionMade, connectionLost}
-use Rattle.rules_moves.specs.Sequence.{Event, Asked, ToTape, FromTape, Ended, Made, Lost, Inserted, Renumbered, StoreLent, step}
+use Rattle.rules_moves.specs.Sequence.{Event, Asked, ToTape, FromTape, Ended, Made, Lost, Inserted, Renumbered, StoreLent, SlotsLent, step}
 use Rattle.rules_moves.proofs.Moving.{running, some-taken}
 use Rattle.rules_moves.proofs.Sequence.{Carries, announced-carries}
 use Rattle.rules_annex.specs.Aside.{Untouched, AsideRequest, Aside}
@@ -61,7 +61,7 @@ module _ (w : Kept) (l : Lent) (r : List ℕ) where
   request-stays (Request.Tape q) e a = a
   request-stays (Request.Connect q) e a = call-stays (rw e (off-tape (withLogin w []) (λ _. record { position = refl; image = refl }) _))
   request-stays (Request.Config q) e a = call-stays (rw e (off-tape (withLogin w (l .challenge)) (λ _. record { position = refl; image = refl }) _))
-  request-stays (Request.Scsi q) e a = call-stays (rw e (off-tape (withChanger w) (λ _. record { position = refl; image = refl }) _))
+  request-stays (Request.Scsi q) e a = call-stays (rw e (off-tape (withChanger w _) (λ _. record { position = refl; image = refl }) _))
   request-stays (Request.Data q) e a = call-stays (rw e (off-tape (withData w q _ _) (λ _. record { position = refl; image = refl }) _))
   request-stays (Request.Mover q) e a =
       call-stays (rw e (carried Staying (withPart w (l .addresses)) _ (carried (λ reply p. Staying reply (withPart w (l .addresses) p)) (withMover (tapePart w)) _
@@ -221,3 +221,4 @@ aside-stays w h (FromTape l dest) a = a .1
 aside-stays w h (Inserted image) a = record { position = refl; image = a }
 aside-stays w h (Renumbered n) a = record { position = refl; image = refl }
 aside-stays w h (StoreLent variables) a = record { position = refl; image = refl }
+aside-stays w h (SlotsLent slots) a = record { position = refl; image = refl }

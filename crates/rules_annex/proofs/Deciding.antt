@@ -14,7 +14,7 @@ use Rattle.wire_requests.specs.declared.Request.{Request}
 use Rattle.wire_requests.specs.declared.Request.the-variants as Request
 use Rattle.rules.specs.Answer.{Kept, requestIn}
 use Rattle.rules_moves.specs.Events.{Moving, movedToTape, movedFromTape}
-use Rattle.rules_moves.specs.Sequence.{Event, Asked, ToTape, FromTape, Ended, Made, Lost, Inserted, Renumbered, StoreLent, step}
+use Rattle.rules_moves.specs.Sequence.{Event, Asked, ToTape, FromTape, Ended, Made, Lost, Inserted, Renumbered, StoreLent, SlotsLent, step}
 use Rattle.rules_annex.specs.Aside.{Untouched, AsideRequest, Aside, Asides, AtSize}
 use Rattle.rules_annex.specs.Used.{Feeds}
 use Rattle.rules_annex.specs.RoundTrip.{Backs, Noted, Window, Read, Reset, Other, noted, InTurn, askedAfter, endAfter, Recovers}
@@ -70,6 +70,7 @@ aside (FromTape l dest) w = choose (eqb (movedFromTape w l dest .count) 0) (unto
 aside (Inserted image) w = sameBytes image (w .image)
 aside (Renumbered n) w = true
 aside (StoreLent variables) w = true
+aside (SlotsLent slots) w = true
 
 is-aside : (e : Event) (w : Kept) → aside e w ≡ true → Aside e w
 unfolding aside
@@ -84,6 +85,7 @@ is-aside (FromTape l dest) w h =
 is-aside (Inserted image) w h = same-is image (w .image) h
 is-aside (Renumbered n) w h = tt
 is-aside (StoreLent variables) w h = tt
+is-aside (SlotsLent slots) w h = tt
 
 unfoldable pub asides : Kept → List Event → Bool
 asides w [] = true
@@ -128,6 +130,7 @@ backs size rest w (FromTape l dest ∷ es) = choose (aside (FromTape l dest) w) 
 backs size rest w (Inserted image ∷ es) = choose (aside (Inserted image) w) (backs size rest (step (Inserted image) w) es) false
 backs size rest w (Renumbered n ∷ es) = choose (aside (Renumbered n) w) (backs size rest (step (Renumbered n) w) es) false
 backs size rest w (StoreLent variables ∷ es) = choose (aside (StoreLent variables) w) (backs size rest (step (StoreLent variables) w) es) false
+backs size rest w (SlotsLent slots ∷ es) = choose (aside (SlotsLent slots) w) (backs size rest (step (SlotsLent slots) w) es) false
 
 at-size : (size : ℕ) (w : Kept) (e : Moving) → atSize size w e ≡ true → AtSize size w e
 unfolding atSize
@@ -161,6 +164,9 @@ backs-hold size rest w (Renumbered n ∷ es) h =
 backs-hold size rest w (StoreLent variables ∷ es) h =
     let b = both (aside (StoreLent variables) w) h in
     (is-aside (StoreLent variables) w (b .0), backs-hold size rest (step (StoreLent variables) w) es (b .1))
+backs-hold size rest w (SlotsLent slots ∷ es) h =
+    let b = both (aside (SlotsLent slots) w) h in
+    (is-aside (SlotsLent slots) w (b .0), backs-hold size rest (step (SlotsLent slots) w) es (b .1))
 
 -- a backup feeds the tape
 pub backs-feed : (size : ℕ) (rest : List ℕ) (w : Kept) (es : List Event) → Backs size rest w es → Feeds size w es
@@ -174,6 +180,7 @@ backs-feed size rest w (FromTape l dest ∷ es) b = (b .0, backs-feed size rest 
 backs-feed size rest w (Inserted image ∷ es) b = (b .0, backs-feed size rest (step (Inserted image) w) es (b .1))
 backs-feed size rest w (Renumbered n ∷ es) b = (b .0, backs-feed size rest (step (Renumbered n) w) es (b .1))
 backs-feed size rest w (StoreLent variables ∷ es) b = (b .0, backs-feed size rest (step (StoreLent variables) w) es (b .1))
+backs-feed size rest w (SlotsLent slots ∷ es) b = (b .0, backs-feed size rest (step (SlotsLent slots) w) es (b .1))
 
 -- ---- the recover
 unfoldable pub inTurn : ℕ → ℕ → ℕ → Noted → Bool
@@ -204,6 +211,7 @@ recovers total asked end given w (ToTape l part last ∷ es) = choose (aside (To
 recovers total asked end given w (Inserted image ∷ es) = choose (aside (Inserted image) w) (recovers total asked end given (step (Inserted image) w) es) false
 recovers total asked end given w (Renumbered n ∷ es) = choose (aside (Renumbered n) w) (recovers total asked end given (step (Renumbered n) w) es) false
 recovers total asked end given w (StoreLent variables ∷ es) = choose (aside (StoreLent variables) w) (recovers total asked end given (step (StoreLent variables) w) es) false
+recovers total asked end given w (SlotsLent slots ∷ es) = choose (aside (SlotsLent slots) w) (recovers total asked end given (step (SlotsLent slots) w) es) false
 
 pub recovers-hold : (total asked end given : ℕ) (w : Kept) (es : List Event) → recovers total asked end given w es ≡ true → Recovers total asked end given w es
 unfolding recovers
@@ -234,3 +242,6 @@ recovers-hold total asked end given w (Renumbered n ∷ es) h =
 recovers-hold total asked end given w (StoreLent variables ∷ es) h =
     let b = both (aside (StoreLent variables) w) h in
     (is-aside (StoreLent variables) w (b .0), recovers-hold total asked end given (step (StoreLent variables) w) es (b .1))
+recovers-hold total asked end given w (SlotsLent slots ∷ es) h =
+    let b = both (aside (SlotsLent slots) w) h in
+    (is-aside (SlotsLent slots) w (b .0), recovers-hold total asked end given (step (SlotsLent slots) w) es (b .1))

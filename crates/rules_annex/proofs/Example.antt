@@ -25,8 +25,9 @@ use Rattle.rules.specs.Joint.{moverAwaits, dataConnect, jointStep}
 use Rattle.rules.specs.Judge.{judge, onto, isAccepted}
 use Rattle.rules.specs.MoverService.{offsetWrong, moverListen, moverContinue, moverStop, moverRead, busy, elsewhere, setWindow, setSize, moverStep}
 use Rattle.rules_parts.specs.Parts.{windowEnd, pastTop, lengthWrong, dataJoined, moverJoined, dataPartnered, moverPartnered, addressWrong, holdsTape, unwritable}
-use Rattle.rules.specs.Relation.{dataWrong, numbersWrong, windowWrong, startWrong, holdWrong, strays, resumeWrong, placeWrong, originWrong, moverWrong, sameFlag, keeps}
-use Rattle.rules.specs.TapeService.{tape0, tapeOpen, isRefusal, protects, tapeMtio, tapeWrite, deviceStep, tapeStep, moverPartStep}
+use Rattle.rules.specs.Relation.{dataWrong, numbersWrong, windowWrong, startWrong, holdWrong, strays, resumeWrong, placeWrong, originWrong, moverWrong, sameFlag, driveWrong, slotsWrong, keeps}
+use Rattle.changer_elements.specs.Slots.{named, isAgain, someAgain, namesNoneTwice}
+use Rattle.rules.specs.TapeService.{tape0, tapeOpen, isRefusal, protects, afterMtio, tapeMtio, tapeWrite, deviceStep, tapeStep, moverPartStep}
 use Rattle.rules_moves.specs.Events.{movedToTape, movedFromTape}
 use Rattle.rules_moves.specs.Moves.{idle, streamEnds, scant, windowUsed, filling, toTape, outside, seekFrom, amount, reading, onFound, seeking, fromTape, fedBy, haltsWith}
 use Rattle.rules_moves.specs.Sequence.{Asked, step, runs, isHeard, moverAsked, dataAsked, jointAsked, asked, moveShown, seen}
@@ -44,8 +45,8 @@ unfolding
     opaques bodyBytes shapeOf headerError replyBytes guarded noticed outcome needsLogin isLocked verdict isUnread refusing settled isClose judged
     requested answered dump dataStart dataStop dataStep dataConnect jointStep judge onto isAccepted offsetWrong
     moverListen moverContinue moverStop moverRead busy elsewhere setWindow setSize moverStep windowEnd pastTop lengthWrong dataJoined moverJoined holdsTape unwritable dataWrong
-    numbersWrong windowWrong startWrong holdWrong strays resumeWrong placeWrong originWrong moverWrong sameFlag keeps tape0 tapeOpen isRefusal
-    protects tapeMtio tapeWrite deviceStep tapeStep moverPartStep movedToTape movedFromTape idle streamEnds scant windowUsed filling toTape
+    numbersWrong windowWrong startWrong holdWrong strays resumeWrong placeWrong originWrong moverWrong sameFlag driveWrong slotsWrong named isAgain someAgain namesNoneTwice keeps tape0 tapeOpen isRefusal
+    protects afterMtio tapeMtio tapeWrite deviceStep tapeStep moverPartStep movedToTape movedFromTape idle streamEnds scant windowUsed filling toTape
     outside seekFrom amount reading onFound seeking fromTape step runs isHeard moverAsked dataAsked jointAsked asked moveShown seen trace recordsIn sum
     padding filledUp handedOver moverNote note noted askedAfter endAfter call blank
     dataPartnered moverPartnered addressWrong listening unmet moverAwaits isTcp fedBy haltsWith untouched asideRequest aside asides atSize lasts backs inTurn recovers

@@ -28,7 +28,7 @@ use Rattle.rules_moves.specs.declared.Found.{Found}
 use Rattle.rules_moves.specs.declared.Move.{Move}
 use Rattle.rules_moves.specs.Moves.{idle, outside, ordinal, inRecord, seekFrom, amount, Handing, untouched, haltsWith, reading, onFound, sought, seeking, fromTape}
 use Rattle.rules_moves.specs.Events.{Moving, announced, movedFromTape}
-use Rattle.rules_moves.specs.Sequence.{Event, Asked, ToTape, FromTape, Ended, Made, Lost, Inserted, Renumbered, StoreLent, step}
+use Rattle.rules_moves.specs.Sequence.{Event, Asked, ToTape, FromTape, Ended, Made, Lost, Inserted, Renumbered, StoreLent, SlotsLent, step}
 use Rattle.rules_moves.proofs.Moving.{before-end, running}
 use Rattle.rules_moves.proofs.Sequence.{Carries, announced-carries, stepped}
 use Rattle.rules_annex.specs.RoundTrip.{Recovers, handedOver, noted, Noted, Window, Read, Reset, Other, askedAfter}
@@ -266,6 +266,7 @@ asked-below total asked end given w (ToTape l part last ∷ es) r = asked-below 
 asked-below total asked end given w (Inserted image ∷ es) r = asked-below total asked end given (step (Inserted image) w) es (r .1)
 asked-below total asked end given w (Renumbered n ∷ es) r = asked-below total asked end given (step (Renumbered n) w) es (r .1)
 asked-below total asked end given w (StoreLent variables ∷ es) r = asked-below total asked end given (step (StoreLent variables) w) es (r .1)
+asked-below total asked end given w (SlotsLent slots ∷ es) r = asked-below total asked end given (step (SlotsLent slots) w) es (r .1)
 
 pub holds-in : (size : ℕ) (l l′ : List ℕ) (n : ℕ) (bytes : List ℕ) → l′ ≡ l → Holds size l n bytes → Holds size l′ n bytes
 holds-in size l l′ n bytes e h = rw e h
@@ -313,3 +314,5 @@ module _ (size : ℕ) (bytes : List ℕ) (n : ℕ) (some : 1 ≤ size) where
       recovered asked end given (step (Renumbered number) w) es (stepped w h (Renumbered number) .kept) k a (r .1)
   recovered asked end given w (StoreLent variables ∷ es) h k a r =
       recovered asked end given (step (StoreLent variables) w) es (stepped w h (StoreLent variables) .kept) k a (r .1)
+  recovered asked end given w (SlotsLent slots ∷ es) h k a r =
+      recovered asked end given (step (SlotsLent slots) w) es (stepped w h (SlotsLent slots) .kept) k a (r .1)

@@ -15,7 +15,7 @@ use Rattle.wire_requests.specs.declared.Request.the-variants as Request
 use Rattle.wire_replies.specs.declared.Reply.{Reply}
 use Rattle.rules_parts.specs.declared.types.Tape.{Tape}
 use Rattle.rules.specs.Judge.{isAccepted, Accepts}
-use Rattle.rules.specs.TapeService.{Loaded, isRefusal, tapeMtio, deviceStep, withLoaded, tapeStep}
+use Rattle.rules.specs.TapeService.{Loaded, isRefusal, afterMtio, tapeMtio, deviceStep, withLoaded, tapeStep}
 use Rattle.rules.specs.Answer.{Kept, Lent, answered, isClose, verdict, outcome, requestIn, Done, tapePart, withTape}
 use Rattle.rules.specs.Order.{Call}
 use Rattle.rules.proofs.JudgeLaws.{accepts, accepts-map, carried}
@@ -40,7 +40,7 @@ AtStart : List ℕ → ℕ → Reply → Loaded → Type 0
 AtStart l p _ s = Rewound l p (s .image) (s .tape .position)
 
 tape-rewinds : (mover : ℕ) (t : Tape) (l : List ℕ) (times : ℕ) → Accepts (AtStart l (t .position)) (tapeMtio mover t l 4 times)
-unfolding tapeMtio Starts AtStart
+unfolding tapeMtio afterMtio choose Starts AtStart
 tape-rewinds mover t l times = accepts (AtStart l (t .position)) _ _ _ (λ g. rewinds l (t .position) times (g 3))
 
 -- ---- the call, where the request is accepted

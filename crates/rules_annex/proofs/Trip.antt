@@ -14,7 +14,7 @@ use Rattle.rules.specs.Relation.{keeps}
 use Rattle.rules.specs.Answer.{Kept}
 use Rattle.rules.specs.Order.{Call}
 use Rattle.rules.proofs.Keeping.{clash}
-use Rattle.rules_moves.specs.Sequence.{Event, Asked, ToTape, FromTape, Ended, Made, Lost, Inserted, Renumbered, StoreLent, step, runs}
+use Rattle.rules_moves.specs.Sequence.{Event, Asked, ToTape, FromTape, Ended, Made, Lost, Inserted, Renumbered, StoreLent, SlotsLent, step, runs}
 use Rattle.rules_moves.proofs.Sequence.{stepped}
 use Rattle.rules_annex.specs.Aside.{Untouched, Aside, Asides}
 use Rattle.rules_annex.specs.RoundTrip.{filledUp, Backs, handedBy, handedOver, ComesOut}
@@ -88,6 +88,7 @@ aside-hands (FromTape l dest) w a = rw (a .0) refl
 aside-hands (Inserted image) w a = refl
 aside-hands (Renumbered n) w a = refl
 aside-hands (StoreLent variables) w a = refl
+aside-hands (SlotsLent slots) w a = refl
 
 more-hands : (e : Event) (w : Kept) (es : List Event) → Aside e w → handedOver w (e ∷ es) ≡ handedOver (step e w) es
 unfolding handedOver
@@ -106,6 +107,7 @@ backs-hands size rest w (FromTape l dest ∷ es) fs b =
 backs-hands size rest w (Inserted image ∷ es) fs b = backs-hands size rest (step (Inserted image) w) es fs (b .1)
 backs-hands size rest w (Renumbered n ∷ es) fs b = backs-hands size rest (step (Renumbered n) w) es fs (b .1)
 backs-hands size rest w (StoreLent variables ∷ es) fs b = backs-hands size rest (step (StoreLent variables) w) es fs (b .1)
+backs-hands size rest w (SlotsLent slots ∷ es) fs b = backs-hands size rest (step (SlotsLent slots) w) es fs (b .1)
 
 asides-hand : (w : Kept) (es fs : List Event) → Asides w es → handedOver w (es ++ fs) ≡ handedOver (runs w es) fs
 unfolding runs

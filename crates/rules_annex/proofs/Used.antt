@@ -25,7 +25,7 @@ use Rattle.wire_requests.specs.declared.Request.the-variants as Request
 use Rattle.rules_parts.specs.declared.types.Mover.{Mover}
 use Rattle.rules.specs.Answer.{Kept, Lent, requestIn}
 use Rattle.rules.specs.Order.{Call}
-use Rattle.rules_moves.specs.Sequence.{Event, Asked, ToTape, FromTape, Ended, Made, Lost, Inserted, Renumbered, StoreLent, step, runs, Seen, Wrote, moverAsked, dataAsked, jointAsked, asked, moveShown, seen}
+use Rattle.rules_moves.specs.Sequence.{Event, Asked, ToTape, FromTape, Ended, Made, Lost, Inserted, Renumbered, StoreLent, SlotsLent, step, runs, Seen, Wrote, moverAsked, dataAsked, jointAsked, asked, moveShown, seen}
 use Rattle.rules_moves.specs.Counts.{trace, recordsIn, sum}
 use Rattle.rules_moves.proofs.Counts.{by-made}
 use Rattle.rules_moves.proofs.Moving.{shown-moved}
@@ -195,5 +195,9 @@ used-grows w size h p (Renumbered n ∷ es) f =
     grows-more size w e es g (used-grows (step e w) size (stepped w h e .kept) (g .at-end) es (f .1))
 used-grows w size h p (StoreLent variables ∷ es) f =
     let e = StoreLent variables in
+    let g : Grows size w e = aside-grown size w (step e w) _ refl p (aside-stays w h e (f .0)) in
+    grows-more size w e es g (used-grows (step e w) size (stepped w h e .kept) (g .at-end) es (f .1))
+used-grows w size h p (SlotsLent slots ∷ es) f =
+    let e = SlotsLent slots in
     let g : Grows size w e = aside-grown size w (step e w) _ refl p (aside-stays w h e (f .0)) in
     grows-more size w e es g (used-grows (step e w) size (stepped w h e .kept) (g .at-end) es (f .1))

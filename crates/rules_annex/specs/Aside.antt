@@ -6,7 +6,7 @@ use Rattle.wire_requests.specs.declared.Request.{Request}
 use Rattle.wire_requests.specs.declared.Request.the-variants as Request
 use Rattle.rules.specs.Answer.{Kept, requestIn}
 use Rattle.rules_moves.specs.Events.{Moving, movedToTape, movedFromTape}
-use Rattle.rules_moves.specs.Sequence.{Event, Asked, ToTape, FromTape, Ended, Made, Lost, Inserted, Renumbered, StoreLent, step}
+use Rattle.rules_moves.specs.Sequence.{Event, Asked, ToTape, FromTape, Ended, Made, Lost, Inserted, Renumbered, StoreLent, SlotsLent, step}
 
 -- the tape stands where it stood, and the cartridge is as it was
 pub record Untouched (w v : Kept) : Type 0 where
@@ -38,6 +38,7 @@ Aside (FromTape l dest) w = (movedFromTape w l dest .count ≡ 0) × Untouched w
 Aside (Inserted image) w = image ≡ w .image
 Aside (Renumbered n) w = Unit {0}
 Aside (StoreLent variables) w = Unit {0}
+Aside (SlotsLent slots) w = Unit {0}
 
 abbrev pub Asides : Kept → List Event → Type 0
 Asides w [] = Unit {0}

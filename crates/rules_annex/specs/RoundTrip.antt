@@ -18,7 +18,7 @@ use Rattle.rules.specs.Relation.{keeps}
 use Rattle.rules.specs.Answer.{Kept, verdict, requestIn}
 use Rattle.rules.specs.Order.{Call}
 use Rattle.rules_moves.specs.Events.{movedToTape, movedFromTape}
-use Rattle.rules_moves.specs.Sequence.{Event, Asked, ToTape, FromTape, Ended, Made, Lost, Inserted, Renumbered, StoreLent, step, runs, isHeard}
+use Rattle.rules_moves.specs.Sequence.{Event, Asked, ToTape, FromTape, Ended, Made, Lost, Inserted, Renumbered, StoreLent, SlotsLent, step, runs, isHeard}
 use Rattle.rules_annex.specs.Aside.{Aside, Asides, AtSize}
 
 -- ---- "the stream, followed only by the zeros that fill its last record"
@@ -47,6 +47,7 @@ Backs size rest w (FromTape l dest ∷ es) = Aside (FromTape l dest) w × Backs 
 Backs size rest w (Inserted image ∷ es) = Aside (Inserted image) w × Backs size rest (step (Inserted image) w) es
 Backs size rest w (Renumbered n ∷ es) = Aside (Renumbered n) w × Backs size rest (step (Renumbered n) w) es
 Backs size rest w (StoreLent variables ∷ es) = Aside (StoreLent variables) w × Backs size rest (step (StoreLent variables) w) es
+Backs size rest w (SlotsLent slots ∷ es) = Aside (SlotsLent slots) w × Backs size rest (step (SlotsLent slots) w) es
 
 -- ---- "then rewind": an accepted MTIO 4
 pub record Rewinds (w : Kept) (c : Call) (times : ℕ) : Type 0 where
@@ -124,6 +125,7 @@ Recovers total asked end given w (ToTape l part last ∷ es) = Aside (ToTape l p
 Recovers total asked end given w (Inserted image ∷ es) = Aside (Inserted image) w × Recovers total asked end given (step (Inserted image) w) es
 Recovers total asked end given w (Renumbered n ∷ es) = Aside (Renumbered n) w × Recovers total asked end given (step (Renumbered n) w) es
 Recovers total asked end given w (StoreLent variables ∷ es) = Aside (StoreLent variables) w × Recovers total asked end given (step (StoreLent variables) w) es
+Recovers total asked end given w (SlotsLent slots ∷ es) = Aside (SlotsLent slots) w × Recovers total asked end given (step (SlotsLent slots) w) es
 
 -- ---- "the bytes handed over": of each move from tape so many bytes of its destination as it told
 abbrev pub handedBy : Event → Kept → List ℕ
@@ -136,6 +138,7 @@ handedBy (Lost l mover) w = []
 handedBy (Inserted image) w = []
 handedBy (Renumbered n) w = []
 handedBy (StoreLent variables) w = []
+handedBy (SlotsLent slots) w = []
 
 unfoldable pub handedOver : Kept → List Event → List ℕ
 handedOver w [] = []

@@ -8,7 +8,7 @@ use Rattle.tape_image.specs.Image.{count, used}
 use Rattle.rules.specs.Relation.{keeps}
 use Rattle.rules.specs.Answer.{Kept}
 use Rattle.rules_moves.specs.Events.{movedToTape}
-use Rattle.rules_moves.specs.Sequence.{Event, Asked, ToTape, FromTape, Ended, Made, Lost, Inserted, Renumbered, StoreLent, step, runs}
+use Rattle.rules_moves.specs.Sequence.{Event, Asked, ToTape, FromTape, Ended, Made, Lost, Inserted, Renumbered, StoreLent, SlotsLent, step, runs}
 use Rattle.rules_moves.specs.Counts.{trace, recordsIn, sum}
 use Rattle.rules_annex.specs.Aside.{Aside, AtSize}
 
@@ -24,6 +24,7 @@ Feeds size w (FromTape l dest ∷ es) = Aside (FromTape l dest) w × Feeds size 
 Feeds size w (Inserted image ∷ es) = Aside (Inserted image) w × Feeds size (step (Inserted image) w) es
 Feeds size w (Renumbered n ∷ es) = Aside (Renumbered n) w × Feeds size (step (Renumbered n) w) es
 Feeds size w (StoreLent variables ∷ es) = Aside (StoreLent variables) w × Feeds size (step (StoreLent variables) w) es
+Feeds size w (SlotsLent slots ∷ es) = Aside (SlotsLent slots) w × Feeds size (step (SlotsLent slots) w) es
 
 -- The cartridge may be any, also an unsound one: then nothing is written. Records written are those that `seen` shows.
 abbrev pub UsedGrows : Type 0

@@ -31,8 +31,9 @@ use Rattle.rules.specs.MoverService.{recordNumber, moverState, offsetWrong, mov
 use Rattle.rules.specs.MoverService.{setWindow, moverRead, setSize, moverStep}
 use Rattle.rules_parts.specs.Parts.{windowEnd, pastTop, lengthWrong, toldIn, dataJoined, moverJoined, dataPartnered, moverPartnered, addressWrong, holdsTape, unwritable}
 use Rattle.rules.specs.Relation.{dataWrong, numbersWrong, windowWrong, startWrong, holdWrong, strays, resumeWrong, placeWrong}
-use Rattle.rules.specs.Relation.{originWrong, moverWrong, sameFlag, keeps}
-use Rattle.rules.specs.TapeService.{tape0, tapeOpen, isRefusal, protects, tapeState, tapeMtio, deviceStep, tapeStep, moverPartStep}
+use Rattle.rules.specs.Relation.{originWrong, moverWrong, sameFlag, driveWrong, slotsWrong, keeps}
+use Rattle.changer_elements.specs.Slots.{named, isAgain, someAgain, namesNoneTwice}
+use Rattle.rules.specs.TapeService.{tape0, tapeOpen, isRefusal, protects, afterMtio, tapeState, tapeMtio, deviceStep, tapeStep, moverPartStep}
 use Rattle.rules_moves.specs.Cases.{wordsBytes, wire, wide, runLine, runCase, keptAfter, noVariables, knownSession, begins, notices, expect, streamed}
 use Rattle.rules_moves.specs.FirstSize.{unsized}
 use Rattle.rules_moves.proofs.Numbering.{onNumber, runNumbered, run-numbered, all-numbered}
@@ -54,8 +55,8 @@ unfolding
     isClose judged requested answered opening connectOpen connectStep dump dataStart dataState dataStop
     dataStep dataConnect moverClose jointStep judge onto recordNumber moverState offsetWrong moverListen moverContinue moverStop
     busy elsewhere setWindow moverRead setSize moverStep windowEnd pastTop lengthWrong toldIn dataJoined moverJoined holdsTape unwritable dataWrong
-    numbersWrong windowWrong startWrong holdWrong strays resumeWrong placeWrong originWrong moverWrong sameFlag keeps tape0
-    tapeOpen isRefusal protects tapeState tapeMtio deviceStep tapeStep moverPartStep movedToTape movedFromTape methodEnded wordsBytes
+    numbersWrong windowWrong startWrong holdWrong strays resumeWrong placeWrong originWrong moverWrong sameFlag driveWrong slotsWrong named isAgain someAgain namesNoneTwice keeps tape0
+    tapeOpen isRefusal protects afterMtio tapeState tapeMtio deviceStep tapeStep moverPartStep movedToTape movedFromTape methodEnded wordsBytes
     wire wide runLine runCase notices expect streamed idle streamEnds scant windowUsed filling toTape outside seekFrom amount reading onFound
     seeking fromTape methodEnd moverConnect atRest dataAborted dataAbort moverAborted moverAbort moverClosed dataAwaits moverAwaits dataListen
     addressWrong dataPartnered moverPartnered listening unmet isTcp lendable addressWords configBody configStep fedBy haltsWith atTcp madeAt lostAt

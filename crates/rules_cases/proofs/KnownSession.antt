@@ -18,7 +18,8 @@ use Rattle.rules_parts.specs.Parts.{windowEnd, pastTop, lengthWrong, dataJoined
 use Rattle.rules.specs.Judge.{judge, onto}
 use Rattle.rules.specs.Connection.{connectOpen, rightDigest, clientAuth, connectStep, authAttributes, configStep}
 use Rattle.rules.specs.Relation.{dataWrong, numbersWrong, windowWrong, startWrong, holdWrong, strays, resumeWrong, placeWrong}
-use Rattle.rules.specs.Relation.{originWrong, moverWrong, sameFlag, keeps}
+use Rattle.rules.specs.Relation.{originWrong, moverWrong, sameFlag, driveWrong, slotsWrong, keeps}
+use Rattle.changer_elements.specs.Slots.{named, isAgain, someAgain, namesNoneTwice}
 use Rattle.rules.specs.Answer.{guarded, roomOf, noticed, outcome, needsLogin, isLocked, verdict, isUnread, refusing, settled, isClose, judged, requested, answered}
 use Rattle.rules.specs.Calls.{opening}
 use Rattle.rules_moves.specs.Cases.{wordsBytes, wire, runLine, runCase, keptAfter, notices, expect}
@@ -35,7 +36,7 @@ unfolding
     put puts summed scanned decoded connectBody configBody opaques bodyBytes shapeOf headerError replyBytes noticeNumber noticeWords noticeBytes
     windowEnd pastTop lengthWrong dataJoined moverJoined dataPartnered moverPartnered addressWrong holdsTape unwritable
     judge onto connectOpen rightDigest clientAuth connectStep authAttributes configStep
-    dataWrong numbersWrong windowWrong startWrong holdWrong strays resumeWrong placeWrong originWrong moverWrong sameFlag keeps
+    dataWrong numbersWrong windowWrong startWrong holdWrong strays resumeWrong placeWrong originWrong moverWrong sameFlag driveWrong slotsWrong named isAgain someAgain namesNoneTwice keeps
     guarded roomOf noticed outcome needsLogin isLocked verdict isUnread refusing settled isClose judged requested answered opening
     wordsBytes wire runLine runCase keptAfter notices expect
 known-session-holds = record { opened = refl; sent = λ image. refl; left = λ image. refl }

@@ -2,3 +2,4 @@
 pub mod Cases
 pub mod LoginCases
 pub mod KnownSession
+pub mod ChangerCases

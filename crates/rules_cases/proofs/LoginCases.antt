@@ -1,5 +1,6 @@
--- The cases of logins are computed, as those of `Cases` are. Assumes nothing.
-use mathlib.Core.Path.{refl}
+-- The cases of logins are computed, as those of `Cases` are, with the session's number read after each line. Assumes nothing.
+use mathlib.Core.List.{List, [], _∷_}
+use mathlib.Core.Path.{_≡_, refl, sym, ap, _∙_}
 use Rattle.xdr.specs.Choose.{choose, allOf}
 use Rattle.xdr.specs.Xdr.{be32, be32s, word, sameBytes}
 use Rattle.xdr_opaque.specs.Opaque.{allZero, opaqueAt}
@@ -18,11 +19,43 @@ use Rattle.rules_parts.specs.Parts.{windowEnd, pastTop, lengthWrong, dataJoined
 use Rattle.rules.specs.Judge.{judge, onto}
 use Rattle.rules.specs.Connection.{connectOpen, rightDigest, clientAuth, connectStep, authAttributes, configStep}
 use Rattle.rules.specs.Relation.{dataWrong, numbersWrong, windowWrong, startWrong, holdWrong, strays, resumeWrong, placeWrong}
-use Rattle.rules.specs.Relation.{originWrong, moverWrong, sameFlag, keeps}
-use Rattle.rules.specs.Answer.{guarded, roomOf, noticed, outcome, needsLogin, isLocked, verdict, isUnread, refusing, settled, isClose, judged, requested, answered}
-use Rattle.rules.specs.Calls.{opening}
-use Rattle.rules_moves.specs.Cases.{wordsBytes, wire}
-use Rattle.rules_cases.specs.LoginCases.{runLogin, runLogins, replied, expectLogins, LoginCasesHold}
+use Rattle.rules.specs.Relation.{originWrong, moverWrong, sameFlag, driveWrong, slotsWrong, keeps}
+use Rattle.changer_elements.specs.Slots.{named, isAgain, someAgain, namesNoneTwice}
+use Rattle.rules.specs.Answer.{Kept, held, guarded, roomOf, noticed, outcome, needsLogin, isLocked, verdict, isUnread, refusing, settled, isClose, judged, requested, answered}
+use Rattle.rules.specs.Calls.{openedSession, opening}
+use Rattle.rules_moves.specs.Cases.{wordsBytes, wire, stamp, noVariables, oneCartridge}
+use Rattle.rules_moves.specs.Sequence.{renumbered}
+use Rattle.rules_moves.proofs.Numbering.{onNumber, on-number}
+use Rattle.rules_cases.specs.Examples.{blank}
+use Rattle.rules_cases.specs.LoginCases.{LoginLine, LoginCase, LoginFinal, runLogin, runLogins, loginPlayed, replied, expectLogins}
+use Rattle.rules_cases.specs.LoginCases.{seenLogin, ungiven, newestCounts, notUsedUp, lentOnly, withdrawn, twoOfOneId, loginBodies, askedBodies, askedFirst, challengedFirst, brokenAccounts, LoginCasesHold}
+
+-- the session that they begin with, computed once
+abbrev first : Kept
+first = held (openedSession oneCartridge) blank noVariables
+
+begins : held (opening oneCartridge stamp 36864 .next .session) blank noVariables ≡ first
+unfolding opening named isAgain someAgain namesNoneTwice choose
+begins = refl
+
+unfoldable runNumbered : Kept → List LoginLine → LoginFinal
+runNumbered k [] = record { shown = []; known = k .session .login .authorized }
+runNumbered k (l ∷ ls) =
+    let n = runLogin k l in
+    let f = onNumber (n .kept .session .sequence) (λ q. runNumbered (held (renumbered q (n .kept .session)) (n .kept .image) (n .kept .variables)) ls) in
+    record { shown = n .shown ∷ f .shown; known = f .known }
+
+run-numbered : (k : Kept) (ls : List LoginLine) → runLogins k ls ≡ runNumbered k ls
+unfolding runLogins runNumbered
+run-numbered k [] = refl
+run-numbered k (l ∷ ls) =
+    let n = runLogin k l in
+    ap (λ (f : LoginFinal). record { shown = n .shown ∷ f .shown; known = f .known })
+    (run-numbered (n .kept) ls
+    ∙ sym (on-number (n .kept .session .sequence) (λ q. runNumbered (held (renumbered q (n .kept .session)) (n .kept .image) (n .kept .variables)) ls)))
+
+numbered : (c : LoginCase) → loginPlayed c ≡ runNumbered first (c .lines)
+numbered c = ap (λ (k : Kept). runLogins k (c .lines)) begins ∙ run-numbered first (c .lines)
 
 pub login-cases-hold : LoginCasesHold
 unfolding
@@ -35,21 +68,21 @@ unfolding
     put puts summed scanned decoded connectBody configBody opaques bodyBytes serverTexts shapeOf headerError replyBytes noticeNumber noticeWords noticeBytes
     windowEnd pastTop lengthWrong dataJoined moverJoined dataPartnered moverPartnered addressWrong holdsTape unwritable
     judge onto connectOpen rightDigest clientAuth connectStep authAttributes configStep
-    dataWrong numbersWrong windowWrong startWrong holdWrong strays resumeWrong placeWrong originWrong moverWrong sameFlag keeps
+    dataWrong numbersWrong windowWrong startWrong holdWrong strays resumeWrong placeWrong originWrong moverWrong sameFlag driveWrong slotsWrong named isAgain someAgain namesNoneTwice keeps
     guarded roomOf noticed outcome needsLogin isLocked verdict isUnread refusing settled isClose judged requested answered opening
-    wordsBytes wire runLogin runLogins replied expectLogins
+    wordsBytes wire onNumber runLogin runNumbered replied expectLogins
 login-cases-hold =
     record {
-      seen-login = refl;
-      ungiven = refl;
-      newest-counts = refl;
-      not-used-up = refl;
-      lent-only = refl;
-      withdrawn = refl;
-      two-of-one-id = refl;
-      login-bodies = refl;
-      asked-bodies = refl;
-      asked-first = refl;
-      challenged-first = refl;
-      broken-accounts = refl;
+      seen-login = numbered seenLogin ∙ refl;
+      ungiven = numbered ungiven ∙ refl;
+      newest-counts = numbered newestCounts ∙ refl;
+      not-used-up = numbered notUsedUp ∙ refl;
+      lent-only = numbered lentOnly ∙ refl;
+      withdrawn = numbered withdrawn ∙ refl;
+      two-of-one-id = numbered twoOfOneId ∙ refl;
+      login-bodies = numbered loginBodies ∙ refl;
+      asked-bodies = numbered askedBodies ∙ refl;
+      asked-first = numbered askedFirst ∙ refl;
+      challenged-first = numbered challengedFirst ∙ refl;
+      broken-accounts = numbered brokenAccounts ∙ refl;
     }

@@ -11,7 +11,7 @@ use Rattle.rules.specs.Relation.{keeps}
 use Rattle.rules_moves.specs.Cases.{CaseLine, Feed, Fetch, Case, Final, runCase, allPlayed, allWanted, toTapeMode, fromTapeMode, noMode, eom, eof, seek, eow}
 use Rattle.rules_moves.specs.Cases.{connectClosed, successful, backupRuns, fsr, sizeLine, windowLine, openTape, listen, connectLine, startBackup, startRecover}
 use Rattle.rules_moves.specs.Cases.{read, continueLine, pauseNotices, haltNotices, moverIdleWords, active, pausedFor, haltedFor, counts, reads, windowWords, moverIs, dataActiveWords, dataHaltedFor, dataIs}
-use Rattle.rules_moves.specs.Cases.{noVariables, knownSession, begins, wantedFrom, streamed, cartridge}
+use Rattle.rules_moves.specs.Cases.{noVariables, oneCartridge, knownSession, begins, wantedFrom, streamed, cartridge}
 use Rattle.rules_cases.specs.Examples.{prepared, blank, asking, streaming, threeRecords}
 use Rattle.rules_moves.specs.RecoverCases.{full, recovering, recoverCase, small, twoRecords, backingUp, backupCase}
 
@@ -126,7 +126,7 @@ nearTop moved =
         origin = 0;
       };
       tape = record { opened = true; writable = true; position = 0 };
-      changer = closedChanger;
+      changer = closedChanger oneCartridge;
     }
 
 abbrev pub ranNear : ℕ → List CaseLine → Final

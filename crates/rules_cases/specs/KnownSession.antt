@@ -6,7 +6,7 @@ use Prim.Native.Nat.{ℕ}
 use Rattle.rules.specs.Answer.{held}
 use Rattle.rules.specs.Calls.{opening}
 use Rattle.rules_moves.specs.Cases.{CaseLine, Ask, tell, World, showing, shows, lending, knownChallenge, noVariables, runCase, keptAfter, freshSession, knownSession, begins}
-use Rattle.rules_moves.specs.Cases.{notices, wantedFrom, says}
+use Rattle.rules_moves.specs.Cases.{oneCartridge, notices, wantedFrom, says}
 
 -- MD5 of the password `pw`, 60 zeros, the challenge and the password again
 abbrev pub knownDigest : List ℕ
@@ -25,6 +25,6 @@ fresh image = begins freshSession image noVariables []
 
 pub record KnownSessionHolds : Type 0 where
   -- "Opening a session sends connection status (connected 0, version 4, empty text) as number 1."
-  pub opened : showing (opening (lending .time) (lending .room)) 0 [] ≡ shows (notices 1 (tell 0x502 (0 ∷ 4 ∷ 0 ∷ []) ∷ [])) 0 []
+  pub opened : showing (opening oneCartridge (lending .time) (lending .room)) 0 [] ≡ shows (notices 1 (tell 0x502 (0 ∷ 4 ∷ 0 ∷ []) ∷ [])) 0 []
   pub sent : (image : List ℕ) → runCase (fresh image) loginLines ≡ wantedFrom 2 loginLines image 0
   pub left : (image : List ℕ) → keptAfter (fresh image) loginLines ≡ held knownSession image noVariables

@@ -4,3 +4,4 @@ pub mod FirstSizeCases
 pub mod EnvironmentCases
 pub mod LoginCases
 pub mod KnownSession
+pub mod ChangerCases

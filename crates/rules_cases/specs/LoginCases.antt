@@ -6,7 +6,7 @@ use mathlib.Core.List.{List, [], _∷_, _++_}
 use mathlib.Core.Path.{_≡_}
 use Rattle.rules.specs.Answer.{Kept, Lent, held, Answered, answered}
 use Rattle.rules.specs.Calls.{opening}
-use Rattle.rules_moves.specs.Cases.{wordsBytes, wire, Shown, showing, shows, stamp, echoed, noVariables}
+use Rattle.rules_moves.specs.Cases.{wordsBytes, wire, Shown, showing, shows, stamp, echoed, noVariables, oneCartridge}
 use Rattle.rules_cases.specs.Examples.{blank}
 
 -- ---- a line: what goes in, and what comes of it
@@ -51,7 +51,7 @@ runLogins k (l ∷ ls) =
     record { shown = n .shown ∷ f .shown; known = f .known }
 
 abbrev pub loginPlayed : LoginCase → LoginFinal
-loginPlayed c = runLogins (held (opening stamp 36864 .next .session) blank noVariables) (c .lines)
+loginPlayed c = runLogins (held (opening oneCartridge stamp 36864 .next .session) blank noVariables) (c .lines)
 
 -- ---- what they should give. "An unknown message's 1, and 18, stand in the header with no body"
 unfoldable pub replied : ℕ → ℕ → Told → List ℕ

@@ -9,9 +9,9 @@ use Rattle.rules.specs.Answer.{Kept}
 use Rattle.rules.specs.Order.{Call}
 use Rattle.rules.specs.Login.{Newest, newestOf, newer, authorized}
 use Rattle.rules.proofs.Login.{newest-next, call-only, call-stays}
-use Rattle.rules_moves.specs.Sequence.{Event, Asked, ToTape, FromTape, Ended, Made, Lost, Inserted, Renumbered, StoreLent, step, runs}
+use Rattle.rules_moves.specs.Sequence.{Event, Asked, ToTape, FromTape, Ended, Made, Lost, Inserted, Renumbered, StoreLent, SlotsLent, step, runs}
 use Rattle.rules_moves.specs.SessionLeft.{IsUnasked}
-use Rattle.rules_moves.proofs.SessionLeft.{session-left}
+use Rattle.rules_moves.proofs.SessionLeft.{by-asked, session-left}
 use Rattle.rules_login.specs.Along.{newerBy, newestAlong, EntersBy, by-request, EntersAlong, along-here, along-later, LoginAlong}
 
 clash : {A : Type 0} → false ≡ true → A
@@ -19,18 +19,6 @@ clash h = absurd (let z : _≡_ {A = ℕ} 0 1 = cc in omega arith)
 
 abbrev flag : Login → Bool
 flag g = g .authorized
-
--- an event is a request or is not
-by-asked : (P : Event → Type 0) → ((c : Call) → P (Asked c)) → ((e : Event) → IsUnasked e → P e) → (e : Event) → P e
-by-asked P asked rest (Asked c) = asked c
-by-asked P asked rest (ToTape l stream last) = rest (ToTape l stream last) tt
-by-asked P asked rest (FromTape l dest) = rest (FromTape l dest) tt
-by-asked P asked rest (Ended l ok) = rest (Ended l ok) tt
-by-asked P asked rest (Made l mover) = rest (Made l mover) tt
-by-asked P asked rest (Lost l mover) = rest (Lost l mover) tt
-by-asked P asked rest (Inserted image) = rest (Inserted image) tt
-by-asked P asked rest (Renumbered number) = rest (Renumbered number) tt
-by-asked P asked rest (StoreLent variables) = rest (StoreLent variables) tt
 
 module _ (k : Kept) where
   abbrev Left : Event → Type 0
@@ -46,13 +34,13 @@ module _ (k : Kept) where
   enters : (e : Event) → Enters e
   unfolding step
   enters e =
-      by-asked Enters (λ c n t. let z = call-only k c n t in by-request (z .0) (z .1))
+      by-asked Enters (λ c n t. let z = call-only k c n t in by-request (z .0) (z .1)) (λ slots n t. clash (sym n ∙ t))
       (λ e o n t. clash (sym n ∙ sym (ap flag (left e o)) ∙ t)) e
 
   stays-once : (e : Event) → authorized k ≡ true → authorized (step e k) ≡ true
   unfolding step
   stays-once e =
-      by-asked (λ (e : Event). authorized k ≡ true → authorized (step e k) ≡ true) (λ c h. call-stays k c h)
+      by-asked (λ (e : Event). authorized k ≡ true → authorized (step e k) ≡ true) (λ c h. call-stays k c h) (λ slots h. h)
       (λ e o h. ap flag (left e o) ∙ h) e
 
   newest-once : (e : Event) → newestOf (step e k .session .login) ≡ newerBy (newestOf (k .session .login)) k e
@@ -66,6 +54,7 @@ module _ (k : Kept) where
   newest-once (Inserted image) = ap newestOf (left (Inserted image) tt)
   newest-once (Renumbered number) = ap newestOf (left (Renumbered number) tt)
   newest-once (StoreLent variables) = ap newestOf (left (StoreLent variables) tt)
+  newest-once (SlotsLent slots) = refl
 
 now-or-later : (k : Kept) (e : Event) (es : List Event) → authorized k ≡ false → (b : Bool) → authorized (step e k) ≡ b
     → (authorized (step e k) ≡ false → EntersAlong (newestOf (step e k .session .login)) (step e k) es)

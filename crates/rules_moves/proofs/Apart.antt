@@ -36,12 +36,12 @@ use Rattle.rules.proofs.JudgeLaws.{accepts, accepts-any, accepts-map, refusal-s
 use Rattle.rules.proofs.Keeping.{clash, not-joined}
 use Rattle.rules.proofs.Kept.{mover-kept}
 use Rattle.rules.proofs.Guarding.{by-guard}
-use Rattle.rules.proofs.Calls.{kept-facts, call-holds, calls-keep}
+use Rattle.rules.proofs.Calls.{by-opening, unopened-keeps, kept-facts, call-holds, calls-keep}
 use Rattle.rules_moves.specs.declared.Move.{Move}
 use Rattle.rules_moves.specs.declared.Found.{Found}
 use Rattle.rules_moves.specs.Moves.{idle, haltsWith, fedBy, filling, toTape, Handing, untouched, reading, onFound, sought, seeking, fromTape, methodEnd, madeAt, lostAt}
 use Rattle.rules_moves.specs.Events.{Moving, announced, movedToTape, movedFromTape, methodEnded, connectionMade, connectionLost}
-use Rattle.rules_moves.specs.Sequence.{Event, Asked, ToTape, FromTape, Ended, Made, Lost, Inserted, Renumbered, StoreLent, step, runs}
+use Rattle.rules_moves.specs.Sequence.{Event, Asked, ToTape, FromTape, Ended, Made, Lost, Inserted, Renumbered, StoreLent, SlotsLent, step, runs}
 use Rattle.rules_moves.specs.FirstSize.{afterOpen}
 use Rattle.rules_moves.specs.Apart.{jointOfMover, MoverAsks, SourceAsks, OfMover, OfSource, MoverAlong, SourceAlong, StaysTcp, MoverLeft, TcpApart}
 use Rattle.rules_moves.proofs.Sequence.{announced-carries, parts-kept, stepped}
@@ -240,6 +240,7 @@ step-source w h (Ended l ok) o a = absurd o
 step-source w h (Inserted image) o a = absurd o
 step-source w h (Renumbered n) o a = absurd o
 step-source w h (StoreLent variables) o a = absurd o
+step-source w h (SlotsLent slots) o a = absurd o
 
 -- an announced move that leaves mover and tape
 announced-left : (w : Kept) (l : Lent) (mv : Move) → Left (w .session .source) (w .session .mover) (w .session .tape) mv
@@ -262,6 +263,7 @@ step-left w h (FromTape l dest) o a = absurd o
 step-left w h (Inserted image) o a = absurd o
 step-left w h (Renumbered n) o a = absurd o
 step-left w h (StoreLent variables) o a = absurd o
+step-left w h (SlotsLent slots) o a = absurd o
 
 -- ---- calls one after the other
 source-left : (w : Kept) → keeps (w .session) ≡ true → (es : List Event) → MoverAlong w es → runs w es .session .source ≡ w .session .source
@@ -365,7 +367,7 @@ module _ (w : Kept) (l : Lent) (r : List ℕ) where
   outcome-counted Request.Bad = refusal-says (λ _ (d : Done). Count (d .kept)) _
   outcome-counted (Request.Connect q) = off-source (withLogin w []) (λ _ _. refl) _
   outcome-counted (Request.Config q) = off-source (withLogin w (l .challenge)) (λ _ _. refl) _
-  outcome-counted (Request.Scsi q) = off-source (withChanger w) (λ _ _. refl) _
+  outcome-counted (Request.Scsi q) = off-source (withChanger w _) (λ _ _. refl) _
   outcome-counted (Request.Tape q) = off-source (withTape w) (λ _ _. refl) _
   outcome-counted (Request.Mover q) = off-source (withPart w (l .addresses)) (λ _ _. refl) _
   outcome-counted (Request.Data q) = carried (λ _ (d : Done). Count (d .kept)) (withData w q (bodyOf r) (l .addresses)) _ (data-counted q (bodyOf r) (l .addresses) (w .variables))
@@ -404,6 +406,7 @@ step-counted w h (Lost l mover) a b = announced-counted w l (lostAt mover (w .se
 step-counted w h (Inserted image) a b = refl
 step-counted w h (Renumbered n) a b = refl
 step-counted w h (StoreLent variables) a b = refl
+step-counted w h (SlotsLent slots) a b = refl
 
 still-tcp : (w : Kept) (es : List Event) → StaysTcp w es → w .session .source .address ≡ 1
 still-tcp w [] s = s
@@ -573,7 +576,7 @@ module _ (w : Kept) (l : Lent) (r : List ℕ) (z : Zero (w .session .source)) wh
   outcome-zero Request.Bad = refusal-says (λ _ (d : Done). ZeroKept (d .kept)) _
   outcome-zero (Request.Connect q) = off-zero (withLogin w []) (λ _. z) _
   outcome-zero (Request.Config q) = off-zero (withLogin w (l .challenge)) (λ _. z) _
-  outcome-zero (Request.Scsi q) = off-zero (withChanger w) (λ _. z) _
+  outcome-zero (Request.Scsi q) = off-zero (withChanger w _) (λ _. z) _
   outcome-zero (Request.Tape q) = off-zero (withTape w) (λ _. z) _
   outcome-zero (Request.Mover q) = off-zero (withPart w (l .addresses)) (λ _. z) _
   outcome-zero (Request.Data q) = carried (λ _ (d : Done). ZeroKept (d .kept)) (withData w q (bodyOf r) (l .addresses)) _ (data-zero q (bodyOf r) (l .addresses) (w .variables))
@@ -615,6 +618,7 @@ step-zero w h (Lost l mover) z =
 step-zero w h (Inserted image) z = z
 step-zero w h (Renumbered n) z = z
 step-zero w h (StoreLent variables) z = z
+step-zero w h (SlotsLent slots) z = z
 
 runs-zero : (w : Kept) → keeps (w .session) ≡ true → (es : List Event) → Zero (w .session .source) → Zero (runs w es .session .source)
 unfolding runs
@@ -625,18 +629,17 @@ record Fresh (s : Session) : Type 0 where
   kept : keeps s ≡ true
   zero : Zero (s .source)
 
-fresh : (time room : ℕ) → Fresh (opening time room .next .session)
-unfolding opening keeps
-fresh time room =
+fresh : (slots : List ℕ) (time room : ℕ) → Fresh (opening slots time room .next .session)
+fresh slots time room =
     let z : Zero restData = record { rest = λ _. refl; tcp = λ _. refl } in
-    by-test (λ (a : Answered). Fresh (a .next .session)) (ltb room 36864) _ _ (λ _. record { kept = calls-keep .opened; zero = z })
-    (λ _. record { kept = calls-keep .opened; zero = z })
+    by-opening (λ (a : Answered). Fresh (a .next .session)) slots time room (λ _ _. record { kept = unopened-keeps; zero = z })
+    (λ h. record { kept = calls-keep .opened slots h; zero = z })
 
-zero : (time room : ℕ) (image variables : List ℕ) (es : List Event) → afterOpen time room image variables es .session .source .address ≡ 1
-    → afterOpen time room image variables es .session .source .processed ≡ 0
-zero time room image variables es =
-    let f = fresh time room in
-    runs-zero (held (opening time room .next .session) image variables) (f .kept) es (f .zero) .tcp
+zero : (slots : List ℕ) (time room : ℕ) (image variables : List ℕ) (es : List Event) → afterOpen slots time room image variables es .session .source .address ≡ 1
+    → afterOpen slots time room image variables es .session .source .processed ≡ 0
+zero slots time room image variables es =
+    let f = fresh slots time room in
+    runs-zero (held (opening slots time room .next .session) image variables) (f .kept) es (f .zero) .tcp
 
 pub tcp-apart : TcpApart
 tcp-apart = record { source-left = source-left; mover-left = mover-left; uncounted = uncounted; zero = zero }

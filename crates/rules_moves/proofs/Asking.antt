@@ -196,7 +196,7 @@ module _ (k : Kept) (l : Lent) (r : List ℕ) where
   outcome-left Request.Bad = refusal-says (DoneLeft Nothing) _
   outcome-left (Request.Connect q) = aside (withLogin k []) (λ _. (refl, tt)) _
   outcome-left (Request.Config q) = aside (withLogin k (l .challenge)) (λ _. (refl, tt)) _
-  outcome-left (Request.Scsi q) = aside (withChanger k) (λ _. (refl, tt)) _
+  outcome-left (Request.Scsi q) = aside (withChanger k _) (λ _. (refl, tt)) _
   outcome-left (Request.Tape q) =
       carried (DoneLeft Nothing) (withTape k) _ (carried (λ reply p. DoneLeft Nothing reply (withTape k p)) (withLoaded (tapePart k)) _
       (accepts-any (λ reply p. DoneLeft Nothing reply (withTape k (withLoaded (tapePart k) p))) (λ _ _. (refl, tt)) _))

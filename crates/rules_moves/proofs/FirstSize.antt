@@ -49,10 +49,10 @@ use Rattle.rules.proofs.JudgeLaws.{judged-by, accepts, carried, refuses-onto}
 use Rattle.rules.proofs.Kept.{mover-kept, kept-mover}
 use Rattle.rules.proofs.Keeping.{clash, idle-free, size-kept}
 use Rattle.rules.proofs.Services.{one-of}
-use Rattle.rules.proofs.Calls.{by-call, kept-facts, facts-kept, calls-keep}
+use Rattle.rules.proofs.Calls.{by-call, by-opening, unopened-keeps, kept-facts, facts-kept, calls-keep}
 use Rattle.rules.proofs.Leaving.{small-number, noticed-reply}
 use Rattle.rules.proofs.Numbers.{refusal-right}
-use Rattle.rules_moves.specs.Sequence.{Event, Asked, ToTape, FromTape, Ended, Made, Lost, Inserted, Renumbered, StoreLent, step, runs, isHeard, seen}
+use Rattle.rules_moves.specs.Sequence.{Event, Asked, ToTape, FromTape, Ended, Made, Lost, Inserted, Renumbered, StoreLent, SlotsLent, step, runs, isHeard, seen}
 use Rattle.rules_moves.specs.Sequence.{Seen, Sized, Windowed, Sought, MoverStopped, DataStopped, Listened, Joined, Began, Paused, Wrote, Handed, Nothing}
 use Rattle.rules_moves.specs.Sequence.{Register, registerOf, after, moverAsked, dataAsked, jointAsked, asked}
 use Rattle.rules_moves.specs.FirstSize.{askingWindow, afterOpen, errorTold, Unready, no-window, inside, Cause, at-listen, at-connect, at-continue}
@@ -141,6 +141,7 @@ seen-sizes (Lost l mover) w = tt
 seen-sizes (Inserted image) w = tt
 seen-sizes (Renumbered n) w = tt
 seen-sizes (StoreLent variables) w = tt
+seen-sizes (SlotsLent slots) w = tt
 
 size-after : (r : Register) (x : Seen) → Sizes x → 1 ≤ r .size → 1 ≤ after r x .size
 unfolding after
@@ -171,22 +172,21 @@ record Fresh (s : Session) : Type 0 where
   size : s .mover .size ≡ 10240
   kept : keeps s ≡ true
 
-fresh : (time room : ℕ) → Fresh (opening time room .next .session)
-unfolding opening keeps
-fresh time room =
-    by-test (λ (a : Answered). Fresh (a .next .session)) (ltb room 36864) _ _ (λ _. record { size = refl; kept = calls-keep .opened })
-    (λ _. record { size = refl; kept = calls-keep .opened })
+fresh : (slots : List ℕ) (time room : ℕ) → Fresh (opening slots time room .next .session)
+fresh slots time room =
+    by-opening (λ (a : Answered). Fresh (a .next .session)) slots time room (λ _ _. record { size = refl; kept = unopened-keeps })
+    (λ h. record { size = refl; kept = calls-keep .opened slots h })
 
-some : (time room : ℕ) (image variables : List ℕ) (es : List Event) → 1 ≤ afterOpen time room image variables es .session .mover .size
-some time room image variables es =
-    let f = fresh time room in
+some : (slots : List ℕ) (time room : ℕ) (image variables : List ℕ) (es : List Event) → 1 ≤ afterOpen slots time room image variables es .session .mover .size
+some slots time room image variables es =
+    let f = fresh slots time room in
     let n = f .size in
-    size-runs (held (opening time room .next .session) image variables) (f .kept) es (omega arith)
+    size-runs (held (opening slots time room .next .session) image variables) (f .kept) es (omega arith)
 
-most : (time room : ℕ) (image variables : List ℕ) (es : List Event) → afterOpen time room image variables es .session .mover .size ≤ 32768
-most time room image variables es =
-    let s = afterOpen time room image variables es .session in
-    mover-kept (s .mover) (s .tape) (kept-facts s (moves-keep .kept _ es (fresh time room .kept)) .mover) .sizes
+most : (slots : List ℕ) (time room : ℕ) (image variables : List ℕ) (es : List Event) → afterOpen slots time room image variables es .session .mover .size ≤ 32768
+most slots time room image variables es =
+    let s = afterOpen slots time room image variables es .session in
+    mover-kept (s .mover) (s .tape) (kept-facts s (moves-keep .kept _ es (fresh slots time room .kept)) .mover) .sizes
 
 -- ---- what each test's number says, where it applies, a refusal says
 abbrev Tells : (ℕ → Type 0) → List Test → Type 0
@@ -453,6 +453,8 @@ unsized-kept s h i =
     (record {
       source = f .source;
       mover = kept-mover (unsized s .mover) (s .tape) (size-kept (s .mover) (s .tape) 0 i (idle-free (s .mover .state) i) (omega arith) (mover-kept (s .mover) (s .tape) (f .mover)));
+      drive = f .drive;
+      names = f .names;
       joined = rw (mover-same (s .mover) (unsized s .mover) refl refl) (f .joined);
     })
 
@@ -492,10 +494,10 @@ handed-in =
 pub first-size : FirstSize
 first-size =
     record {
-      first = λ time room. fresh time room .size;
+      first = λ slots time room. fresh slots time room .size;
       some = some;
       most = most;
-      causes = λ time room image variables es l r h z. explained (afterOpen time room image variables es) l r (some time room image variables es) h z;
-      windows = λ time room image variables es l r e z. never (afterOpen time room image variables es) l r (some time room image variables es) e z;
+      causes = λ slots time room image variables es l r h z. explained (afterOpen slots time room image variables es) l r (some slots time room image variables es) h z;
+      windows = λ slots time room image variables es l r e z. never (afterOpen slots time room image variables es) l r (some slots time room image variables es) e z;
       handed-in = handed-in;
     }

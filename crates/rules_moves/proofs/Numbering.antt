@@ -12,7 +12,7 @@ unfoldable pub onNumber : {A : Type 0} → ℕ → (ℕ → A) → A
 onNumber zero f = f zero
 onNumber (suc n) f = f (suc n)
 
-on-number : {A : Type 0} (n : ℕ) (f : ℕ → A) → onNumber n f ≡ f n
+pub on-number : {A : Type 0} (n : ℕ) (f : ℕ → A) → onNumber n f ≡ f n
 unfolding onNumber
 on-number zero f = refl
 on-number (suc n) f = refl

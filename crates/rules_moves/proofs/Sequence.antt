@@ -2,18 +2,21 @@
 use Prim.Native.Nat.{ℕ}
 use mathlib.Core.Bool.{Bool, true, false, not}
 use mathlib.Core.List.{List, [], _∷_}
-use mathlib.Core.Path.{_≡_, refl, _∙_}
+use mathlib.Core.Path.{_≡_, refl, sym, ap, _∙_}
 use native.Mathlib.Omega.{arith}
 use lib.Dec.{eqb, ltb}
 use Rattle.xdr.specs.Choose.{choose}
-use Rattle.xdr.proofs.Tests.{by-test}
+use borrow.Author.Tests.{eqb-true, eq-eqb, ne-eqb}
+use Rattle.xdr.proofs.Tests.{by-test, when, if-so, pick-if, pick-else, yes-not}
+use Rattle.changer_elements.specs.Slots.{namesNoneTwice, inDrive}
 use Rattle.xdr_opaque.specs.Put.{Each}
 use Rattle.tape_image.specs.Image.{isSound}
 use Rattle.tape_ops.specs.Step.{Step}
 use Rattle.wire_replies.specs.declared.Notice.{Notice}
+use Rattle.rules_parts.specs.declared.types.Tape.{Tape}
 use Rattle.rules_parts.specs.declared.types.Session.{Session}
 use Rattle.rules_parts.specs.Names.{leastRoom}
-use Rattle.rules.specs.Relation.{keeps}
+use Rattle.rules.specs.Relation.{driveWrong, keeps}
 use Rattle.rules.specs.Answer.{Kept, Lent, Answered, guarded, noticed, silent}
 use Rattle.rules.specs.Calls.{Unmoved}
 use Rattle.rules.proofs.Kept.{mover-kept}
@@ -23,10 +26,13 @@ use Rattle.rules.proofs.Calls.{kept-facts, facts-kept, calls-keep}
 use Rattle.rules_moves.specs.declared.Move.{Move}
 use Rattle.rules_moves.specs.Moves.{Handing, toTape, fromTape, methodEnd, madeAt, lostAt}
 use Rattle.rules_moves.specs.Events.{Moving, idling, announced, moved, movedToTape, movedFromTape, methodEnded, connectionMade, connectionLost}
-use Rattle.rules_moves.specs.Sequence.{Event, Asked, ToTape, FromTape, Ended, Made, Lost, Inserted, Renumbered, StoreLent, renumbered, step, runs, Wrote, Handed, registerOf, after, FitsRegister, Legitimate}
+use Rattle.rules_moves.specs.Sequence.{Event, Asked, ToTape, FromTape, Ended, Made, Lost, Inserted, Renumbered, StoreLent, SlotsLent, renumbered, mayLend, listFor, withList, step, runs, Wrote, Handed, registerOf, after, FitsRegister, Legitimate}
 use Rattle.rules_moves.specs.Sequence.{madeShown, toTapeShown, fromTapeShown, seen, imageAfter, destAfter, countOf, ToTapeLeaves, FromTapeLeaves, Leaves, Inside, finished, more, WindowHolds}
 use Rattle.rules_moves.specs.Keeping.{Idle, Guards, Sounds, MovesKeep}
+use Rattle.rules_moves.specs.SessionLeft.{SameRest}
 use Rattle.rules_moves.proofs.Asking.{asked-left}
+use Rattle.rules_moves.proofs.Opened.{to-open, from-open, end-open, made-open, lost-open}
+use Rattle.rules_moves.proofs.SessionLeft.{announced-left}
 use Rattle.rules_moves.proofs.Moving.{PartsKept, shown-still, ToTurn, to-turn, FromTurn, from-turn, end-turn, shown-same, made-turn, lost-turn}
 
 -- ---- an answer that carries a move's parts
@@ -86,10 +92,22 @@ record ToCall (w : Kept) (stream : List ℕ) (e : Moving) : Type 0 where
 pub parts-kept : (s : Session) → keeps s ≡ true → PartsKept (s .source) (s .mover) (s .tape)
 parts-kept s h = let f = kept-facts s h in record { source = f .source; mover = f .mover; joined = f .joined }
 
-carried-kept : (mv : Move) (image : List ℕ) (a : Answered) → Carries mv image a → PartsKept (mv .source) (mv .mover) (mv .tape) → keeps (a .next .session) ≡ true
-carried-kept mv image a c k =
+drive-same : (drive : ℕ) (t n : Tape) → n .opened ≡ t .opened → driveWrong drive t ≡ false → driveWrong drive n ≡ false
+unfolding driveWrong
+drive-same drive t n e h = rw e h
+
+carried-kept : (w : Kept) → keeps (w .session) ≡ true → (mv : Move) (image : List ℕ) (a : Answered) → Carries mv image a → SameRest w (a .next)
+    → PartsKept (mv .source) (mv .mover) (mv .tape) → keeps (a .next .session) ≡ true
+carried-kept w h mv image a c r k =
+    let f = kept-facts (w .session) h in
     facts-kept (a .next .session)
-    (record { source = rw (c .source) (k .source); mover = rw (c .mover, c .tape) (k .mover); joined = rw (c .source, c .mover) (k .joined) })
+    (record {
+      source = rw (c .source) (k .source);
+      mover = rw (c .mover, c .tape) (k .mover);
+      drive = rw (r .changer) (drive-same _ (w .session .tape) (a .next .session .tape) (r .opened) (f .drive));
+      names = rw (r .changer) (f .names);
+      joined = rw (c .source, c .mover) (k .joined);
+    })
 
 module _ (w : Kept) (stream : List ℕ) (h : keeps (w .session) ≡ true) where
   to-idle : (code : ℕ) → ToCall w stream (idling code w [])
@@ -98,15 +116,15 @@ module _ (w : Kept) (stream : List ℕ) (h : keeps (w .session) ≡ true) where
       let e = shown-still (w .session .mover) (Wrote (w .session .mover .size) 0) in
       record { fits = rw e tt; register = rw e refl; leaves = record { image = rw e refl; taken = rw e refl; there = omega arith }; kept = h; sound = λ k. k }
 
-  to-moved : (st : Step Move) (a : Answered) → Carries (st .gives) (st .image) a
+  to-moved : (st : Step Move) (a : Answered) → Carries (st .gives) (st .image) a → SameRest w (a .next)
       → ToTurn (w .session .source) (w .session .mover) (w .session .tape) (w .image) stream st
       → ToCall w stream (record { answer = a; count = st .gives .count; dest = [] })
-  to-moved st a c t =
+  to-moved st a c rest t =
       record {
         fits = rw (c .mover) (t .turn .fits);
         register = rw (c .source, c .mover) (t .turn .register);
         leaves = record { image = rw (c .mover) (c .image-end ∙ t .image); taken = rw (c .mover) (t .turn .taken); there = t .there };
-        kept = carried-kept (st .gives) (st .image) a c (t .kept);
+        kept = carried-kept w h (st .gives) (st .image) a c rest (t .kept);
         sound = λ k. rw (c .image-end) (t .sound k);
       }
 
@@ -117,6 +135,7 @@ module _ (w : Kept) (stream : List ℕ) (h : keeps (w .session) ≡ true) where
       let st = toTape (s .source) (s .mover) (s .tape) (w .image) stream last in
       by-guard (ToCall w stream) s (l .room) _ _ to-idle
       (λ _. to-moved st (announced w l (st .gives) (st .image)) (announced-carries w l (st .gives) (st .image))
+      (announced-left w l (st .gives) (st .image) (to-open (s .source) (s .mover) (s .tape) (w .image) stream last))
       (to-turn (s .source) (s .mover) (s .tape) (w .image) stream (parts-kept s h) last))
 
 -- ---- a move from tape, as a call
@@ -138,10 +157,10 @@ module _ (w : Kept) (dest : List ℕ) (h : keeps (w .session) ≡ true) where
         kept = h;
       }
 
-  from-moved : (st : Handing) (a : Answered) → Carries (st .move) (w .image) a
+  from-moved : (st : Handing) (a : Answered) → Carries (st .move) (w .image) a → SameRest w (a .next)
       → FromTurn (w .session .source) (w .session .mover) (w .session .tape) (w .image) dest st
       → FromCall w dest (record { answer = a; count = st .move .count; dest = st .dest })
-  from-moved st a c t =
+  from-moved st a c rest t =
       record {
         fits = rw (c .mover) (t .turn .fits);
         register = rw (c .source, c .mover) (t .turn .register);
@@ -152,7 +171,7 @@ module _ (w : Kept) (dest : List ℕ) (h : keeps (w .session) ≡ true) where
           source = λ z. rw (c .tape) (t .source z);
           image = c .image-end;
         };
-        kept = carried-kept (st .move) (w .image) a c (t .kept);
+        kept = carried-kept w h (st .move) (w .image) a c rest (t .kept);
       }
 
   from-call : (l : Lent) → FromCall w dest (movedFromTape w l dest)
@@ -162,6 +181,7 @@ module _ (w : Kept) (dest : List ℕ) (h : keeps (w .session) ≡ true) where
       let st = fromTape (s .source) (s .mover) (s .tape) (w .image) dest in
       by-guard (FromCall w dest) s (l .room) _ _ from-idle
       (λ _. from-moved st (announced w l (st .move) (w .image)) (announced-carries w l (st .move) (w .image))
+      (announced-left w l (st .move) (w .image) (from-open (s .source) (s .mover) (s .tape) (w .image) dest))
       (from-turn (s .source) (s .mover) (s .tape) (w .image) dest (parts-kept s h)))
 
 -- ---- the method's end, as a call
@@ -176,9 +196,10 @@ end-call w h l ok =
     let s = w .session in
     let mv = methodEnd ok (s .source) (s .mover) (s .tape) in
     let c = announced-carries w l mv (w .image) in
+    let rest = announced-left w l mv (w .image) (end-open (s .source) (s .mover) (s .tape) ok) in
     let t = end-turn ok (s .source) (s .mover) (s .tape) (parts-kept s h) in
     by-guard (EndCall w) s (l .room) _ _ (λ _. record { register = refl; image-end = refl; kept = h })
-    (λ _. record { register = rw (c .source, c .mover) (t .register); image-end = c .image-end; kept = carried-kept mv (w .image) _ c (t .kept) })
+    (λ _. record { register = rw (c .source, c .mover) (t .register); image-end = c .image-end; kept = carried-kept w h mv (w .image) _ c rest (t .kept) })
 
 -- ---- a connection that was made or lost, as a call
 record MadeCall (w : Kept) (a : Answered) : Type 0 where
@@ -193,6 +214,7 @@ made-call w h l mover =
     let s = w .session in
     let mv = madeAt mover (s .source) (s .mover) (s .tape) in
     let c = announced-carries w l mv (w .image) in
+    let rest = announced-left w l mv (w .image) (made-open (s .source) (s .mover) (s .tape) mover) in
     let t = made-turn (s .source) (s .mover) (s .tape) (parts-kept s h) mover in
     let e = shown-same (s .source) (s .mover) (s .tape) (parts-kept s h) in
     by-guard (MadeCall w) s (l .room) _ _ (λ _. record { register = rw e refl; fits = rw e tt; image-end = refl; kept = h })
@@ -200,7 +222,7 @@ made-call w h l mover =
       register = rw (c .source, c .mover) (t .register);
       fits = rw (c .mover) (t .fits);
       image-end = c .image-end;
-      kept = carried-kept mv (w .image) _ c (t .kept);
+      kept = carried-kept w h mv (w .image) _ c rest (t .kept);
     })
 
 lost-call : (w : Kept) → keeps (w .session) ≡ true → (l : Lent) (mover : Bool) → EndCall w (connectionLost w l mover)
@@ -209,14 +231,82 @@ lost-call w h l mover =
     let s = w .session in
     let mv = lostAt mover (s .source) (s .mover) (s .tape) in
     let c = announced-carries w l mv (w .image) in
+    let rest = announced-left w l mv (w .image) (lost-open (s .source) (s .mover) (s .tape) mover) in
     let t = lost-turn (s .source) (s .mover) (s .tape) (parts-kept s h) mover in
     by-guard (EndCall w) s (l .room) _ _ (λ _. record { register = refl; image-end = refl; kept = h })
-    (λ _. record { register = rw (c .source, c .mover) (t .register); image-end = c .image-end; kept = carried-kept mv (w .image) _ c (t .kept) })
+    (λ _. record { register = rw (c .source, c .mover) (t .register); image-end = c .image-end; kept = carried-kept w h mv (w .image) _ c rest (t .kept) })
 
 -- ---- the number of the next message set: the relation does not look at it
 renumbered-kept : (n : ℕ) (s : Session) → keeps s ≡ true → keeps (renumbered n s) ≡ true
 unfolding keeps
 renumbered-kept n s h = h
+
+-- ---- the slot list set, to one that may be
+may-lend : (o x : Bool) → (o ≡ true → x ≡ true) → choose o x true ≡ true
+unfolding choose
+may-lend true x f = f refl
+may-lend false x f = refl
+
+may-be : (slots : List ℕ) (s : Session) → namesNoneTwice slots ≡ true
+    → (s .tape .opened ≡ true → inDrive slots ≡ inDrive (s .changer .slots)) → mayLend slots s ≡ true
+unfolding mayLend
+may-be slots s n d = sym (pick-else _ (yes-not n) (sym (may-lend (s .tape .opened) _ (λ o. eq-eqb _ _ (d o)))))
+
+list-set : (slots : List ℕ) (s : Session) → namesNoneTwice slots ≡ true
+    → (s .tape .opened ≡ true → inDrive slots ≡ inDrive (s .changer .slots)) → listFor slots s ≡ slots
+unfolding listFor
+list-set slots s n d = sym (pick-if _ (may-be slots s n d) refl)
+
+list-twice : (slots : List ℕ) (s : Session) → namesNoneTwice slots ≡ false → listFor slots s ≡ s .changer .slots
+unfolding listFor mayLend
+list-twice slots s n = sym (pick-else _ (sym (pick-if _ (ap not n) refl)) refl)
+
+not-drive : (b o x : Bool) → o ≡ true → x ≡ false → choose (not b) false (choose o x true) ≡ false
+unfolding choose
+not-drive true true x o h = h
+not-drive true false x o h = clash false refl o
+not-drive false o x e h = refl
+
+list-drive : (slots : List ℕ) (s : Session) → s .tape .opened ≡ true → (inDrive slots ≡ inDrive (s .changer .slots) → ⊥) → listFor slots s ≡ s .changer .slots
+unfolding listFor mayLend
+list-drive slots s o d = sym (pick-else _ (not-drive (namesNoneTwice slots) (s .tape .opened) _ o (ne-eqb _ _ d)) refl)
+
+may-names : (b x : Bool) → choose (not b) false x ≡ true → b ≡ true
+unfolding choose
+may-names true x h = refl
+may-names false x h = clash false refl h
+
+may-drive : (b o x : Bool) → choose (not b) false (choose o x true) ≡ true → o ≡ true → x ≡ true
+unfolding choose
+may-drive true true x h e = h
+may-drive true false x h e = clash false refl e
+may-drive false o x h e = clash false refl h
+
+-- what holds of the list as it was, and of one that may be set, holds afterwards
+pub by-list : (P : List ℕ → Type 0) (slots : List ℕ) (s : Session) → P (s .changer .slots)
+    → (namesNoneTwice slots ≡ true → (s .tape .opened ≡ true → inDrive slots ≡ inDrive (s .changer .slots)) → P slots) → P (listFor slots s)
+unfolding listFor mayLend
+by-list P slots s stays lent =
+    by-test P (mayLend slots s) slots (s .changer .slots)
+    (λ h. lent (may-names (namesNoneTwice slots) _ h) (λ o. eqb-true _ _ (may-drive (namesNoneTwice slots) (s .tape .opened) _ h o))) (λ _. stays)
+
+drive-lent : (slots : List ℕ) (s : Session) → driveWrong (inDrive (s .changer .slots)) (s .tape) ≡ false → driveWrong (inDrive (listFor slots s)) (s .tape) ≡ false
+unfolding driveWrong
+drive-lent slots s h =
+    by-list (λ (l : List ℕ). driveWrong (inDrive l) (s .tape) ≡ false) slots s h
+    (λ _ same. if-so (s .tape .opened) (λ o. rw (same o) (when (s .tape .opened) _ h o)))
+
+lent-kept : (slots : List ℕ) (s : Session) → keeps s ≡ true → keeps (withList slots s) ≡ true
+lent-kept slots s h =
+    let f = kept-facts s h in
+    facts-kept (withList slots s)
+    (record {
+      source = f .source;
+      mover = f .mover;
+      drive = drive-lent slots s (f .drive);
+      names = by-list (λ (l : List ℕ). namesNoneTwice l ≡ true) slots s (f .names) (λ n _. n);
+      joined = f .joined;
+    })
 
 -- ---- any call
 pub record Stepped (w : Kept) (e : Event) : Type 0 where
@@ -261,6 +351,29 @@ stepped w h (Renumbered n) =
       register = refl;
       leaves = record { number = refl; closed = refl; first = refl; login = refl; source = refl; mover = refl; tape = refl; changer = refl; image = refl; variables = refl };
       kept = renumbered-kept n (w .session) h;
+      sound = λ k _. k;
+    }
+stepped w h (SlotsLent slots) =
+    record {
+      fits = tt;
+      register = refl;
+      leaves = record {
+        set = list-set slots (w .session);
+        twice = list-twice slots (w .session);
+        drive = list-drive slots (w .session);
+        closed = refl;
+        first = refl;
+        login = refl;
+        number = refl;
+        source = refl;
+        mover = refl;
+        tape = refl;
+        opened = refl;
+        pending = (refl, refl, refl);
+        image = refl;
+        variables = refl;
+      };
+      kept = lent-kept slots (w .session) h;
       sound = λ k _. k;
     }
 

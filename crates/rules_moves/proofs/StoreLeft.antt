@@ -6,17 +6,18 @@ use Rattle.rules.specs.Answer.{Kept, Lent}
 use Rattle.rules.proofs.Calls.{noticed-holds}
 use Rattle.rules_moves.specs.declared.Move.{Move}
 use Rattle.rules_moves.specs.Events.{announced}
-use Rattle.rules_moves.specs.Sequence.{Event, Asked, ToTape, FromTape, Ended, Made, Lost, Inserted, Renumbered, StoreLent, step}
+use Rattle.rules_moves.specs.Sequence.{Event, Asked, ToTape, FromTape, Ended, Made, Lost, Inserted, Renumbered, StoreLent, SlotsLent, step}
 use Rattle.rules_moves.specs.StoreLeft.{IsUnlent, StoreLeft}
+use Rattle.rules_moves.proofs.Opened.{SameOpen}
 use Rattle.rules_moves.proofs.Unasked.{to-tape-holds, from-tape-holds, ended-holds, made-holds, lost-holds}
 
 module _ (k : Kept) where
   Left : Kept → Type 0
   Left n = n .variables ≡ k .variables
 
-  announced-left : (l : Lent) (mv : Move) (image : List ℕ) → Left (announced k l mv image .next)
+  announced-left : (l : Lent) (mv : Move) (image : List ℕ) → SameOpen (k .session .tape) mv → Left (announced k l mv image .next)
   unfolding Left
-  announced-left l mv image =
+  announced-left l mv image _ =
       let told = noticed-holds Left (λ x _ h. h) (λ x h. h) (l .time) in
       told _ _ _ (told _ _ _ (told _ _ _ refl))
 
@@ -31,6 +32,7 @@ module _ (k : Kept) where
   left (Inserted image) o = refl
   left (Renumbered n) o = refl
   left (StoreLent variables) o = absurd o
+  left (SlotsLent slots) o = refl
 
 pub store-left : StoreLeft
 unfolding Left

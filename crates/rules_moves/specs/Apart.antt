@@ -12,7 +12,7 @@ use Rattle.wire_requests.specs.declared.Request.the-variants as Request
 use Rattle.rules.specs.Relation.{keeps}
 use Rattle.rules.specs.Answer.{Kept, requestIn}
 use Rattle.rules_moves.specs.FirstSize.{afterOpen}
-use Rattle.rules_moves.specs.Sequence.{Event, Asked, ToTape, FromTape, Ended, Made, Lost, Inserted, Renumbered, StoreLent, step, runs}
+use Rattle.rules_moves.specs.Sequence.{Event, Asked, ToTape, FromTape, Ended, Made, Lost, Inserted, Renumbered, StoreLent, SlotsLent, step, runs}
 
 -- ---- whose a call is
 unfoldable pub jointOfMover : JointRequest → Bool
@@ -56,6 +56,7 @@ OfMover (Ended l ok) = ⊥
 OfMover (Inserted image) = ⊥
 OfMover (Renumbered n) = ⊥
 OfMover (StoreLent variables) = ⊥
+OfMover (SlotsLent slots) = ⊥
 
 abbrev pub OfSource : Event → Type 0
 OfSource (Asked c) = SourceAsks (requestIn (c .ask .request))
@@ -67,6 +68,7 @@ OfSource (FromTape l dest) = ⊥
 OfSource (Inserted image) = ⊥
 OfSource (Renumbered n) = ⊥
 OfSource (StoreLent variables) = ⊥
+OfSource (SlotsLent slots) = ⊥
 
 -- ---- calls of one end, each while that end is by TCP
 abbrev pub MoverAlong : Kept → List Event → Type 0
@@ -94,5 +96,5 @@ pub record TcpApart : Type 0 where
   -- "a data end so joined has no moves, its processed count stays 0": of any session it stays what it was, and from `open` on it is 0, after any calls
   pub uncounted : (w : Kept) → keeps (w .session) ≡ true → (es : List Event) → StaysTcp w es
       → runs w es .session .source .processed ≡ w .session .source .processed
-  pub zero : (time room : ℕ) (image variables : List ℕ) (es : List Event) → afterOpen time room image variables es .session .source .address ≡ tcpAddress
-      → afterOpen time room image variables es .session .source .processed ≡ 0
+  pub zero : (slots : List ℕ) (time room : ℕ) (image variables : List ℕ) (es : List Event) → afterOpen slots time room image variables es .session .source .address ≡ tcpAddress
+      → afterOpen slots time room image variables es .session .source .processed ≡ 0

@@ -146,9 +146,13 @@ keptAfter w [] = w .kept
 keptAfter w (l ∷ ls) = keptAfter (runLine w l .world) ls
 
 -- ---- where a case begins
+-- the slot list that it begins with: one cartridge, in the drive
+abbrev pub oneCartridge : List ℕ
+oneCartridge = 1 ∷ 0 ∷ 0 ∷ 0 ∷ 0 ∷ 0 ∷ 0 ∷ 0 ∷ 0 ∷ []
+
 -- a new session, of which nothing was asked
 abbrev pub freshSession : Session
-freshSession = opening (lending .time) (lending .room) .next .session
+freshSession = opening oneCartridge (lending .time) (lending .room) .next .session
 
 -- "The vault numbers what it sends from 1": connection status, and the replies to CONNECT open, 0x103 and auth
 abbrev pub nextNumber : ℕ
@@ -166,7 +170,7 @@ knownSession =
       source = record { state = 0; operation = 0; reason = 0; address = 0; processed = 0 };
       mover = record { state = 0; mode = 2; pause = 0; halt = 0; size = 10240; address = 0; offset = 0; length = 0; moved = 0; seek = 0; left = 0; origin = 0 };
       tape = record { opened = false; writable = false; position = 0 };
-      changer = record { opened = false; key = 0; code = 0; qualifier = 0 };
+      changer = record { opened = false; key = 0; code = 0; qualifier = 0; slots = oneCartridge };
     }
 
 -- a session, and what is handed in with it: a cartridge, a store and a stream

@@ -13,7 +13,7 @@ use Rattle.rules_parts.specs.Parts.{wrapped}
 use Rattle.rules.specs.MoverService.{recordNumber}
 use Rattle.rules.specs.Relation.{keeps}
 use Rattle.rules.specs.Answer.{Kept}
-use Rattle.rules_moves.specs.Sequence.{Event, Asked, ToTape, FromTape, Ended, Made, Lost, Inserted, Renumbered, StoreLent, step, runs}
+use Rattle.rules_moves.specs.Sequence.{Event, Asked, ToTape, FromTape, Ended, Made, Lost, Inserted, Renumbered, StoreLent, SlotsLent, step, runs}
 use Rattle.rules_moves.specs.Sequence.{Seen, Sized, Windowed, Sought, MoverStopped, DataStopped, Listened, Joined, Began, Paused, Wrote, Handed, Nothing, Register, registerOf, after, seen, countOf}
 
 -- what is seen of a list of calls, and the register that is replayed from it
@@ -68,6 +68,7 @@ IsMove (Lost l mover) = Unit {0}
 IsMove (Inserted image) = Unit {0}
 IsMove (Renumbered n) = Unit {0}
 IsMove (StoreLent variables) = Unit {0}
+IsMove (SlotsLent slots) = Unit {0}
 
 abbrev pub IsToTape : Event → Type 0
 IsToTape (ToTape l stream last) = Unit {0}
@@ -79,6 +80,7 @@ IsToTape (Lost l mover) = Unit {0}
 IsToTape (Inserted image) = Unit {0}
 IsToTape (Renumbered n) = Unit {0}
 IsToTape (StoreLent variables) = Unit {0}
+IsToTape (SlotsLent slots) = Unit {0}
 
 -- of n bytes moved, those that the data end has processed: none by a mover joined by TCP
 unfoldable pub fedOf : ℕ → ℕ → ℕ

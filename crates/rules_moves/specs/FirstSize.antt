@@ -26,8 +26,8 @@ use Rattle.rules_moves.specs.Sequence.{Event, runs}
 
 -- ---- from a fresh session
 -- what is passed on after `open`, whatever it is lent, and any calls, with any image and store handed in first
-abbrev pub afterOpen : ℕ → ℕ → List ℕ → List ℕ → List Event → Kept
-afterOpen time room image variables es = runs (held (opening time room .next .session) image variables) es
+abbrev pub afterOpen : List ℕ → ℕ → ℕ → List ℕ → List ℕ → List Event → Kept
+afterOpen slots time room image variables es = runs (held (opening slots time room .next .session) image variables) es
 
 -- mover listen, continue, set window and mover connect: the requests of which a reply can have the number 26
 abbrev pub askingWindow : List ℕ
@@ -82,14 +82,14 @@ pub record HandedIn : Type 0 where
       → requestIn r ≡ Request.Joint (JointRequest.MoverConnect mode address count) → MayJoin (k .session) mode → Gets26 k l r
 
 pub record FirstSize : Type 0 where
-  pub first : (time room : ℕ) → opening time room .next .session .mover .size ≡ 10240
+  pub first : (slots : List ℕ) (time room : ℕ) → opening slots time room .next .session .mover .size ≡ 10240
   -- after any calls the record size is one that set record size accepts
-  pub some : (time room : ℕ) (image variables : List ℕ) (es : List Event) → 1 ≤ afterOpen time room image variables es .session .mover .size
-  pub most : (time room : ℕ) (image variables : List ℕ) (es : List Event) → afterOpen time room image variables es .session .mover .size ≤ largestSize
+  pub some : (slots : List ℕ) (time room : ℕ) (image variables : List ℕ) (es : List Event) → 1 ≤ afterOpen slots time room image variables es .session .mover .size
+  pub most : (slots : List ℕ) (time room : ℕ) (image variables : List ℕ) (es : List Event) → afterOpen slots time room image variables es .session .mover .size ≤ largestSize
   -- and where a reply to one of those requests has the number 26, there is another cause
-  pub causes : (time room : ℕ) (image variables : List ℕ) (es : List Event) (l : Lent) (r : List ℕ) → isOneOf askingWindow (messageWord r) ≡ true
-      → let k = afterOpen time room image variables es in errorTold (answered k l r) ≡ precondition → Cause (k .session .mover) (requestIn r)
+  pub causes : (slots : List ℕ) (time room : ℕ) (image variables : List ℕ) (es : List Event) (l : Lent) (r : List ℕ) → isOneOf askingWindow (messageWord r) ≡ true
+      → let k = afterOpen slots time room image variables es in errorTold (answered k l r) ≡ precondition → Cause (k .session .mover) (requestIn r)
   -- so that no set window has it
-  pub windows : (time room : ℕ) (image variables : List ℕ) (es : List Event) (l : Lent) (r : List ℕ) → messageWord r ≡ 0xA05
-      → errorTold (answered (afterOpen time room image variables es) l r) ≡ precondition → ⊥
+  pub windows : (slots : List ℕ) (time room : ℕ) (image variables : List ℕ) (es : List Event) (l : Lent) (r : List ℕ) → messageWord r ≡ 0xA05
+      → errorTold (answered (afterOpen slots time room image variables es) l r) ≡ precondition → ⊥
   pub handed-in : HandedIn

@@ -13,7 +13,7 @@ use Rattle.rules.specs.Relation.{keeps}
 use Rattle.rules.specs.Answer.{Kept, Lent}
 use Rattle.rules.specs.Calls.{Unmoved}
 use Rattle.rules_moves.specs.Events.{Moving, movedToTape, movedFromTape, methodEnded, connectionMade, connectionLost}
-use Rattle.rules_moves.specs.Sequence.{Event, Asked, ToTape, FromTape, Ended, Made, Lost, Inserted, Renumbered, StoreLent, runs}
+use Rattle.rules_moves.specs.Sequence.{Event, Asked, ToTape, FromTape, Ended, Made, Lost, Inserted, Renumbered, StoreLent, SlotsLent, runs}
 
 -- nothing is sent or moved, and session, image, store and destination are as they were
 pub record Idle (k : Kept) (dest : List ℕ) (e : Moving) : Type 0 where
@@ -42,6 +42,7 @@ Sounds (Made l mover) = Unit {0}
 Sounds (Lost l mover) = Unit {0}
 Sounds (Renumbered n) = Unit {0}
 Sounds (StoreLent variables) = Unit {0}
+Sounds (SlotsLent slots) = Unit {0}
 
 pub record MovesKeep : Type 0 where
   pub to-tape : (k : Kept) (l : Lent) (stream : List ℕ) (last : Bool)

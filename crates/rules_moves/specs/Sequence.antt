@@ -1,5 +1,5 @@
 -- What holds over any sequence of calls (demand 2): requests, moves, the method's end, connections made and lost, in any order, with any image and any store handed to any of them,
--- and the number of the next message set to any between them.
+-- and the number of the next message set to any between them, and the slot list to one that a host may set.
 -- What is seen of each call is a value; a register, which is replayed from what was seen and from nothing else, says which window is in
 -- force, what the counts are and what is read next from where; and each thing seen must fit the register.
 use Prim.Native.Nat.{ℕ, _+_, _-_, _/_, _%_, _≤_, _<_}
@@ -27,7 +27,8 @@ use Rattle.rules_parts.specs.declared.types.Mover.{Mover}
 use Rattle.rules_parts.specs.declared.types.Session.{Session}
 use Rattle.rules_parts.specs.Names.{moverActive, moverPaused}
 use Rattle.rules.specs.Judge.{isAccepted}
-use Rattle.rules_parts.specs.Parts.{wrapped, windowEnd}
+use Rattle.rules_parts.specs.Parts.{changerHolds, withParts, wrapped, windowEnd}
+use Rattle.changer_elements.specs.Slots.{namesNoneTwice, inDrive}
 use Rattle.rules.specs.Relation.{keeps, Legal}
 use Rattle.rules.specs.Answer.{Kept, Lent, held, guarded, roomOf, verdict, answered, requestIn}
 use Rattle.rules.specs.Order.{Call}
@@ -45,14 +46,29 @@ pub data Event : Type 0 where
   Lost : Lent → Bool → Event
   -- another image is handed to the calls that follow
   Inserted : List ℕ → Event
-  -- the host sets the number of the next message, the one thing of a session that is its own to set (include/mossgoblin.h)
+  -- the host sets the number of the next message, which is its own to set (include/mossgoblin.h)
   Renumbered : ℕ → Event
   -- another store is lent to the requests that follow
   StoreLent : List ℕ → Event
+  -- the host sets the slot list, to what a call of another session left: "The slot list is one record, used by one session at a time"
+  SlotsLent : List ℕ → Event
 
 abbrev pub renumbered : ℕ → Session → Session
 renumbered n s =
     record { closed = s .closed; first = s .first; login = s .login; sequence = n; source = s .source; mover = s .mover; tape = s .tape; changer = s .changer }
+
+-- a list that a host may set: it names none twice, and while the tape is open the drive has the same cartridge. It sets no other (include/mossgoblin.h)
+unfoldable pub mayLend : List ℕ → Session → Bool
+mayLend slots s =
+    choose (not (namesNoneTwice slots)) false
+    (choose (s .tape .opened) (eqb (inDrive slots) (inDrive (s .changer .slots)))
+    true)
+
+unfoldable pub listFor : List ℕ → Session → List ℕ
+listFor slots s = choose (mayLend slots s) slots (s .changer .slots)
+
+abbrev pub withList : List ℕ → Session → Session
+withList slots s = withParts s (s .login) (s .source) (s .mover) (s .tape) (changerHolds (listFor slots s) (s .changer))
 
 unfoldable pub step : Event → Kept → Kept
 step (Asked c) w = answered w (c .lent) (c .ask .request) .next
@@ -64,6 +80,7 @@ step (Lost l mover) w = connectionLost w l mover .next
 step (Inserted image) w = held (w .session) image (w .variables)
 step (Renumbered n) w = held (renumbered n (w .session)) (w .image) (w .variables)
 step (StoreLent variables) w = held (w .session) (w .image) variables
+step (SlotsLent slots) w = held (withList slots (w .session)) (w .image) (w .variables)
 
 unfoldable pub runs : Kept → List Event → Kept
 runs w [] = w
@@ -160,6 +177,7 @@ seen (Lost l mover) w = Nothing
 seen (Inserted image) w = Nothing
 seen (Renumbered n) w = Nothing
 seen (StoreLent variables) w = Nothing
+seen (SlotsLent slots) w = Nothing
 
 -- ---- the register: the record size, the window in force (of length 0 there is none), bytes moved and processed; the seek position and the
 -- bytes left to read; the origin, the tape position that stands for the window's offset; and the type of the mover's address
@@ -358,6 +376,26 @@ pub record RenumberedLeaves (n : ℕ) (w v : Kept) : Type 0 where
   pub image : v .image ≡ w .image
   pub variables : v .variables ≡ w .variables
 
+-- the slot list is that one, where it may be set, and all else is as it was
+pub record LentLeaves (slots : List ℕ) (w v : Kept) : Type 0 where
+  pub set : namesNoneTwice slots ≡ true → (w .session .tape .opened ≡ true → inDrive slots ≡ inDrive (w .session .changer .slots))
+      → v .session .changer .slots ≡ slots
+  pub twice : namesNoneTwice slots ≡ false → v .session .changer .slots ≡ w .session .changer .slots
+  pub drive : w .session .tape .opened ≡ true → (inDrive slots ≡ inDrive (w .session .changer .slots) → ⊥)
+      → v .session .changer .slots ≡ w .session .changer .slots
+  pub closed : v .session .closed ≡ w .session .closed
+  pub first : v .session .first ≡ w .session .first
+  pub login : v .session .login ≡ w .session .login
+  pub number : v .session .sequence ≡ w .session .sequence
+  pub source : v .session .source ≡ w .session .source
+  pub mover : v .session .mover ≡ w .session .mover
+  pub tape : v .session .tape ≡ w .session .tape
+  pub opened : v .session .changer .opened ≡ w .session .changer .opened
+  pub pending : (v .session .changer .key ≡ w .session .changer .key) × (v .session .changer .code ≡ w .session .changer .code)
+      × (v .session .changer .qualifier ≡ w .session .changer .qualifier)
+  pub image : v .image ≡ w .image
+  pub variables : v .variables ≡ w .variables
+
 abbrev pub Leaves : Register → Kept → Event → Type 0
 Leaves r w (ToTape l stream last) = ToTapeLeaves w stream (movedToTape w l stream last)
 Leaves r w (FromTape l dest) = FromTapeLeaves r w dest (movedFromTape w l dest)
@@ -368,6 +406,7 @@ Leaves r w (Asked c) = Unit {0}
 Leaves r w (Inserted image) = Unit {0}
 Leaves r w (Renumbered n) = RenumberedLeaves n w (step (Renumbered n) w)
 Leaves r w (StoreLent variables) = Unit {0}
+Leaves r w (SlotsLent slots) = LentLeaves slots w (step (SlotsLent slots) w)
 
 -- ---- the theorem: at every call of the list the register is the session's, its window is legitimate, and what is seen fits it and is all
 -- that the call did

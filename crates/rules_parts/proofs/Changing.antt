@@ -1,6 +1,7 @@
 -- A part whose one computed field is known is the changed part: one step, where a search over all fields takes seconds.
 use Prim.Native.Nat.{ℕ}
 use mathlib.Core.Bool.{Bool, true}
+use mathlib.Core.List.{List}
 use mathlib.Core.Path.{_≡_, ap, _∙_}
 use Rattle.rules_parts.specs.declared.types.Data.{Data}
 use Rattle.rules_parts.specs.declared.types.Mover.{Mover}
@@ -19,13 +20,14 @@ pub session-numbered : (closed first : Bool) (g : Login) (d : Data) (m : Mover) 
     → numbered closed first g d m t c n ≡ numbered closed first g d m t c k
 session-numbered closed first g d m t c n k e = ap (numbered closed first g d m t c) e
 
-abbrev begun : Bool → ℕ → Data → Mover → Session
-begun closed sequence d m =
-    record { closed = closed; first = true; login = noLogin; sequence = sequence; source = d; mover = m; tape = closedTape; changer = closedChanger }
+abbrev begun : Bool → ℕ → List ℕ → Data → Mover → Session
+begun closed sequence slots d m =
+    record { closed = closed; first = true; login = noLogin; sequence = sequence; source = d; mover = m; tape = closedTape; changer = closedChanger slots }
 
-pub session-begun : (closed : Bool) (sequence : ℕ) (d : Data) (m : Mover) → d ≡ restData → m ≡ restMover firstSize
-    → begun closed sequence d m ≡ newSession closed sequence
-session-begun closed sequence d m ed em = ap (λ (k : Data). begun closed sequence k m) ed ∙ ap (begun closed sequence restData) em
+pub session-begun : (closed : Bool) (sequence : ℕ) (slots : List ℕ) (d : Data) (m : Mover) → d ≡ restData → m ≡ restMover firstSize
+    → begun closed sequence slots d m ≡ newSession closed sequence slots
+session-begun closed sequence slots d m ed em =
+    ap (λ (k : Data). begun closed sequence slots k m) ed ∙ ap (begun closed sequence slots restData) em
 
 abbrev moving : ℕ → ℕ → ℕ → ℕ → ℕ → ℕ → ℕ → ℕ → ℕ → ℕ → ℕ → ℕ → Mover
 moving state mode pause halt size address offset length seek left origin moved =

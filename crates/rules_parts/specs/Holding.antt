@@ -6,9 +6,10 @@ use mathlib.Core.Path.{_≡_}
 use Rattle.codes.specs.Codes.{localAddress, tcpAddress}
 use Rattle.rules_parts.specs.declared.types.Data.{Data}
 use Rattle.rules_parts.specs.declared.types.Mover.{Mover}
+use Rattle.rules_parts.specs.declared.types.Changer.{Changer}
 use Rattle.rules_parts.specs.declared.types.Login.{Login}
 use Rattle.rules_parts.specs.Names.{top, endless}
-use Rattle.rules_parts.specs.Parts.{newSession, loggedIn, challengedBy, restData, dataTo, dataStarts, dataHalts, dataFed, restMover, moverListens, moverRuns, moverPauses, moverHalts, moverWindow}
+use Rattle.rules_parts.specs.Parts.{newSession, clearChanger, changerRefused, changerHolds, loggedIn, challengedBy, restData, dataTo, dataStarts, dataHalts, dataFed, restMover, moverListens, moverRuns, moverPauses, moverHalts, moverWindow}
 use Rattle.rules_parts.specs.Parts.{moverSize, moverSeeks, moverRecords, moverHands, windowEnd, lengthWrong, dataJoined, moverJoined, dataPartnered, moverPartnered, addressWrong}
 
 -- what has a type of address, and what keeps it
@@ -30,6 +31,16 @@ pub record MoverTypes : Type 0 where
   pub seeks : (seek left : ℕ) (m : Mover) → moverSeeks seek left m .address ≡ m .address
   pub records : (m : Mover) → moverRecords m .address ≡ m .address
   pub hands : (n : ℕ) (m : Mover) → moverHands n m .address ≡ m .address
+
+-- 02 No. 7: what keeps the slot list, and what changes nothing else: "Both keep the pending sense when they succeed"
+pub record ChangerKeeps : Type 0 where
+  pub begun : (closed : Bool) (n : ℕ) (slots : List ℕ) → newSession closed n slots .changer .slots ≡ slots
+  pub cleared : (opened : Bool) (c : Changer) → clearChanger opened c .slots ≡ c .slots
+  pub refused : (key code qualifier : ℕ) (c : Changer) → changerRefused key code qualifier c .slots ≡ c .slots
+  pub held : (slots : List ℕ) (c : Changer) → changerHolds slots c .slots ≡ slots
+  pub pending : (slots : List ℕ) (c : Changer) →
+      (changerHolds slots c .key ≡ c .key) × (changerHolds slots c .code ≡ c .code) × (changerHolds slots c .qualifier ≡ c .qualifier)
+  pub opened : (slots : List ℕ) (c : Changer) → changerHolds slots c .opened ≡ c .opened
 
 pub record PartsHold : Type 0 where
   -- "A pause voids the window."
@@ -59,9 +70,10 @@ pub record PartsHold : Type 0 where
   pub ends : (offset : ℕ) → windowEnd offset endless ≡ top
   pub others : (offset length : ℕ) → (length ≡ endless → ⊥) → windowEnd offset length ≡ offset + length
   -- 02 No. 2: "4 if no challenge was given": a new session is nobody's, and holds none; a login keeps the challenge, and a challenge the login
-  pub begun : (closed : Bool) (n : ℕ) → (newSession closed n .login .authorized ≡ false) × (newSession closed n .login .challenged ≡ false)
+  pub begun : (closed : Bool) (n : ℕ) (slots : List ℕ) → (newSession closed n slots .login .authorized ≡ false) × (newSession closed n slots .login .challenged ≡ false)
   pub entered : (g : Login) → (loggedIn g .authorized ≡ true) × (loggedIn g .challenged ≡ g .challenged) × (loggedIn g .challenge ≡ g .challenge)
   pub given : (c : List ℕ) (g : Login)
       → (challengedBy c g .authorized ≡ g .authorized) × (challengedBy c g .challenged ≡ true) × (challengedBy c g .challenge ≡ c)
+  pub changer : ChangerKeeps
   -- "9 no longer tests this length or its sum"
   pub untested : (size offset : ℕ) → offset ≤ top → lengthWrong size offset endless ≡ false

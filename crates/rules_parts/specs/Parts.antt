@@ -26,21 +26,18 @@ restMover size =
 abbrev pub closedTape : Tape
 closedTape = record { opened = false; writable = false; position = 0 }
 
--- a changer with no sense pending
-abbrev pub clearChanger : Bool → Changer
-clearChanger opened = record { opened = opened; key = 0; code = 0; qualifier = 0 }
-
-abbrev pub closedChanger : Changer
-closedChanger = clearChanger false
+-- the changer before it was ever opened, with a slot list
+abbrev pub closedChanger : List ℕ → Changer
+closedChanger slots = record { opened = false; key = 0; code = 0; qualifier = 0; slots = slots }
 
 -- nobody has logged in, and no challenge was given
 abbrev pub noLogin : Login
 noLogin = record { authorized = false; challenged = false; challenge = replicate challengeLength 0 }
 
--- a session with nothing in it yet but the first record size
-abbrev pub newSession : Bool → ℕ → Session
-newSession closed sequence =
-    record { closed = closed; first = true; login = noLogin; sequence = sequence; source = restData; mover = restMover firstSize; tape = closedTape; changer = closedChanger }
+-- a session with nothing in it yet but the first record size and the slot list
+abbrev pub newSession : Bool → ℕ → List ℕ → Session
+newSession closed sequence slots =
+    record { closed = closed; first = true; login = noLogin; sequence = sequence; source = restData; mover = restMover firstSize; tape = closedTape; changer = closedChanger slots }
 
 -- ---- changes of the session: other parts; and a message more. "after 4,294,967,295 comes 0"
 abbrev pub withParts : Session → Login → Data → Mover → Tape → Changer → Session
@@ -64,9 +61,17 @@ abbrev pub challengedBy : List ℕ → Login → Login
 challengedBy challenge g = record { authorized = g .authorized; challenged = true; challenge = challenge }
 
 -- ---- changes of the changer
+-- no sense is pending, open or closed
+abbrev pub clearChanger : Bool → Changer → Changer
+clearChanger opened c = record { opened = opened; key = 0; code = 0; qualifier = 0; slots = c .slots }
+
 -- a sense becomes pending
 abbrev pub changerRefused : ℕ → ℕ → ℕ → Changer → Changer
-changerRefused key code qualifier c = record { opened = c .opened; key = key; code = code; qualifier = qualifier }
+changerRefused key code qualifier c = record { opened = c .opened; key = key; code = code; qualifier = qualifier; slots = c .slots }
+
+-- 02 No. 7: a move gives the next slot list, and keeps the pending sense
+abbrev pub changerHolds : List ℕ → Changer → Changer
+changerHolds slots c = record { opened = c .opened; key = c .key; code = c .code; qualifier = c .qualifier; slots = slots }
 
 -- ---- changes of the data end
 -- it listens or is joined, by an address of a type

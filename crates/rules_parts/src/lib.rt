@@ -2,7 +2,7 @@
 // that takes the part and hands back the next. Below the definitions of requests, so that an edit of those does not prove this code again.
 ghost use mathlib.Core.Path.{_≡_};
 ghost use Prim.Native.Nat.{_+_, _≤_};
-ghost use Rattle.rules_parts.specs.Parts.{clearChanger, changerRefused, loggedIn, challengedBy, restData, dataTo, dataStarts, dataHalts, restMover, moverListens, moverRuns, moverPauses, moverHalts, moverWindow, moverSize, moverSeeks, dataFed, moverRecords, moverHands, newSession, withParts, afterMessage, shut, windowEnd, pastTop, lengthWrong, toldIn, dataJoined, moverJoined, dataPartnered, moverPartnered, addressWrong, holdsTape, unwritable};
+ghost use Rattle.rules_parts.specs.Parts.{clearChanger, changerRefused, changerHolds, loggedIn, challengedBy, restData, dataTo, dataStarts, dataHalts, restMover, moverListens, moverRuns, moverPauses, moverHalts, moverWindow, moverSize, moverSeeks, dataFed, moverRecords, moverHands, newSession, withParts, afterMessage, shut, windowEnd, pastTop, lengthWrong, toldIn, dataJoined, moverJoined, dataPartnered, moverPartnered, addressWrong, holdsTape, unwritable};
 ghost use Rattle.rules_parts.specs.Names.{NamesAre, top};
 ghost use Rattle.rules_parts.specs.Holding.{PartsHold};
 
@@ -503,14 +503,16 @@ impl Login {
 
 impl Changer {
     // With no sense pending, open or closed.
-    pub fn cleared(opened: bool) -> Changer
-        ensures { λ r. ⌜ r ≡ clearChanger opened ⌝ }
+    pub fn cleared(self, opened: bool) -> Changer
+        ensures { λ r. ⌜ r ≡ clearChanger opened self ⌝ }
     {
+        let slots = self.slots;
         Changer {
             opened,
             key: 0,
             code: 0,
             qualifier: 0,
+            slots,
         }
     }
 
@@ -518,19 +520,34 @@ impl Changer {
     pub fn refused(self, key: u8, code: u8, qualifier: u8) -> Changer
         ensures { λ r. ⌜ r ≡ changerRefused key code qualifier self ⌝ }
     {
+        let slots = self.slots;
         Changer {
             opened: self.opened,
             key,
             code,
             qualifier,
+            slots,
+        }
+    }
+
+    // With another slot list.
+    pub fn holds(self, slots: [u32; 9]) -> Changer
+        ensures { λ r. ⌜ r ≡ changerHolds slots self ⌝ }
+    {
+        Changer {
+            opened: self.opened,
+            key: self.key,
+            code: self.code,
+            qualifier: self.qualifier,
+            slots,
         }
     }
 }
 
 impl Session {
-    // A session with nothing in it yet but the first record size.
-    pub fn begins(closed: bool, sequence: u32) -> Session
-        ensures { λ r. ⌜ r ≡ newSession closed sequence ⌝ }
+    // A session with nothing in it yet but the first record size and the slot list.
+    pub fn begins(closed: bool, sequence: u32, slots: [u32; 9]) -> Session
+        ensures { λ r. ⌜ r ≡ newSession closed sequence slots ⌝ }
     {
         Session {
             closed,
@@ -553,6 +570,7 @@ impl Session {
                 key: 0,
                 code: 0,
                 qualifier: 0,
+                slots,
             },
         }
     }
@@ -561,58 +579,32 @@ impl Session {
     pub fn with_parts(self, g: Login, d: Data, m: Mover, t: Tape, c: Changer) -> Session
         ensures { λ r. ⌜ r ≡ withParts self g d m t c ⌝ }
     {
-        Session {
-            closed: self.closed,
-            first: self.first,
-            login: g,
-            sequence: self.sequence,
-            source: d,
-            mover: m,
-            tape: t,
-            changer: c,
-        }
+        let mut next = self;
+        next.login = g;
+        next.source = d;
+        next.mover = m;
+        next.tape = t;
+        next.changer = c;
+        next
     }
 
     // The session after one message sent, with the first-request mark as told.
     pub fn after_message(self, first: bool) -> Session
         ensures { λ r. ⌜ r ≡ afterMessage self first ⌝ }
     {
-        let g = self.login;
-        let d = self.source;
-        let m = self.mover;
-        let t = self.tape;
-        let c = self.changer;
-        Session {
-            closed: self.closed,
-            first,
-            login: g,
-            sequence: std::num::wrapping_add_u32(self.sequence, 1),
-            source: d,
-            mover: m,
-            tape: t,
-            changer: c,
-        }
+        let mut next = self;
+        next.first = first;
+        next.sequence = std::num::wrapping_add_u32(self.sequence, 1);
+        next
     }
 
     // The session closed.
     pub fn shuts(self) -> Session
         ensures { λ r. ⌜ r ≡ shut self ⌝ }
     {
-        let g = self.login;
-        let d = self.source;
-        let m = self.mover;
-        let t = self.tape;
-        let c = self.changer;
-        Session {
-            closed: true,
-            first: self.first,
-            login: g,
-            sequence: self.sequence,
-            source: d,
-            mover: m,
-            tape: t,
-            changer: c,
-        }
+        let mut next = self;
+        next.closed = true;
+        next
     }
 }
 

@@ -37,13 +37,15 @@ pub struct Tape {
     pub position: usize,
 }
 
-// The changer device. Key, code and qualifier are the pending sense, and are 0 where none is.
+// The changer device. Key, code and qualifier are the pending sense, and are 0 where none is; slots names the cartridge in each place, the
+// drive first, then the slots 16 to 23, and has 0 where none is.
 #[repr(C)]
 pub struct Changer {
     pub opened: bool,
     pub key: u8,
     pub code: u8,
     pub qualifier: u8,
+    pub slots: [u32; 9],
 }
 
 // What the connection knows of its client: whether it has logged in; and the newest challenge that it was given, if one was.

@@ -57,7 +57,7 @@ use Rattle.rules_moves.specs.declared.Found.{Found}
 use Rattle.rules_moves.specs.declared.Found.the-variants as Found
 use Rattle.rules_moves.specs.Moves.{Handing, fedBy, haltsWith, filling, toTape, reading, onFound, seeking, sought, fromTape, methodEnd, atTcp, madeAt, lostAt}
 use Rattle.rules_moves.specs.Events.{Moving, announced, movedToTape, movedFromTape, methodEnded, connectionMade, connectionLost}
-use Rattle.rules_moves.specs.Sequence.{Event, Asked, ToTape, FromTape, Ended, Made, Lost, Inserted, Renumbered, StoreLent, step, runs}
+use Rattle.rules_moves.specs.Sequence.{Event, Asked, ToTape, FromTape, Ended, Made, Lost, Inserted, Renumbered, StoreLent, SlotsLent, step, runs}
 use Rattle.rules_variables.specs.Variables.{Started, Stopped, AsksFor, NoStart, Between, NoData, Quiet, Along, giving, bodyAnswered, after, VariablesHold}
 
 -- ---- a move leaves a data end that has run ACTIVE or HALTED
@@ -224,7 +224,7 @@ module _ (Holds : List ℕ → Type 0) (D : Data → Type 0) where
     outcome-keeps k l r h e Request.Bad o = refusal-says KeepingDone _
     outcome-keeps k l r h e (Request.Connect q) o = off k (withLogin k []) (λ _. h) _
     outcome-keeps k l r h e (Request.Config q) o = off k (withLogin k (l .challenge)) (λ _. h) _
-    outcome-keeps k l r h e (Request.Scsi q) o = off k (withChanger k) (λ _. h) _
+    outcome-keeps k l r h e (Request.Scsi q) o = off k (withChanger k _) (λ _. h) _
     outcome-keeps k l r h e (Request.Tape q) o = off k (withTape k) (λ _. h) _
     outcome-keeps k l r h e (Request.Mover q) o = off k (withPart k (l .addresses)) (λ _. h) _
     outcome-keeps k l r h e (Request.Data q) o = carried KeepingDone (withData k q _ _) _ (ask .own k l r h e q o)
@@ -269,6 +269,7 @@ module _ (Holds : List ℕ → Type 0) (D : Data → Type 0) where
     step-keeps k (Inserted image) h o = h
     step-keeps k (Renumbered n) h o = h
     step-keeps k (StoreLent variables) h o = absurd o
+    step-keeps k (SlotsLent slots) h o = h
 
     runs-keep : (k : Kept) (es : List Event) → Keeping k → Along P k es → Keeping (runs k es)
     unfolding runs
@@ -394,6 +395,7 @@ step-known k (Lost l mover) h =
 step-known k (Inserted image) h = h
 step-known k (Renumbered n) h = h
 step-known k (StoreLent variables) h = h
+step-known k (SlotsLent slots) h = h
 
 runs-known : (k : Kept) (es : List Event) → Known k → Known (runs k es)
 unfolding runs

@@ -20,7 +20,7 @@ use Rattle.rules.specs.Environment.{Starts, Answering}
 use Rattle.rules.specs.Answer.{Kept, verdict, answered, requestIn}
 use Rattle.rules.specs.Order.{Call}
 use Rattle.rules.specs.Calls.{Heard}
-use Rattle.rules_moves.specs.Sequence.{Event, Asked, ToTape, FromTape, Ended, Made, Lost, Inserted, Renumbered, StoreLent, step, runs}
+use Rattle.rules_moves.specs.Sequence.{Event, Asked, ToTape, FromTape, Ended, Made, Lost, Inserted, Renumbered, StoreLent, SlotsLent, step, runs}
 
 -- ---- the calls
 -- a start, backup or recover, that was heard on k and accepted, and its pairs: those that were sent, by `RequestsBack`
@@ -82,6 +82,7 @@ Quiet P k (Lost l mover) = Unit {0}
 Quiet P k (Inserted image) = Unit {0}
 Quiet P k (Renumbered n) = Unit {0}
 Quiet P k (StoreLent variables) = ⊥
+Quiet P k (SlotsLent slots) = Unit {0}
 
 abbrev pub Along : (Request → Type 0) → Kept → List Event → Type 0
 Along P k [] = Unit {0}

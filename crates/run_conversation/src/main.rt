@@ -18,6 +18,9 @@ const ACCOUNTS: [u8; 48] =
 const CHALLENGE: [u8; 64] =
     *b"\x2e\xed\x00\xe8\xd2\x95\x7f\x8e\xd9\x5a\xb2\x5e\xe6\x4e\xa7\x8a\x79\xa4\x17\x13\xde\x18\xe9\xf9\x6d\xeb\x0b\x69\x16\xd6\x02\x43\xa9\x6c\x5d\x5d\x70\xf8\xc0\x63\x72\x56\xa9\xa0\xab\x69\x72\x6e\x80\xe6\x64\x7e\x2f\x90\xaa\x14\xe7\x62\x10\x9a\x23\xce\x7e\xf2";
 
+// The slot list: a cartridge in the drive, and none in a slot.
+const SLOTS: [u32; 9] = [1, 0, 0, 0, 0, 0, 0, 0, 0];
+
 // The code of an answer and the bytes sent.
 fn show(code: u32, len: usize, out: &[u8]) {
     put_number(b": ", code as u64);
@@ -31,7 +34,7 @@ fn show(code: u32, len: usize, out: &[u8]) {
 // A new session.
 fn begin() -> Session {
     let mut out = [0u8; codes::LARGEST_MESSAGE];
-    let a = call_request::open(TIME, &mut out);
+    let a = call_request::open(SLOTS, TIME, &mut out);
     put(b"open");
     show(a.code, a.len, &out);
     a.session

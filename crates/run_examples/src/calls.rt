@@ -91,10 +91,13 @@ fn answer(s: Session, image: &mut [u8], store: &mut [u8], record: &[u8]) -> Sess
     a.session
 }
 
+// The slot list: a cartridge in the drive, and none in a slot.
+const SLOTS: [u32; 9] = [1, 0, 0, 0, 0, 0, 0, 0, 0];
+
 // A new session that was given the challenge.
 fn begin(image: &mut [u8], store: &mut [u8]) -> Session {
     let mut out = [0u8; codes::LARGEST_MESSAGE];
-    let a = call_request::open(0, &mut out);
+    let a = call_request::open(SLOTS, 0, &mut out);
     let s = ask(b"  connect open", a.session, image, store, 2304, &[4]);
     ask(b"  auth attributes", s, image, store, 259, &[2])
 }

@@ -1,4 +1,5 @@
 // Prints replies and notices as they are sent: of each a name and a length, then its bytes.
+mod changer; // changer.rt: replies to the changer's CDBs
 mod lines; // lines.rt: the lines of a record
 mod sending; // sending.rt: a record written and printed
 
@@ -413,4 +414,5 @@ fn main() {
     states_by_tcp();
     environments();
     auth_types();
+    changer::replies();
 }

@@ -5,7 +5,7 @@ ghost use lib.Dec.{ltb};
 ghost use Rattle.rules.specs.declared.Guard.the-variants as Guard;
 ghost use Rattle.rules.specs.Answer.{guarded};
 ghost use Rattle.rules_parts.specs.Parts.{windowEnd};
-ghost use Rattle.rules.specs.Relation.{dataWrong, numbersWrong, windowWrong, startWrong, holdWrong, strays, resumeWrong, placeWrong, originWrong, moverWrong, sameFlag, keeps};
+ghost use Rattle.rules.specs.Relation.{dataWrong, numbersWrong, windowWrong, startWrong, holdWrong, strays, resumeWrong, placeWrong, originWrong, moverWrong, sameFlag, driveWrong, slotsWrong, keeps};
 use rules::Guard;
 use rules_parts::types::Data;
 use rules_parts::types::Mover;
@@ -168,6 +168,26 @@ fn same_flag(a: bool, b: bool) -> bool
     !b
 }
 
+// Whether the tape is open, and no cartridge in the drive.
+fn is_drive_wrong(drive: u32, t: Tape) -> bool
+    ensures { λ r. ⌜ r ≡ driveWrong drive t ⌝ }
+{
+    if t.opened {
+        return drive == 0;
+    }
+    false
+}
+
+// The same, or the list names a cartridge twice.
+fn are_slots_wrong(slots: [u32; 9], t: Tape) -> bool
+    ensures { λ r. ⌜ r ≡ slotsWrong slots t ⌝ }
+{
+    if is_drive_wrong(slots[0], t) {
+        return true;
+    }
+    !changer_moves::names_none_twice(slots)
+}
+
 // Whether a session keeps the relation.
 pub fn is_kept(s: Session) -> bool
     ensures { λ r. ⌜ r ≡ keeps s ⌝ }
@@ -175,10 +195,15 @@ pub fn is_kept(s: Session) -> bool
     let d = s.source;
     let m = s.mover;
     let t = s.tape;
+    let c = s.changer;
     if is_data_wrong(d) {
         return false;
     }
     if is_mover_wrong(m, t) {
+        return false;
+    }
+    let slots = c.slots;
+    if are_slots_wrong(slots, t) {
         return false;
     }
     let source = d.is_partnered();

@@ -5,7 +5,7 @@ ghost use mathlib.Core.List.{List};
 ghost use Rattle.xdr.specs.Xdr.{sameBytes};
 ghost use Rattle.wire_requests.specs.Within.{bytesAt, Within, textsWithin};
 ghost use Rattle.wire_requests.specs.declared.Request.the-variants as Request;
-ghost use Rattle.rules.specs.TapeService.{movedTo, tape0, isRefusal, protects, tapeOpen, tapeClose, tapeState, tapeMtio, tapeWrite, tapeRead, deviceStep};
+ghost use Rattle.rules.specs.TapeService.{movedTo, afterMtio, tape0, isRefusal, protects, tapeOpen, tapeClose, tapeState, tapeMtio, tapeWrite, tapeRead, deviceStep};
 ghost use Rattle.serve_tape.specs.Done.{Tells};
 use rules_parts::types::Mover;
 use rules_parts::types::Tape;
@@ -55,8 +55,22 @@ fn moved_to(t: Tape, position: usize) -> Tape
     }
 }
 
-fn open_tape(t: Tape, image: &[u8], named: bool, mode: u32) -> TapeDone
-    ensures { λ r. ⌜ Tells (tapeOpen t (now (image .entry)) named mode) r (now (image .entry)) (now (image .entry)) ⌝ }
+// MTIO 6 closes the device, as close does; the others leave it open.
+fn after_mtio(op: u32, t: Tape, position: usize) -> Tape
+    ensures { λ r. ⌜ r ≡ afterMtio op position t ⌝ }
+{
+    if op == codes::OFF_LINE {
+        return Tape {
+            opened: false,
+            writable: false,
+            position: 0,
+        };
+    }
+    moved_to(t, position)
+}
+
+fn open_tape(drive: u32, t: Tape, image: &[u8], named: bool, mode: u32) -> TapeDone
+    ensures { λ r. ⌜ Tells (tapeOpen drive t (now (image .entry)) named mode) r (now (image .entry)) (now (image .entry)) ⌝ }
 {
     if READ_WRITE < mode {
         return TapeDone::Refuse(codes::ILLEGAL_ARGUMENTS);
@@ -66,6 +80,9 @@ fn open_tape(t: Tape, image: &[u8], named: bool, mode: u32) -> TapeDone
     }
     if t.opened {
         return TapeDone::Refuse(codes::DEVICE_OPENED);
+    }
+    if drive == 0 {
+        return TapeDone::Refuse(codes::NO_TAPE_LOADED);
     }
     if !tape_sound::sound(image) {
         return TapeDone::Refuse(codes::BAD_FILE);
@@ -124,7 +141,7 @@ fn mtio(mover: u32, t: Tape, image: &mut [u8], op: u32, times: u32) -> TapeDone
     if is_refusal(s.error) {
         return TapeDone::Refuse(s.error);
     }
-    let next = moved_to(t, s.position);
+    let next = after_mtio(op, t, s.position);
     TapeDone::Accept(Reply::Mtio(s.error, s.residue), next)
 }
 
@@ -175,15 +192,22 @@ fn is_tape(body: &[u8], name: Text) -> bool
     xdr::same(&body[start..end], b"tape0")
 }
 
-// A request of the tape interface, with the mover's state.
-pub fn serve(mover: u32, t: Tape, image: &mut [u8], q: TapeRequest, body: &[u8]) -> TapeDone
+// A request of the tape interface, with the number of the cartridge in the drive, or 0, and the mover's state.
+pub fn serve(
+    drive: u32,
+    mover: u32,
+    t: Tape,
+    image: &mut [u8],
+    q: TapeRequest,
+    body: &[u8],
+) -> TapeDone
     requires { ⌜ textsWithin (now body) (Request.Tape q) ⌝ }
-    ensures { λ r. ⌜ Tells (deviceStep mover t (now (image .entry)) q (now (body .entry))) r (now (image .entry)) (now (image .exit)) ⌝ }
+    ensures { λ r. ⌜ Tells (deviceStep drive mover t (now (image .entry)) q (now (body .entry))) r (now (image .entry)) (now (image .exit)) ⌝ }
 {
     match q {
         TapeRequest::Open(name, mode) => {
             let named = is_tape(body, name);
-            open_tape(t, image, named, mode)
+            open_tape(drive, t, image, named, mode)
         }
         TapeRequest::Close => close_tape(mover, t),
         TapeRequest::State => get_state(t, image),

@@ -26,8 +26,8 @@ use Rattle.tape_writing.proofs.Theorems.{written-there, same-bytes, past-table,
 use Rattle.tape_ops.specs.declared.Wrote.{Wrote}
 use Rattle.tape_ops.specs.declared.Part.{Part}
 use Rattle.tape_ops.specs.Step.{Step, keeping}
-use Rattle.tape_ops.specs.Operations.{wrote, part, writeStep, readPart, entryPart, markStep, mtioStep}
-use Rattle.tape_ops.specs.Promises.{spanOf, StaySound, Refused, Stand, Leave, PastEnd, ReadBack, FirstBytes, MtioAlike, TapePromises}
+use Rattle.tape_ops.specs.Operations.{wrote, part, writeStep, readPart, entryPart, markStep, rewinds, mtioStep}
+use Rattle.tape_ops.specs.Promises.{spanOf, StaySound, Refused, Stand, Leave, PastEnd, MtioRefused, ToStart, ReadBack, FirstBytes, MtioAlike, TapePromises}
 
 -- ---- a sound image stays sound
 Kept : Step Wrote → Type 0
@@ -59,11 +59,10 @@ module _ (l : List ℕ) (p : ℕ) (at : Placed l p) where
   unfolding mtioStep Spaces
   mtio-kept op times =
       by-test Spaces (ltb 6 op) _ _ (λ _. at)
-      (λ _. by-test Spaces (eqb op 6) _ _ (λ _. at)
       (λ _. by-test Spaces (faulty l p) _ _ (λ _. at)
       (λ _. by-test Spaces (eqb op 5) _ _ (λ _. mark-kept times)
-      (λ _. by-test Spaces (eqb op 4) _ _ (λ _. rewound)
-      (λ _. record { ok = at .ok; within = spaced-within l op p times (at .within) .within })))))
+      (λ _. by-test Spaces (rewinds op) _ _ (λ _. rewound)
+      (λ _. record { ok = at .ok; within = spaced-within l op p times (at .within) .within }))))
 
   InTape : Part → Type 0
   InTape r = Placed l (r .position)
@@ -107,22 +106,20 @@ module _ (l : List ℕ) where
   unfolding mtioStep Moves
   mtio-leaves op p times =
       by-test Moves (ltb 6 op) _ _ (λ _ _. refl)
-      (λ _. by-test Moves (eqb op 6) _ _ (λ _ _. refl)
       (λ _. by-test Moves (faulty l p) _ _ (λ _ _. refl)
       (λ _. by-test Moves (eqb op 5) _ _ (λ _. mark-leaves p times)
-      (λ _. by-test Moves (eqb op 4) _ _ (λ _ _. refl) (λ _ _. refl)))))
+      (λ _. by-test Moves (rewinds op) _ _ (λ _ _. refl) (λ _ _. refl))))
 
   Same : Step Spaced → Type 0
   Same s = s .image ≡ l
 
-  spacing-leaves : (op p times : ℕ) → op < 5 → Same (mtioStep l op p times)
+  others-leave : (op p times : ℕ) → (op ≡ 5 → ⊥) → Same (mtioStep l op p times)
   unfolding mtioStep Same
-  spacing-leaves op p times h =
+  others-leave op p times h =
       by-test Same (ltb 6 op) _ _ (λ _. refl)
-      (λ _. by-test Same (eqb op 6) _ _ (λ _. refl)
       (λ _. by-test Same (faulty l p) _ _ (λ _. refl)
-      (λ _. by-test Same (eqb op 5) _ _ (λ e. let z : op ≡ 5 = eqb-true op 5 e in absurd (omega arith))
-      (λ _. by-test Same (eqb op 4) _ _ (λ _. refl) (λ _. refl)))))
+      (λ _. by-test Same (eqb op 5) _ _ (λ e. absurd (h (eqb-true op 5 e)))
+      (λ _. by-test Same (rewinds op) _ _ (λ _. refl) (λ _. refl))))
 
 -- ---- a refusal leaves the position
 module _ (l : List ℕ) (p : ℕ) where
@@ -151,10 +148,9 @@ module _ (l : List ℕ) (p : ℕ) where
   unfolding mtioStep MtioStands
   mtio-stands op times =
       by-test MtioStands (ltb 6 op) _ _ (λ _ _. refl)
-      (λ _. by-test MtioStands (eqb op 6) _ _ (λ _ _. refl)
       (λ _. by-test MtioStands (faulty l p) _ _ (λ _ _. refl)
       (λ _. by-test MtioStands (eqb op 5) _ _ (λ _. mark-stands times)
-      (λ _. by-test MtioStands (eqb op 4) _ _ (λ _ o. absurd (o .0 refl)) (λ _ o. absurd (spaced-error l op p times o))))))
+      (λ _. by-test MtioStands (rewinds op) _ _ (λ _ o. absurd (o .0 refl)) (λ _ o. absurd (spaced-error l op p times o)))))
 
   read-stands : (times : ℕ) → ReadStands (readPart l p times)
   unfolding readPart entryPart ReadStands
@@ -224,10 +220,9 @@ module _ (l : List ℕ) (p : ℕ) where
   unfolding mtioStep MtioMark
   mtio-mark op times =
       by-test (MtioMark op) (ltb 6 op) _ _ (λ _ h. absurd (omega arith))
-      (λ _. by-test (MtioMark op) (eqb op 6) _ _ (λ _ h. absurd (omega arith))
       (λ _. by-test (MtioMark op) (faulty l p) _ _ (λ _ h. absurd (omega arith))
       (λ f. by-test (MtioMark op) (eqb op 5) _ _ (λ _. mark-unmarked op times)
-      (λ _. by-test (MtioMark op) (eqb op 4) _ _ (λ _ h. absurd (omega arith)) (λ _. spaced-stands l op p times (placed l p f .within) .mark)))))
+      (λ _. by-test (MtioMark op) (rewinds op) _ _ (λ _ h. absurd (omega arith)) (λ _. spaced-stands l op p times (placed l p f .within) .mark))))
 
   MtioEnd : ℕ → Step Spaced → Type 0
   MtioEnd op s = s .gives .error ≡ 13 → s .gives .position ≡ choose (eqb op 5) p (endOf (goesForward op) (count l))
@@ -244,10 +239,9 @@ module _ (l : List ℕ) (p : ℕ) where
   unfolding mtioStep MtioEnd
   mtio-end op times =
       by-test (MtioEnd op) (ltb 6 op) _ _ (λ _ h. absurd (omega arith))
-      (λ _. by-test (MtioEnd op) (eqb op 6) _ _ (λ _ h. absurd (omega arith))
       (λ _. by-test (MtioEnd op) (faulty l p) _ _ (λ _ h. absurd (omega arith))
       (λ f. by-test (MtioEnd op) (eqb op 5) _ _ (λ e. mark-end op times e)
-      (λ e. by-test (MtioEnd op) (eqb op 4) _ _ (λ _ h. absurd (omega arith)) (λ _. space-end op times (placed l p f .within) e)))))
+      (λ e. by-test (MtioEnd op) (rewinds op) _ _ (λ _ h. absurd (omega arith)) (λ _. space-end op times (placed l p f .within) e))))
 
 -- ---- what is past the end stays
 module _ (l : List ℕ) where
@@ -298,10 +292,22 @@ module _ (l : List ℕ) where
   unfolding mtioStep MtioPast
   mtio-past op p times =
       by-test MtioPast (ltb 6 op) _ _ (λ _. same-past)
-      (λ _. by-test MtioPast (eqb op 6) _ _ (λ _. same-past)
       (λ _. by-test MtioPast (faulty l p) _ _ (λ _. same-past)
       (λ f. by-test MtioPast (eqb op 5) _ _ (λ _. mark-past p times (placed l p f))
-      (λ _. by-test MtioPast (eqb op 4) _ _ (λ _. same-past) (λ _. same-past)))))
+      (λ _. by-test MtioPast (rewinds op) _ _ (λ _. same-past) (λ _. same-past))))
+
+-- ---- MTIO is refused by its operation, then by the fault; behind them REW and 6 go to the start
+mtio-refused : (l : List ℕ) (p : ℕ) → MtioRefused l p
+unfolding mtioStep choose
+mtio-refused l p = record { others = λ op times h. rw (lt-ltb 6 op h); fault = λ op times h f. rw (le-ltb 6 op h, f) }
+
+rew-to-start : (l : List ℕ) (p : ℕ) → Placed l p → ToStart 4 l p
+unfolding mtioStep choose
+rew-to-start l p at times = rw (← no-fault l p at)
+
+off-to-start : (l : List ℕ) (p : ℕ) → Placed l p → ToStart 6 l p
+unfolding mtioStep choose
+off-to-start l p at times = rw (← no-fault l p at)
 
 -- ---- what a read hands out
 module _ (l : List ℕ) (p times : ℕ) (some : 0 < times) where
@@ -374,23 +380,22 @@ module _ (l m : List ℕ) (a : Sound l) (b : Sound m) (one : count l ≡ count m
   Alike : Step Spaced → Step Spaced → Type 0
   Alike s t = AgreeInKind (goesForward op) p (s .gives .position) l m → s .gives ≡ t .gives
 
-  mtio-alike : op < 5 → Alike (mtioStep l op p times) (mtioStep m op p times)
+  mtio-alike : (op ≡ 5 → ⊥) → Alike (mtioStep l op p times) (mtioStep m op p times)
   unfolding mtioStep Alike
-  mtio-alike few =
+  mtio-alike other =
       rw (same-fault l m p a b one)
       (by-both Alike (ltb 6 op) _ _ _ _ (λ _ _. refl)
-      (λ _. by-both Alike (eqb op 6) _ _ _ _ (λ _ _. refl)
       (λ _. by-both Alike (faulty l p) _ _ _ _ (λ _ _. refl)
-      (λ f. by-both Alike (eqb op 5) _ _ _ _ (λ e _. absurd (let z = eqb-true op 5 e in omega arith))
-      (λ _. by-both Alike (eqb op 4) _ _ _ _ (λ _ _. refl)
-      (λ _. spacing-alike l m op p times (placed l p f) (placed m p (same-fault l m p a b one ∙ f)) one))))))
+      (λ f. by-both Alike (eqb op 5) _ _ _ _ (λ e _. absurd (other (eqb-true op 5 e)))
+      (λ _. by-both Alike (rewinds op) _ _ _ _ (λ _ _. refl)
+      (λ _. spacing-alike l m op p times (placed l p f) (placed m p (same-fault l m p a b one ∙ f)) one)))))
 
 pub promises : TapePromises
 unfolding Kept Spaces InTape Writes Moves Same WriteStands MtioStands ReadStands ReadMark ReadEnd WriteMark WriteEnd MtioMark MtioEnd WritePast MtioPast First Returned Alike
 promises =
     record {
       sound = λ l p at. record { write = write-kept l p at; mtio = mtio-kept l p at; read = read-kept l p at };
-      leave = λ l p. record { write = write-leaves l p; mtio = λ op times. mtio-leaves l op p times; spacing = λ op times. spacing-leaves l op p times };
+      leave = λ l p. record { write = write-leaves l p; mtio = λ op times. mtio-leaves l op p times; spacing = λ op times. others-leave l op p times };
       stand = λ l p. record { write = write-stands l p; mtio = mtio-stands l p; read = read-stands l p };
       outcomes =
           λ l p.
@@ -403,7 +408,10 @@ promises =
             mtio-end = mtio-end l p;
           };
       past = λ l p. record { write = write-past l p; mtio = λ op times. mtio-past l op p times };
+      refused = mtio-refused;
+      rew = rew-to-start;
+      off = off-to-start;
       first = λ l p times some. read-first l p times some;
       back = λ l p b at some e. let r = write-back l p b at some e in record { error = r .error; bytes = r .bytes; before = r .before };
-      alike = λ l m a b one op p times few. mtio-alike l m a b one op p times few;
+      alike = λ l m a b one op p times other. mtio-alike l m a b one op p times other;
     }

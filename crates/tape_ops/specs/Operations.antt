@@ -1,11 +1,11 @@
 -- The tape operations (paper 01, "The cartridge"), for any image and any position. Each is a list of tests in the order of the
--- table of refusals: 9 (and 1 for MTIO op 6), 7, then what the tape gives.
+-- table of refusals: 9, 7, then what the tape gives.
 use Prim.Native.Nat.{ℕ, _+_}
 use mathlib.Core.List.{List}
-use mathlib.Core.Bool.{Bool}
+use mathlib.Core.Bool.{Bool, true}
 use lib.ListN.{length}
 use lib.Dec.{eqb, ltb, leb}
-use Rattle.codes.specs.Codes.{longestRecord, notSupported, ioError, illegalArguments, atMark, atEnd, rewindTape, writeMarks, offLine}
+use Rattle.codes.specs.Codes.{longestRecord, ioError, illegalArguments, atMark, atEnd, rewindTape, writeMarks, offLine}
 use Rattle.xdr.specs.Choose.{choose, least}
 use Rattle.tape_image.specs.Image.{capacity, count, entryLen, entryStart, bodyAt, faulty}
 use Rattle.tape_image.specs.Place.{marksBefore, recordsSince}
@@ -54,15 +54,20 @@ markStep l p times =
     choose (ltb (capacity l) (p + times)) (keeping l (ended atEnd p times))
     (record { gives = ended 0 (p + times) 0; image = withMarks l p times })
 
--- "0 FSF, 1 BSF, 2 FSR, 3 BSR, 4 REW, 5 write marks, 6 off; others 9", and "1 instead for MTIO op 6"; "REW ignores count, residue 0"
+-- 4 REW, and "MTIO 6, which rewinds and closes the tape device" (paper 02, No. 7): the tape goes to its start. The
+-- device is not the cartridge's: a session closes it
+abbrev pub rewinds : ℕ → Bool
+rewinds op = choose (eqb op rewindTape) true (eqb op offLine)
+
+-- "0 FSF, 1 BSF, 2 FSR, 3 BSR, 4 REW, 5 write marks, 6 off; others 9"; "REW ignores count, residue 0"; of 6 too
+-- "residue 0"
 unfoldable pub mtioStep : List ℕ → ℕ → ℕ → ℕ → Step Spaced
 mtioStep l op p times =
     choose (ltb offLine op) (keeping l (ended illegalArguments p 0))
-    (choose (eqb op offLine) (keeping l (ended notSupported p 0))
     (choose (faulty l p) (keeping l (ended ioError p 0))
     (choose (eqb op writeMarks) (markStep l p times)
-    (choose (eqb op rewindTape) (keeping l (ended 0 0 0))
-    (keeping l (spacing l op p times))))))
+    (choose (rewinds op) (keeping l (ended 0 0 0))
+    (keeping l (spacing l op p times)))))
 
 abbrev pub standing : ℕ → ℕ → ℕ → Standing
 standing e f b = record { error = e; file = f; block = b }

@@ -3,7 +3,7 @@
 ghost use mathlib.Core.Path.{_≡_};
 ghost use Rattle.tape_image.specs.Sound.{Placed};
 ghost use Rattle.tape_ops.specs.Step.{Told};
-ghost use Rattle.tape_ops.specs.Operations.{writeStep, readPart, markStep, mtioStep, entryPart, standingAt};
+ghost use Rattle.tape_ops.specs.Operations.{writeStep, readPart, markStep, rewinds, mtioStep, entryPart, standingAt};
 ghost use Rattle.tape_ops.specs.Promises.{TapePromises};
 use tape_spacing::Spaced;
 
@@ -154,20 +154,23 @@ fn marks(image: &mut [u8], position: usize, times: u32) -> Spaced
     }
 }
 
-// MTIO: 0 FSF, 1 BSF, 2 FSR, 3 BSR, 4 REW, 5 write marks.
+// Whether an operation goes to the start of the tape.
+fn rewinds(op: u32) -> bool
+    ensures { λ r. ⌜ r ≡ rewinds op ⌝ }
+{
+    if op == codes::REWIND_TAPE {
+        return true;
+    }
+    op == codes::OFF_LINE
+}
+
+// MTIO: 0 FSF, 1 BSF, 2 FSR, 3 BSR, 4 REW, 5 write marks, 6 off, which rewinds here; its caller closes the device.
 pub fn mtio(image: &mut [u8], op: u32, position: usize, times: u32) -> Spaced
     ensures { λ r. ⌜ Told (mtioStep (now (image .entry)) op position times) r (now (image .exit)) ⌝ }
 {
     if codes::OFF_LINE < op {
         return Spaced {
             error: codes::ILLEGAL_ARGUMENTS,
-            position,
-            residue: 0,
-        };
-    }
-    if op == codes::OFF_LINE {
-        return Spaced {
-            error: codes::NOT_SUPPORTED,
             position,
             residue: 0,
         };
@@ -182,7 +185,7 @@ pub fn mtio(image: &mut [u8], op: u32, position: usize, times: u32) -> Spaced
     if op == codes::WRITE_MARKS {
         return marks(image, position, times);
     }
-    if op == codes::REWIND_TAPE {
+    if rewinds(op) {
         return Spaced {
             error: 0,
             position: 0,

@@ -1,7 +1,7 @@
 //! The rules of a move in plain Rust, with bounds checks: what the proved code is compared with. The session is changed
 //! where it lies.
 use crate::tape::{faulty, kept, put_entry, word};
-use proved::{Data, Mover, OUTPUT, Session, codes};
+use proved::{Data, Mover, OUTPUT, Session, Slots, codes};
 use wire::message;
 
 /// What a call gives beside the session: the rule that applied, the code, the bytes moved, and the bytes of the output.
@@ -66,6 +66,10 @@ fn join_is_right(d: &Data, m: &Mover) -> bool {
     data == mover
 }
 
+fn names_one_twice(slots: &Slots) -> bool {
+    (0..slots.len()).any(|i| slots[i] != 0 && slots[..i].contains(&slots[i]))
+}
+
 fn is_related(s: &Session) -> bool {
     let (d, m, t) = (&s.source, &s.mover, &s.tape);
     let holds = matches!(m.state, Mover::LISTEN | Mover::ACTIVE);
@@ -81,6 +85,8 @@ fn is_related(s: &Session) -> bool {
         && address_is_right(d.state, Data::IDLE, d.address)
         && address_is_right(m.state, Mover::IDLE, m.address)
         && join_is_right(d, m)
+        && (!t.opened || s.changer.slots[0] != 0)
+        && !names_one_twice(&s.changer.slots)
 }
 
 // ---- what a move can come to

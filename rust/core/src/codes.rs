@@ -16,6 +16,7 @@ numbers! {
     NOT_OPEN: u32 = 6;
     IO_ERROR: u32 = 7;
     ILLEGAL_ARGUMENTS: u32 = 9;
+    NO_TAPE_LOADED: u32 = 10;
     AT_MARK: u32 = 12;
     AT_END: u32 = 13;
     BAD_FILE: u32 = 15;

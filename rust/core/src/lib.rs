@@ -20,6 +20,9 @@ pub const LEAST_LISTING: usize = 96;
 /// What a login by MD5 answers.
 pub type Challenge = [u8; codes::CHALLENGE_LENGTH];
 
+/// The cartridge in each place of the changer: the drive first, then the slots 16 to 23. 0 is none.
+pub type Slots = [u32; 9];
+
 /// The declarations hold nothing that Rust could derive from, so what is needed of them stands here, field by field.
 macro_rules! by_value {
     ($($t:ident { $($f:ident),* })*) => { $(
@@ -47,7 +50,7 @@ by_value! {
     Data { state, operation, reason, address, processed }
     Mover { state, mode, pause, halt, size, address, offset, length, moved, seek, left, origin }
     Tape { opened, writable, position }
-    Changer { opened, key, code, qualifier }
+    Changer { opened, key, code, qualifier, slots }
     Login { authorized, challenged, challenge }
     Session { closed, first, login, sequence, source, mover, tape, changer }
     Answer { code, len, session }
@@ -55,7 +58,7 @@ by_value! {
 }
 
 unsafe extern "C" {
-    fn mossgoblin_open(time: u32, out: *mut u8, n: usize) -> Answer;
+    fn mossgoblin_open(slots: *const Slots, time: u32, out: *mut u8, n: usize) -> Answer;
     fn mossgoblin_request(
         s: Session,
         accounts: *const u8,
@@ -134,8 +137,10 @@ pub struct Listed {
 
 // Safety, of all eleven: the slices are whole and apart, and the functions ask for nothing else.
 
-pub fn open(time: u32, out: &mut [u8]) -> Answer {
-    unsafe { mossgoblin_open(time, out.as_mut_ptr(), out.len()) }
+/// A list that names a cartridge twice is refused with 1002. With 1001 and 1002 the session that comes back is
+/// closed, and its list is empty.
+pub fn open(slots: &Slots, time: u32, out: &mut [u8]) -> Answer {
+    unsafe { mossgoblin_open(slots, time, out.as_mut_ptr(), out.len()) }
 }
 
 /// The accounts are what a login is compared with: an XDR list of at most `codes::MOST_ACCOUNTS`, of each its kind (`codes::MD5_AUTH`, or

@@ -34,7 +34,7 @@ fn names_are_those_of_the_crates() {
 #[test]
 fn every_state_has_its_word() {
     let out = &mut vec![0; proved::OUTPUT];
-    let mut s = proved::open(0, out).session;
+    let mut s = proved::open(&[0; 9], 0, out).session;
     for (name, n) in [("IDLE", 0), ("ACTIVE", 1), ("HALTED", 2), ("LISTEN", 3), ("CONNECTED", 4)] {
         s.source.state = n;
         assert_eq!(s.source.state_name(), name);

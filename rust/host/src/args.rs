@@ -8,9 +8,10 @@ use std::os::unix::ffi::OsStrExt;
 use std::path::PathBuf;
 use std::time::Duration;
 
-pub const SERVE: [Known; 17] = [
+pub const SERVE: [Known; 18] = [
     valued("--listen"),
     valued("--cartridge"),
+    valued("--library"),
     valued("--new-cartridge"),
     valued("--accounts"),
     valued("--account"),
@@ -30,7 +31,9 @@ pub const SERVE: [Known; 17] = [
 
 pub struct Args {
     pub listen: String,
-    pub cartridge: PathBuf,
+    /// One of them at least.
+    pub cartridge: Option<PathBuf>,
+    pub library: Option<PathBuf>,
     pub new_cartridge: Option<usize>,
     /// Who may log in: the one of the command line, and those of a file.
     pub account: Option<Account>,
@@ -56,6 +59,7 @@ pub fn size(text: &str) -> Option<usize> {
     digits.parse::<usize>().ok()?.checked_mul(unit).filter(|n| *n <= crate::cartridge::MOST_BODY)
 }
 
+pub const NO_CARTRIDGE: &str = "--cartridge FILE or --library DIR is missing";
 pub const NO_ACCOUNT: &str = "--accounts FILE or --account ID:PASSWORD is missing";
 
 /// The account `ID:PASSWORD`, which logs in by MD5.
@@ -104,9 +108,19 @@ pub fn serve(w: &Written) -> Result<Args, String> {
     if one.is_none() && accounts.is_none() {
         return Err(NO_ACCOUNT.into());
     }
+    let cartridge = w.value("--cartridge").map(PathBuf::from);
+    let library = w.value("--library").map(PathBuf::from);
+    match (&cartridge, &library) {
+        (None, _) if new_cartridge.is_some() => {
+            return Err("--new-cartridge needs --cartridge FILE, which it makes".into());
+        }
+        (None, None) => return Err(NO_CARTRIDGE.into()),
+        _ => {}
+    }
     Ok(Args {
         listen: w.text("--listen")?.ok_or("--listen ADDRESS:PORT is missing")?.to_string(),
-        cartridge: w.value("--cartridge").map(PathBuf::from).ok_or("--cartridge FILE is missing")?,
+        cartridge,
+        library,
         new_cartridge,
         account: one,
         accounts,

@@ -1,8 +1,9 @@
 //! The cartridge: its image in memory, which the core reads and writes, and the file, which follows in a safe order.
 use crate::folder::{Folder, Id};
 use crate::sys;
+use std::ffi::{OsStr, OsString};
 use std::fs::{self, File, OpenOptions, TryLockError};
-use std::io::{self, Read};
+use std::io::{self, Read, Seek};
 use std::os::unix::fs::{FileExt, MetadataExt, OpenOptionsExt};
 use std::path::{Path, PathBuf};
 use wire::{word_at, words};
@@ -145,6 +146,30 @@ impl Cartridge {
         let link = self.disk.path.symlink_metadata().map(|m| Id::of(&m));
         [self.disk.id].into_iter().chain(link).collect()
     }
+
+    /// Out of memory, after it was stored.
+    pub fn shelve(self) -> Shelf {
+        debug_assert!(self.low.is_none(), "the file lacks something");
+        Shelf(self.disk)
+    }
+}
+
+/// A cartridge that is not in memory: its file, which stays open and locked, has all of it.
+pub struct Shelf(OnDisk);
+
+impl Shelf {
+    /// Reads the image again. One that cannot be read stays on its shelf.
+    pub fn load(self) -> Result<Cartridge, (Shelf, String)> {
+        let mut disk = self.0;
+        let image = disk.file.rewind().map_err(|e| e.to_string()).and_then(|()| bytes(&mut disk.file));
+        match image.and_then(|image| if proved::sound(&image) { Ok(image) } else { Err(unsound(&image)) }) {
+            Ok(image) => Ok(Cartridge::new(image, disk)),
+            Err(why) => {
+                let why = format!("cartridge {}: {why}", disk.path.display());
+                Err((Shelf(disk), why))
+            }
+        }
+    }
 }
 
 /// The entries of a sound image, in their order, as the core tells them.
@@ -176,7 +201,7 @@ fn unsound(image: &[u8]) -> String {
 }
 
 /// Why a file could not be locked.
-fn locked(e: TryLockError) -> String {
+pub fn locked(e: TryLockError) -> String {
     match e {
         TryLockError::WouldBlock => "in use by another program; end that vault first".into(),
         TryLockError::Error(e) => format!("cannot be locked: {e}"),
@@ -187,10 +212,21 @@ fn locked(e: TryLockError) -> String {
 /// anything of it is told: a host that was killed may have left it with bytes that are not.
 pub fn load(path: &Path) -> Result<Cartridge, String> {
     let told = |e: &dyn std::fmt::Display| format!("cartridge {}: {e}", path.display());
-    let mut file = OpenOptions::new().read(true).write(true).open(path).map_err(|e| match e.kind() {
+    let file = OpenOptions::new().read(true).write(true).open(path).map_err(|e| match e.kind() {
         io::ErrorKind::NotFound => told(&"no such file; --new-cartridge SIZE makes one"),
         _ => told(&e),
     })?;
+    take(file, path)
+}
+
+/// The same of a name in a folder that is open, which is no link.
+pub fn load_in(folder: &Folder, name: &OsStr, path: &Path) -> Result<Cartridge, String> {
+    let file = folder.change(name).map_err(|e| format!("cartridge {}: {e}", path.display()))?;
+    take(file, path)
+}
+
+fn take(mut file: File, path: &Path) -> Result<Cartridge, String> {
+    let told = |e: &dyn std::fmt::Display| format!("cartridge {}: {e}", path.display());
     file.try_lock().map_err(|e| told(&locked(e)))?;
     let image = bytes(&mut file).map_err(|e| told(&e))?;
     if !proved::sound(&image) {
@@ -211,16 +247,18 @@ pub fn load(path: &Path) -> Result<Cartridge, String> {
 /// Reads a sound cartridge file that no vault has open.
 pub fn look(path: &Path) -> Result<Vec<u8>, String> {
     let told = |e: &dyn std::fmt::Display| format!("{}: {e}", path.display());
-    let mut file = File::open(path).map_err(|e| match e.kind() {
+    let file = File::open(path).map_err(|e| match e.kind() {
         io::ErrorKind::NotFound => told(&"no such file; `mossgoblin new` makes a cartridge"),
         _ => told(&e),
     })?;
-    file.try_lock_shared().map_err(|e| told(&locked(e)))?;
-    let image = bytes(&mut file).map_err(|e| told(&e))?;
-    if !proved::sound(&image) {
-        return Err(told(&unsound(&image)));
-    }
-    Ok(image)
+    seen(file).map_err(|e| told(&e))
+}
+
+/// The same of a file that is open.
+pub fn seen(mut file: File) -> Result<Vec<u8>, String> {
+    file.try_lock_shared().map_err(locked)?;
+    let image = bytes(&mut file)?;
+    if proved::sound(&image) { Ok(image) } else { Err(unsound(&image)) }
 }
 
 /// The room of an image: entries, and bytes of data.
@@ -241,7 +279,9 @@ pub fn create(path: &Path, body: usize) -> Result<(), String> {
     if path.symlink_metadata().is_ok() {
         return Err(told(io::ErrorKind::AlreadyExists.into()));
     }
-    let mut name = path.file_name().unwrap_or_default().to_os_string();
+    // With a dot: one that a kill leaves is no cartridge of a library.
+    let mut name = OsString::from(".");
+    name.push(path.file_name().unwrap_or_default());
     name.push(format!(".new-{}", std::process::id()));
     let beside = path.with_file_name(name);
     let made = write_empty(&beside, body).and_then(|()| fs::hard_link(&beside, path));

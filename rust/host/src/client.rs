@@ -58,12 +58,13 @@ impl fmt::Display for Error {
 pub fn meaning(error: u32) -> &'static str {
     match error {
         codes::NOT_SUPPORTED => " (not supported)",
-        codes::DEVICE_OPENED => " (the device is open already)",
+        codes::DEVICE_OPENED => " (the device is open already, here or in another session)",
         codes::NOT_AUTHORIZED => " (not authorized)",
         codes::PERMISSION_DENIED => " (the tape is open for reading only)",
         codes::NOT_OPEN => " (the device is not open)",
         codes::IO_ERROR => " (the cartridge is damaged)",
         codes::ILLEGAL_ARGUMENTS => " (illegal arguments)",
+        codes::NO_TAPE_LOADED => " (no cartridge is in the drive)",
         codes::AT_MARK => " (at a mark)",
         codes::AT_END => " (at the tape's end)",
         codes::BAD_FILE => " (another session has the tape, or its cartridge is damaged)",

@@ -1,8 +1,10 @@
-//! The commands on files: `new`, `list` and `check` of cartridges, `accounts`.
+//! The commands on files: `new`, `list` and `check` of cartridges, `library` of a folder of them, `accounts`.
 use crate::accounts;
 use crate::args::size;
 use crate::cartridge;
-use crate::options::Written;
+use crate::library::Shelves;
+use crate::options::{Known, Written, valued};
+use crate::slots::{Found, find, place, shown};
 use proved::Entry;
 use std::ffi::OsString;
 use std::io::{BufWriter, Write, stdout};
@@ -85,6 +87,57 @@ fn printed(print: impl Fn(&mut dyn Write) -> std::io::Result<()>) -> Result<(), 
     }
 }
 
+pub const LIBRARY: [Known; 1] = [valued("--cartridge")];
+
+/// A line for each place: what is there, and what is on it. Nothing is changed.
+pub fn library(w: &Written) -> Result<(), Failed> {
+    let [folder] = &w.words[..] else { return Err(Failed::Words("expected one DIR".into())) };
+    let shelves = Shelves::open(Path::new(folder))?;
+    let inside = shelves.cartridges()?;
+    let beside = w.value("--cartridge").map(Path::new);
+    let given = beside.map(|b| shelves.given(b, &inside)).transpose()?;
+    let mut names: Vec<OsString> = inside.into_iter().map(|(name, _)| name).collect();
+    let (count, list) = (names.len(), shelves.list()?);
+    let first = given.map(|g| g.among(&mut names));
+    let Found { at, gone, .. } = find(list, &names, first).map_err(|why| shelves.told(why))?;
+    let mut bad = 0;
+    let mut lines = Vec::new();
+    for (i, n) in at.iter().enumerate() {
+        let told = match n {
+            Some(n) => {
+                let image = match beside {
+                    Some(b) if *n == count => cartridge::look(b),
+                    _ => shelves.look(&names[*n]),
+                };
+                let image = image.map(|image| summary(&image));
+                bad += image.is_err() as usize;
+                format!("{}: {}", shown(&names[*n]), image.unwrap_or_else(|why| why))
+            }
+            None => match gone.iter().find(|(at, _)| *at == i) {
+                Some((_, name)) => format!("empty; {} was here, and is not in the folder", shown(name)),
+                None => "empty".into(),
+            },
+        };
+        lines.push(format!("{}: {told}", place(i)));
+    }
+    printed(|out| lines.iter().try_for_each(|line| writeln!(out, "{line}")))?;
+    match bad {
+        0 => Ok(()),
+        n => Err(Failed::Work(format!("{n} of {} could not be read", names.len()))),
+    }
+}
+
+/// What is on a sound cartridge, in one line.
+fn summary(image: &[u8]) -> String {
+    let (all, (capacity, body)) = (cartridge::entries(image).collect::<Vec<Entry>>(), cartridge::room(image));
+    let used: usize = all.iter().map(|e| e.len).sum();
+    let marks = all.iter().filter(|e| e.len == 0).count();
+    let records = counted((all.len() - marks) as u64, "record");
+    let marks = counted(marks as u64, "mark");
+    let (used, body, n) = (grouped(used as u64), grouped(body as u64), all.len());
+    format!("{records}, {marks}, {used} of {body} bytes, {n} of {capacity} entries")
+}
+
 pub fn accounts(w: &Written) -> Result<(), Failed> {
     let lines = accounts::listing(Path::new(one_file(w)?))?;
     printed(|out| out.write_all(&lines))
@@ -96,19 +149,9 @@ pub fn check(w: &Written) -> Result<(), Failed> {
     }
     let mut bad = 0;
     for file in &w.words {
-        match entries(file) {
-            Ok((all, (capacity, body))) => {
-                let used: usize = all.iter().map(|e| e.len).sum();
-                let marks = all.iter().filter(|e| e.len == 0).count();
-                let records = counted((all.len() - marks) as u64, "record");
-                let marks = counted(marks as u64, "mark");
-                let (used, body, n) = (grouped(used as u64), grouped(body as u64), all.len());
-                println!(
-                    "{}: sound: {records}, {marks}, {used} of {body} bytes, {n} of {capacity} entries",
-                    file.display()
-                );
-            }
-            Err(Failed::Work(why) | Failed::Words(why)) => {
+        match cartridge::look(Path::new(file)) {
+            Ok(image) => println!("{}: sound: {}", file.display(), summary(&image)),
+            Err(why) => {
                 bad += 1;
                 println!("{why}");
             }

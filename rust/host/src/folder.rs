@@ -62,6 +62,11 @@ impl Folder {
         sys::open(&self.0, name, sys::READ | sys::NO_WAIT, 0)
     }
 
+    /// A file to be read and written; there is no wait either.
+    pub fn change(&self, name: &OsStr) -> io::Result<File> {
+        sys::open(&self.0, name, sys::READ_WRITE | sys::NO_WAIT, 0)
+    }
+
     /// A new file; there was nothing of that name.
     pub fn create(&self, name: &OsStr, mode: u32) -> io::Result<File> {
         sys::open(&self.0, name, sys::WRITE | sys::CREATE | sys::EXCLUSIVE, mode)

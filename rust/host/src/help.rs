@@ -7,6 +7,7 @@ mossgoblin: a tape vault that speaks NDMP version 4 over TCP
   mossgoblin new        make an empty cartridge, which is one file
   mossgoblin list       print what is on a cartridge
   mossgoblin check      say whether a cartridge is sound
+  mossgoblin library    print what is in each slot of a folder of cartridges
   mossgoblin accounts   say of each account of a file whether it can log in
   mossgoblin try        make a backup and a recover, and compare
 
@@ -24,7 +25,7 @@ Examples:
 pub const SERVE: &str = "\
 mossgoblin serve: put a cartridge on a port, for any NDMP v4 client
 
-  mossgoblin serve --listen ADDRESS:PORT --cartridge FILE
+  mossgoblin serve --listen ADDRESS:PORT --cartridge FILE | --library DIR [--cartridge FILE]
                    --accounts FILE | --account ID:PASSWORD
                    [--new-cartridge SIZE] [--stream DIR|FILE] [--restore-to DIR|FILE]
                    [--data-address ADDRESS[,ADDRESS..]] [--data-ports LOW-HIGH]
@@ -36,6 +37,12 @@ mossgoblin serve: put a cartridge on a port, for any NDMP v4 client
                           the system chooses one. `listening on ADDRESS:PORT` is the
                           first line on standard output.
   --cartridge FILE        the tape: one file with the table of records and their bytes
+  --library DIR           a changer with more tapes: each file of DIR, at most eight, is a
+                          cartridge, in the slots 16 to 23 in the order of their names;
+                          --cartridge may be left out then, and is in the drive where it is
+                          given. Where they are is kept in DIR/.slots, so the next start
+                          finds each cartridge in its place; files that are new then go to
+                          empty slots. Folders and names that begin with a dot are none.
   --new-cartridge SIZE    make FILE first; it must not exist. SIZE is the room for data:
                           bytes, or with K, M, G behind the number; at most 128M.
                           The table has room for 4,096 records and marks.
@@ -104,7 +111,15 @@ Names of a recover are those in the archive, with or without FILESYSTEM before t
 these are restored. Other wishes are not followed, and the log says so, such as another
 FILESYSTEM than the path of --stream.
 
-One session at a time has the tape: tape open in a second one is answered with 15.
+The changer has the transport 0, the drive 1 and the slots 16 to 23: execute CDB with READ
+ELEMENT STATUS (B8h) tells what is in them, MOVE MEDIUM (A5h) changes that, and is on the disk
+before it is answered. At `mover paused` with reason 1 (end of tape) a backup or a recover goes
+on with another cartridge: tape close, MOVE MEDIUM of the one from drive to slot and of the
+next from slot to drive, tape open, set window at the bytes moved, continue.
+
+One session at a time has the tape: tape open in a second one is answered with 15. One at a
+time has the changer: scsi open in a second one is answered with 3. With an empty drive tape
+open is answered with 10.
 The vault runs until SIGTERM or SIGINT, which end it in order; what a client was told is on
 the disk.
 
@@ -115,6 +130,8 @@ Examples:
   mossgoblin serve --listen=127.0.0.1:10000 --cartridge=tape --account=vault:noon --status=8080
   mossgoblin serve --listen 10.0.0.2:10000 --cartridge tape --accounts accounts \\
                    --data-address 10.0.0.2 --data-ports 10100-10131
+  mkdir tapes; for n in 1 2 3; do mossgoblin new tapes/tape-$n 128M; done
+  mossgoblin serve --listen 127.0.0.1:10000 --library tapes --accounts accounts --stream docs
 ";
 
 pub const NEW: &str = "\
@@ -158,6 +175,23 @@ is written. A cartridge that a vault has open is not read.
 Examples:
   mossgoblin check tape
   mossgoblin check /var/lib/mossgoblin/* && echo all sound
+";
+
+pub const LIBRARY: &str = "\
+mossgoblin library: print what is in each slot of a folder of cartridges
+
+  mossgoblin library DIR [--cartridge FILE]
+
+DIR is one of `serve --library`. A line for the drive and one for each slot, 16 to 23: the name
+of the cartridge there, its records, marks, bytes and entries, or `empty`. The places are those
+of DIR/.slots, as the next start will find them. Nothing is changed. A cartridge that a vault
+has open is named and not read, and then the exit code is 1.
+
+  --cartridge FILE   the one that the vault has beside the folder
+
+Examples:
+  mossgoblin library tapes
+  mossgoblin library /var/lib/mossgoblin/library --cartridge /var/lib/mossgoblin/tape
 ";
 
 pub const ACCOUNTS: &str = "\

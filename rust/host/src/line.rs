@@ -1,6 +1,7 @@
 //! One connection's session and what it works on: the core's value, the cartridge while its tape is open, and the
 //! method.
 use crate::cartridge::Cartridge;
+use crate::changer::Others;
 use crate::ends::Ends;
 use crate::folder::Id;
 use crate::job::Job;
@@ -8,7 +9,7 @@ use crate::log::Log;
 use crate::ports::Ports;
 use crate::progress::Progress;
 use crate::variables;
-use crate::vault::Vault;
+use crate::vault::{Vault, Visit};
 use crate::watch::Watch;
 use crate::wishes::Wishes;
 use proved::{Challenge, Session, codes};
@@ -42,8 +43,10 @@ pub struct Shared {
     pub restore_to: Option<PathBuf>,
     /// Where peers connect.
     pub ports: Ports,
-    /// The cartridge, which is neither backed up nor restored over.
+    /// The cartridges, which are neither backed up nor restored over.
     pub except: Vec<Id>,
+    /// Whether there is another cartridge to go on with at a tape's end.
+    pub several: bool,
     pub limits: Limits,
     /// Whether a file that cannot be read ends a backup.
     pub strict: bool,
@@ -113,6 +116,11 @@ pub struct Line<'a> {
     pub told: Session,
     /// The cartridge, while this session's tape is open.
     pub held: Option<Cartridge>,
+    /// Whether this session's changer is open, or being opened: no other has it.
+    pub has_changer: bool,
+    /// The places, while a request of the changer is answered; and what other sessions have meanwhile.
+    pub visit: Option<Visit<'a>>,
+    pub others: Others,
     pub job: Option<Job>,
     /// The peers of ends that are joined by TCP.
     pub ends: Ends,
@@ -164,6 +172,9 @@ impl<'a> Line<'a> {
             core,
             told: core,
             held: None,
+            has_changer: false,
+            visit: None,
+            others: Others::default(),
             job: None,
             ends: Ends::default(),
             unmet: false,
@@ -191,7 +202,11 @@ impl Line<'_> {
     pub fn ask_with(&mut self, record: &[u8], addresses: &[u8], made: bool) -> proved::Answer {
         let (accounts, challenge) = (&self.shared.accounts, &self.challenge);
         let (image, variables, out) = (image(&mut self.held), &mut self.variables, &mut self.out);
-        proved::request(self.core, accounts, challenge, addresses, made, image, variables, record, seconds(), out)
+        let lent = self.others.lent(self.core);
+        let mut done =
+            proved::request(lent, accounts, challenge, addresses, made, image, variables, record, seconds(), out);
+        done.session = self.others.back(self.core, done.session);
+        done
     }
 
     /// Takes over what a call made of the session; `from` is the tape's position before a call that may have written
@@ -278,14 +293,6 @@ impl Line<'_> {
         Ok(())
     }
 
-    /// Takes the cartridge, if no other session has it.
-    pub fn take(&mut self) {
-        self.held = self.shared.vault.take();
-        if let (Some(watch), Some(_)) = (&self.shared.watch, &self.held) {
-            watch.holds(Some(self.number));
-        }
-    }
-
     pub fn hand_back(&mut self) {
         let Some(c) = self.held.take() else { return };
         // Before the next session can take it and say so.
@@ -312,6 +319,7 @@ impl Drop for Line<'_> {
             self.back();
         }
         self.hand_back();
+        self.hand_back_changer();
         if let Some(watch) = &self.shared.watch {
             watch.went(self.number);
         }

@@ -1,4 +1,5 @@
 use host::commands::{self, Failed};
+use host::log::printable;
 use host::options::{self, Known, Written};
 use host::{args, help, server, trial};
 use std::ffi::OsString;
@@ -16,11 +17,12 @@ fn serve(w: &Written) -> Result<(), Failed> {
     Ok(server::run(args::serve(w).map_err(Failed::Words)?)?)
 }
 
-const COMMANDS: [Command; 6] = [
+const COMMANDS: [Command; 7] = [
     Command { name: "serve", help: help::SERVE, known: &args::SERVE, run: serve },
     Command { name: "new", help: help::NEW, known: &[], run: commands::new },
     Command { name: "list", help: help::LIST, known: &[], run: commands::list },
     Command { name: "check", help: help::CHECK, known: &[], run: commands::check },
+    Command { name: "library", help: help::LIBRARY, known: &commands::LIBRARY, run: commands::library },
     Command { name: "accounts", help: help::ACCOUNTS, known: &[], run: commands::accounts },
     Command { name: "try", help: help::TRY, known: &trial::TRY, run: trial::run },
 ];
@@ -41,7 +43,7 @@ fn main() -> ExitCode {
     let mut words = std::env::args_os().skip(1);
     let first = words.next().unwrap_or_default();
     match first.to_str() {
-        Some("") => wrong("", "a command is missing: serve, new, list, check, accounts or try"),
+        Some("") => wrong("", "a command is missing: serve, new, list, check, library, accounts or try"),
         Some("--version" | "-V") => print(&format!("mossgoblin {} (NDMP version 4)\n", env!("CARGO_PKG_VERSION"))),
         Some("--help" | "-h") => print(help::PROGRAM),
         Some("help") => match words.next().map(|w| COMMANDS.iter().find(|c| w == c.name)) {
@@ -72,7 +74,8 @@ fn run(command: &Command, words: impl Iterator<Item = OsString>) -> ExitCode {
         Ok(()) => ExitCode::SUCCESS,
         Err(Failed::Words(why)) => wrong(&name, &why),
         Err(Failed::Work(why)) => {
-            eprintln!("mossgoblin{name}: {why}");
+            // Names of files are in it, and may hold anything.
+            eprintln!("mossgoblin{name}: {}", printable(&why));
             ExitCode::from(1)
         }
     }

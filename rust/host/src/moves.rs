@@ -64,8 +64,8 @@ impl Line<'_> {
             if r.target.done() || (at_end || at_mark) && r.target.is_endless() && !r.given {
                 return self.finish(r);
             }
-            // Behind a mark the client may go on; behind the tape's end there is nothing.
-            if at_end {
+            // Behind a mark the client may go on; behind the tape's end there is only another cartridge.
+            if at_end && !self.shared.several {
                 let why = r.target.cut_short();
                 return self.give_up(r, &why);
             }

@@ -5,6 +5,7 @@ use crate::line::Shared;
 use crate::log::clock;
 use crate::progress::{by_tcp, percent, window};
 use crate::server::MOST_CONNECTIONS;
+use crate::slots::place;
 use crate::watch::{All, Seen, Tape};
 use proved::{Data, Mover, Session, codes};
 use std::fmt::Write;
@@ -207,6 +208,9 @@ fn strip(t: &Tape) -> String {
 }
 
 fn tape_told(t: &Tape) -> String {
+    if t.file.is_empty() {
+        return "<p>The drive is empty.</p>\n".into();
+    }
     let used: u64 = t.lengths.iter().map(|n| *n as u64).sum();
     let marks = t.lengths.iter().filter(|n| **n == 0).count();
     let (entries, body) = (t.lengths.len(), t.body as u64);
@@ -225,6 +229,19 @@ fn tape_told(t: &Tape) -> String {
         grouped(t.capacity as u64),
         bar(part_of(entries as u64, t.capacity as u64))
     )
+}
+
+/// The places, where there is more than one cartridge to be in them.
+fn places_told(all: &All) -> String {
+    if all.places.iter().flatten().count() < 2 {
+        return String::new();
+    }
+    let line = |(i, name): (usize, &Option<String>)| {
+        let name = name.as_deref().map_or("empty".into(), escaped);
+        format!("<tr><td>{}</td><td>{name}</td></tr>", place(i))
+    };
+    let rows: String = all.places.iter().enumerate().map(line).collect();
+    format!("<h2>Places</h2>\n<table>{rows}</table>\n")
 }
 
 const STYLE: &str = "body{font:15px/1.5 sans-serif;margin:1.5em;max-width:90em;color:#222;background:#fff}\
@@ -252,14 +269,15 @@ pub fn html(s: &Shown) -> String {
          <style>{STYLE}</style></head><body>\n<h1>Mossgoblin</h1>\n\
          <p>A tape vault on {}, up {}, at {} UTC. {count} of at most {MOST_CONNECTIONS} sessions. \
          The same as <a href=\"/status.json\">JSON</a>.</p>\n\
-         <h2>Window</h2>\n{}\n<h2>Tape</h2>\n{}<h2>Sessions</h2>\n{sessions}\n\
+         <h2>Window</h2>\n{}\n<h2>Tape</h2>\n{}{}<h2>Sessions</h2>\n{sessions}\n\
          <h2>Log, the newest first (UTC)</h2>\n<pre>{log}</pre>\n</body></html>\n",
         counted(count as u64, "session"),
         escaped(&s.vault),
         span(s.up),
         s.clock,
         window_told(&s.all),
-        tape_told(&s.all.tape)
+        tape_told(&s.all.tape),
+        places_told(&s.all)
     )
 }
 
@@ -313,7 +331,7 @@ pub fn json(s: &Shown) -> String {
     format!(
         "{{\"vault\":{},\"seconds\":{},\"most_sessions\":{MOST_CONNECTIONS},\"sessions\":[{}],\
          \"tape\":{{\"file\":{},\"holder\":{},\"capacity\":{},\"bytes\":{},\"used\":{used},\"entries\":[{}]}},\
-         \"log\":[{}]}}\n",
+         \"places\":[{}],\"log\":[{}]}}\n",
         quoted(&s.vault),
         s.up.as_secs(),
         list(s.all.sessions.iter().map(|(n, seen)| session_json(*n, seen)).collect()),
@@ -322,6 +340,7 @@ pub fn json(s: &Shown) -> String {
         t.capacity,
         t.body,
         list(t.lengths.iter().map(|n| n.to_string()).collect()),
+        list(s.all.places.iter().map(|p| p.as_deref().map_or("null".into(), quoted)).collect()),
         list(s.log.iter().map(|l| quoted(l)).collect())
     )
 }

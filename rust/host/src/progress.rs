@@ -130,7 +130,7 @@ mod tests {
     use super::*;
 
     fn active(offset: u64, length: u64, moved: u64) -> Session {
-        let mut s = proved::open(0, &mut vec![0; proved::OUTPUT]).session;
+        let mut s = proved::open(&[1, 0, 0, 0, 0, 0, 0, 0, 0], 0, &mut vec![0; proved::OUTPUT]).session;
         (s.source.state, s.source.operation, s.source.processed) = (Data::ACTIVE, Data::BACKUP, moved);
         s.mover.state = Mover::ACTIVE;
         (s.mover.offset, s.mover.length, s.mover.moved) = (offset, length, moved);

@@ -1,8 +1,9 @@
 //! Starting the vault, and one thread for each connection.
 use crate::accounts;
-use crate::args::Args;
+use crate::args::{Args, NO_CARTRIDGE};
 use crate::cartridge::{self, Cartridge};
 use crate::folder::Id;
+use crate::library::{self, Library, Opened};
 use crate::line::{Over, Shared};
 use crate::log::Log;
 use crate::progress::Progress;
@@ -80,25 +81,51 @@ fn listen(option: &str, address: &str) -> Result<TcpListener, String> {
 fn check(args: &Args) -> Result<(), String> {
     args.stream.as_deref().map_or(Ok(()), check_stream)?;
     args.restore_to.as_deref().map_or(Ok(()), check_target)?;
-    if args.restore_to.as_deref().is_some_and(|to| same_name(to, &args.cartridge)) {
-        return Err(format!(
-            "--restore-to {0}: is the cartridge itself; choose another name",
-            args.cartridge.display()
-        ));
+    if let (Some(to), Some(cartridge)) = (&args.restore_to, &args.cartridge)
+        && same_name(to, cartridge)
+    {
+        return Err(format!("--restore-to {0}: is the cartridge itself; choose another name", cartridge.display()));
+    }
+    if let (Some(to), Some(library)) = (&args.restore_to, &args.library)
+        && meet(to, library)
+    {
+        let (to, library) = (to.display(), library.display());
+        return Err(format!("--restore-to {to}: the library {library} is there; choose a folder apart from it"));
     }
     args.ports.check()
 }
 
-/// The cartridge, which is made first where that was asked for.
-fn cartridge_of(args: &Args) -> Result<Cartridge, String> {
-    if let Some(body) = args.new_cartridge {
-        cartridge::create(&args.cartridge, body)?;
+/// Whether one of them lies in the other, or both are one: what is restored there could become the list of slots, or a
+/// cartridge.
+fn meet(to: &Path, library: &Path) -> bool {
+    let whole = |p: &Path| match p.canonicalize() {
+        Ok(p) => Some(p),
+        Err(_) => parted(p).ok().and_then(|(folder, _)| match folder.as_os_str().is_empty() {
+            true => Path::new(".").canonicalize().ok(),
+            false => folder.canonicalize().ok(),
+        }),
+    };
+    match (whole(to), library.canonicalize().ok()) {
+        (Some(a), Some(b)) => a.starts_with(&b) || to.is_dir() && b.starts_with(&a),
+        _ => false,
     }
-    let cartridge = cartridge::load(&args.cartridge)?;
+}
+
+/// The cartridges, of which the single one is made first where that was asked for.
+fn library_of(args: &Args) -> Result<Opened, String> {
+    if let (Some(body), Some(cartridge)) = (args.new_cartridge, &args.cartridge) {
+        args.library.as_deref().map_or(Ok(()), |folder| library::check(folder, cartridge))?;
+        cartridge::create(cartridge, body)?;
+    }
+    let opened = match (&args.library, &args.cartridge) {
+        (Some(folder), beside) => Library::open(folder, beside.as_deref())?,
+        (None, Some(cartridge)) => Library::one(cartridge)?,
+        (None, None) => return Err(NO_CARTRIDGE.into()),
+    };
     if let Some(to) = &args.restore_to {
-        may_write(to, &cartridge.ids()).map_err(|why| format!("--restore-to {}: {why}", to.display()))?;
+        may_write(to, &opened.ids).map_err(|why| format!("--restore-to {}: {why}", to.display()))?;
     }
-    Ok(cartridge)
+    Ok(opened)
 }
 
 pub fn run(mut args: Args) -> Result<(), String> {
@@ -107,19 +134,24 @@ pub fn run(mut args: Args) -> Result<(), String> {
     // The ports first: a cartridge is made only if the vault can start.
     let listener = listen("--listen", &args.listen)?;
     let page = args.status.as_deref().map(|a| listen("--status", a)).transpose()?;
-    let cartridge = cartridge_of(&args)?;
-    let except = cartridge.ids();
-    let watch = page.is_some().then(|| Watch::new(&cartridge, &args.cartridge));
+    let Opened { library, drive, ids, notes } = library_of(&args)?;
+    let watch = page.is_some().then(|| {
+        let watch = Watch::new();
+        watch.loaded(library.name(library.slots[0]), drive.as_ref());
+        watch.placed(library.shown());
+        watch
+    });
     let address = listener.local_addr().map_err(|e| e.to_string())?;
     let _ = writeln!(stdout(), "listening on {address}");
     let Args { accounts: file, stream, restore_to, ports, limits, strict, marks, quiet, .. } = args;
     let shared = Arc::new(Shared {
-        vault: Vault::new(cartridge),
+        several: library.count() > 1,
+        vault: Vault::new(library, drive),
         accounts: accounts::lent(&accounts),
         stream,
         restore_to,
         ports,
-        except,
+        except: ids,
         limits,
         strict,
         marks,
@@ -129,6 +161,7 @@ pub fn run(mut args: Args) -> Result<(), String> {
         ending: AtomicBool::new(false),
     });
     warn(&shared, address);
+    notes.iter().for_each(|note| shared.log.error(note));
     file.map(|f| accounts::withdrawn(&accounts, &f)).into_iter().flatten().for_each(|text| shared.log.error(text));
     page.map_or(Ok(()), |page| start_page(page, &shared, address)).map_err(|e| format!("--status: {e}"))?;
     hear_signals(shared.clone()).map_err(|e| format!("signals: {e}"))?;
@@ -178,7 +211,8 @@ fn hear_signals(shared: Arc<Shared>) -> std::io::Result<()> {
 /// How long sessions are waited for, each of which ends after its step.
 const LAST_STEPS: Duration = Duration::from_secs(10);
 
-/// Ends the program in order when a signal says so: all connections end, and the cartridge is handed back and stored.
+/// Ends the program in order when a signal says so: all connections end, the list is settled, and the cartridge is handed
+/// back and stored.
 fn end(mut signals: File, shared: &Shared) {
     let mut byte = [0];
     while signals.read_exact(&mut byte).is_err() {
@@ -192,23 +226,36 @@ fn end(mut signals: File, shared: &Shared) {
     while shared.count() > 0 && Instant::now() < until {
         std::thread::sleep(Duration::from_millis(10));
     }
-    let code = match shared.vault.take().map(|mut c| (c.store(), c.entries())) {
-        Some((Ok(_), n)) => {
-            log.line(format_args!("ended by {name}: all that was acknowledged is on the disk, {n} records and marks"));
+    let code = match shared.vault.last().map(|(library, drive)| settled(library, drive)) {
+        Some(Ok(n)) => {
+            let n = n.map_or(String::new(), |n| format!(", {n} records and marks"));
+            log.line(format_args!("ended by {name}: all that was acknowledged is on the disk{n}"));
             0
         }
-        Some((Err(e), _)) => {
-            log.error(format_args!("ended by {name}: the cartridge file could not be written: {e}"));
+        Some(Err(why)) => {
+            log.error(format_args!("ended by {name}: {why}"));
             1
         }
         None => {
             log.error(format_args!(
-                "ended by {name} while a session had the tape; all that was acknowledged is on the disk"
+                "ended by {name} while a session had the tape or the places; all that was acknowledged is on the disk"
             ));
             1
         }
     };
     std::process::exit(code);
+}
+
+/// The list and the image in the drive are on the disk, each also where the other cannot be. Gives the entries of that
+/// image.
+fn settled(mut library: Library, drive: Option<Cartridge>) -> Result<Option<usize>, String> {
+    let list = library.settle().map_err(|e| format!("the list of slots could not be written: {e}"));
+    let image = drive.map(|mut c| c.store().map(|_| c.entries())).transpose();
+    match (list, image.map_err(|e| format!("the cartridge file could not be written: {e}"))) {
+        (Ok(()), image) => image,
+        (Err(why), Ok(_)) => Err(why),
+        (Err(list), Err(image)) => Err(format!("{list}; {image}")),
+    }
 }
 
 /// One connection, from its first line in the log to its last.

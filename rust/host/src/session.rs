@@ -40,7 +40,10 @@ pub fn serve(socket: TcpStream, shared: &Shared, number: usize, stranger: Leaves
     sys::keep_alive(&socket).map_err(told)?;
     let mut frames = Frames::new(socket.try_clone().map_err(told)?);
     let mut out = vec![0; OUTPUT];
-    let opened = proved::open(seconds(), &mut out);
+    let opened = proved::open(&shared.vault.slots(), seconds(), &mut out);
+    if opened.code != 0 {
+        return Err(Over::Failed(format!("the core refused to open a session with {}", opened.code)));
+    }
     let peer = socket.peer_addr().map_or("?".into(), |a| a.to_string());
     let core = opened.session;
     let line = Line::new(socket, shared, number, core, out);
@@ -142,7 +145,10 @@ impl Connection<'_> {
         }
         match number(record) {
             // No other request reads the image while the tape is closed.
-            message::TAPE_OPEN if line.held.is_none() && line.core.login.authorized => line.take(),
+            message::TAPE_OPEN if line.held.is_none() && line.core.login.authorized => line.take()?,
+            message::SCSI_OPEN if !line.has_changer && line.core.login.authorized => line.take_changer()?,
+            // No other request looks at the places.
+            message::SCSI_EXECUTE_CDB if line.core.changer.opened => line.look()?,
             // No other request is given one, so none fails where the system has no randomness; this one ends the
             // connection there, and no client gets a challenge that could be foreseen.
             message::CONFIG_GET_AUTH_ATTR => {
@@ -169,7 +175,7 @@ impl Connection<'_> {
         if wrong {
             self.wrong_login(record);
         } else {
-            self.tell(record, refused, was, login);
+            self.tell(record, done.len, was, login);
         }
         if writes(record) {
             self.writes.push(record.to_vec());
@@ -199,7 +205,10 @@ impl Connection<'_> {
     fn is_due(&self, record: &[u8]) -> bool {
         let at_rest = match number(record) {
             message::TAPE_CLOSE | message::CONNECT_CLOSE => true,
-            message::TAPE_MTIO => matches!(word_at(record, HEADER), Some(codes::WRITE_MARKS | codes::REWIND_TAPE)),
+            message::TAPE_MTIO => {
+                let op = word_at(record, HEADER);
+                matches!(op, Some(codes::WRITE_MARKS | codes::REWIND_TAPE | codes::OFF_LINE))
+            }
             _ => false,
         };
         if self.line.shared.marks { at_rest } else { !self.writes.is_empty() }
@@ -214,8 +223,12 @@ impl Connection<'_> {
             self.medium_failed(why, record)?;
         }
         self.writes.clear();
+        self.line.keep()?;
         if !self.line.core.tape.opened {
             self.line.hand_back();
+        }
+        if !self.line.core.changer.opened {
+            self.line.hand_back_changer();
         }
         let replies = std::mem::take(&mut self.replies);
         self.line.send_all(&replies)
@@ -247,10 +260,11 @@ impl Connection<'_> {
     }
 
     /// Refusals, logins, and wishes that are not followed.
-    fn tell(&mut self, record: &[u8], refused: Option<u32>, was: u32, login: bool) {
+    fn tell(&mut self, record: &[u8], len: usize, was: u32, login: bool) {
         let line = &mut self.line;
         let message = number(record);
-        if let Some(error) = refused {
+        let answer = &line.out[..len];
+        if let Some(error) = refusal(answer) {
             let (name, meaning) = (message::name(message), crate::client::meaning(error));
             let mut why = format!("refused: {name} (0x{message:03x}) with {error}{meaning}");
             let text = by_text(record, error);
@@ -263,6 +277,8 @@ impl Connection<'_> {
                 Some(_) if !std::mem::replace(&mut self.withdrawn, true) => line.progress.error(why),
                 _ => line.progress.line(why),
             }
+        } else if let Some(why) = line.refused_move(record, answer) {
+            line.progress.line(why);
         } else if login {
             line.progress.line(format_args!("logged in as {} by MD5", login_of(record)));
         } else if was != Data::ACTIVE && line.core.source.state == Data::ACTIVE {

@@ -77,6 +77,7 @@ impl Line<'_> {
         let limits = self.shared.limits;
         match self.held {
             Some(_) => (limits.hold.min(limits.idle), "had the tape and said nothing for"),
+            // One that has the changer may wait for a backup in another session to fill its tape.
             None => (limits.idle, "said nothing for"),
         }
     }

@@ -11,6 +11,7 @@ compile_error!("the numbers below are those of Linux on x86_64 and aarch64");
 
 pub const READ: c_int = 0;
 pub const WRITE: c_int = 1;
+pub const READ_WRITE: c_int = 2;
 pub const CREATE: c_int = 0o100;
 pub const EXCLUSIVE: c_int = 0o200;
 pub const NO_TERMINAL: c_int = 0o400;

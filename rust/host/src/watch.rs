@@ -4,7 +4,7 @@ use crate::cartridge::{CAPACITY, Cartridge, Disk};
 use crate::ends::Far;
 use proved::Session;
 use std::collections::BTreeMap;
-use std::path::Path;
+use std::ffi::OsStr;
 use std::sync::{Mutex, MutexGuard, PoisonError};
 use std::time::Instant;
 
@@ -19,7 +19,7 @@ pub struct Seen {
     pub far: [Far; 2],
 }
 
-/// The tape as its file has it.
+/// The tape as its file has it; without a file's name there is none in the drive.
 #[derive(Clone, Default)]
 pub struct Tape {
     pub file: String,
@@ -35,6 +35,8 @@ pub struct Tape {
 pub struct All {
     pub sessions: BTreeMap<usize, Seen>,
     pub tape: Tape,
+    /// The drive, then the slots; the name of the cartridge there.
+    pub places: Vec<Option<String>>,
 }
 
 pub struct Watch {
@@ -43,13 +45,23 @@ pub struct Watch {
 }
 
 impl Watch {
-    pub fn new<D: Disk>(cartridge: &Cartridge<D>, file: &Path) -> Watch {
-        let watch = Watch { since: Instant::now(), all: Mutex::default() };
-        let (capacity, body) = cartridge.room();
-        let tape = Tape { file: file.display().to_string(), capacity, body, ..Tape::default() };
-        watch.lock().tape = tape;
-        watch.written(cartridge, 0);
-        watch
+    pub fn new() -> Watch {
+        Watch { since: Instant::now(), all: Mutex::default() }
+    }
+
+    /// Another cartridge is in the drive, by this name. What is on it is known when it has been read.
+    pub fn loaded<D: Disk>(&self, file: Option<&OsStr>, cartridge: Option<&Cartridge<D>>) {
+        let file = file.map_or(String::new(), |f| f.display().to_string());
+        let (capacity, body) = cartridge.map_or((0, 0), Cartridge::room);
+        self.lock().tape = Tape { file, capacity, body, ..Tape::default() };
+        if let Some(c) = cartridge {
+            self.written(c, 0);
+        }
+    }
+
+    /// The cartridges in their places, by name.
+    pub fn placed(&self, names: Vec<Option<String>>) {
+        self.lock().places = names;
     }
 
     fn lock(&self) -> MutexGuard<'_, All> {

@@ -113,7 +113,7 @@ type Login = (Vec<u8>, Vec<u8>);
 /// The shortest times of logins, in turn, in a session that was given the challenge.
 fn login_times(logins: &[Login]) -> Vec<Duration> {
     let (mut out, mut variables) = (vec![0; proved::OUTPUT], vec![0; codes::STORE_LENGTH]);
-    let mut session = proved::open(0, &mut out).session;
+    let mut session = proved::open(&[1, 0, 0, 0, 0, 0, 0, 0, 0], 0, &mut out).session;
     let mut call = |session, accounts: &[u8], record: &[u8]| {
         let (image, variables, out) = (&mut [], &mut variables, &mut out);
         let done = proved::request(session, accounts, &CHALLENGE, &[], false, image, variables, record, 0, out);

@@ -144,7 +144,7 @@ fn runs(seed: u64, failing: bool) -> (Vec<u8>, Vec<Run>) {
     let disk = Recorder::default();
     let Recorder { steps, fails_in } = disk.clone();
     let mut out = vec![0; OUTPUT];
-    let session = proved::open(0, &mut out).session;
+    let session = proved::open(&[1, 0, 0, 0, 0, 0, 0, 0, 0], 0, &mut out).session;
     let variables = vec![0; codes::STORE_LENGTH];
     let accounts = lent(&[(codes::MD5_AUTH, "vault", "noon")]);
     let mut deck = Deck { session, accounts, out, variables, cartridge: Cartridge::new(image, disk) };

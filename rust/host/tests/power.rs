@@ -267,15 +267,18 @@ fn power_cut_after_any_call_that_makes_a_cartridge() {
 
 fn judge_names(calls: &[String], tape: &Path) {
     let (mut dirty, mut named, mut lasting, mut told) = (false, false, false, false);
-    let folder = tape.parent().unwrap();
+    let (folder, name) = (tape.parent().unwrap(), tape.file_name().unwrap());
+    // The name that it has until then, which is none of a library's.
+    let until = format!("{}/.{}.new-", folder.display(), name.display());
+    let is_it = |name: &str| Path::new(name) == tape || name.starts_with(&until);
     for call in calls {
         match call.split(' ').collect::<Vec<_>>()[..] {
             ["pwrite", name, ..] => {
-                assert!(name.starts_with(text_of(tape)) && !named, "{calls:?}");
+                assert!(is_it(name) && !named, "{calls:?}");
                 dirty = true;
             }
             ["fsync", name] if Path::new(name) == folder => lasting = named,
-            ["fsync", name] if name.starts_with(text_of(tape)) => dirty = false,
+            ["fsync", name] if is_it(name) => dirty = false,
             ["link", _, name] if Path::new(name) == tape => {
                 assert!(!dirty, "{calls:?}");
                 named = true;

@@ -35,7 +35,7 @@ pub fn session(s: &State) -> Session {
         tape: Tape { opened: s.tape.open, writable: s.tape.writable, position: s.tape.position as usize },
         changer: {
             let [key, code, qualifier] = s.changer.sense;
-            Changer { opened: s.changer.open, key, code, qualifier }
+            Changer { opened: s.changer.open, key, code, qualifier, slots: s.changer.slots }
         },
     }
 }
@@ -69,7 +69,11 @@ pub fn state(s: &Session) -> State {
             origin: s.mover.origin as u64,
         },
         tape: state::Tape { open: s.tape.opened, writable: s.tape.writable, position: s.tape.position as u64 },
-        changer: state::Changer { open: s.changer.opened, sense: [s.changer.key, s.changer.code, s.changer.qualifier] },
+        changer: state::Changer {
+            open: s.changer.opened,
+            sense: [s.changer.key, s.changer.code, s.changer.qualifier],
+            slots: s.changer.slots,
+        },
     }
 }
 
@@ -85,16 +89,21 @@ const CHALLENGE: [&str; 8] = [
     "challenge.7",
 ];
 
+/// The places of the changer.
+const SLOTS: [&str; 9] =
+    ["drive", "slot.16", "slot.17", "slot.18", "slot.19", "slot.20", "slot.21", "slot.22", "slot.23"];
+
 /// Every field of a session by its name, for scripts and differences.
 pub fn fields(s: &Session) -> Vec<(&'static str, u64)> {
     let challenge = s.login.challenge.chunks(8).map(|b| u64::from_be_bytes(b.try_into().unwrap()));
-    numbers(s).into_iter().chain(CHALLENGE.into_iter().zip(challenge)).collect()
+    let slots = SLOTS.into_iter().zip(s.changer.slots.map(u64::from));
+    numbers(s).into_iter().chain(CHALLENGE.into_iter().zip(challenge)).chain(slots).collect()
 }
 
 /// Fields that are numbers.
 macro_rules! named {
     ($($name:literal $($path:ident).+ : $t:ident),* $(,)?) => {
-        /// All but the challenge.
+        /// All but the challenge and the slots.
         pub fn numbers(s: &Session) -> Vec<(&'static str, u64)> {
             vec![$(($name, s.$($path).+ as u64)),*]
         }
@@ -103,6 +112,10 @@ macro_rules! named {
             match name {
                 $($name => s.$($path).+ = named!(@cast $t x),)*
                 _ => {
+                    if let Some(i) = SLOTS.iter().position(|n| *n == name) {
+                        s.changer.slots[i] = x as u32;
+                        return Some(());
+                    }
                     let i = CHALLENGE.iter().position(|n| *n == name)?;
                     s.login.challenge[8 * i..8 * i + 8].copy_from_slice(&x.to_be_bytes());
                 }

@@ -3,6 +3,7 @@
 use std::collections::BTreeMap;
 
 use crate::accounts;
+use crate::changers;
 use crate::convert::state;
 use crate::lists;
 use crate::logins::{self, Met};
@@ -32,10 +33,10 @@ fn numbers(message: u32) -> &'static [u32] {
         0x200 => &[0, 3, 4, 16],
         0x201 | 0x202 | 0x204 => &[0, 4, 6],
         0x206 => &[0, 4, 6, 9],
-        0x300 => &[0, 3, 4, 9, 15, 16],
+        0x300 => &[0, 3, 4, 9, 10, 15, 16],
         0x301 => &[0, 4, 6, 19],
         0x302 => &[0, 4, 6, 7],
-        0x303 => &[0, 1, 4, 5, 6, 7, 9, 12, 13, 19],
+        0x303 => &[0, 4, 5, 6, 7, 9, 12, 13, 19],
         0x304 => &[0, 4, 5, 6, 7, 9, 13, 19],
         0x305 => &[0, 4, 6, 7, 9, 12, 13, 19],
         0x400 | 0xa00 => &[0, 4],
@@ -101,6 +102,20 @@ const SIZED: [u32; 3] = [0xa05, 0xa01, 0xa09];
 
 /// 02 No. 9: "26 for record size 0 is never given afterwards", but on a session that was handed in.
 const NEVER: &str = "size 0: on a session that calls alone made";
+
+/// 01: "1002 if the session breaks a relation listed in docs/ (none that calls give does)".
+const NEVER_BROKEN: &str = "a relation that is broken: on a session that calls alone made";
+
+/// 02 No. 7: "from one that names none twice (else 1002), passed on from call to call, each cartridge is in exactly
+/// one slot or in the drive".
+const NEVER_LOST: &str = "a cartridge that is lost or found: on a session that calls alone made";
+
+/// The cartridges of a session, wherever they are.
+fn cartridges(s: &Session) -> Vec<u32> {
+    let mut all: Vec<u32> = s.changer.slots.into_iter().filter(|n| *n != 0).collect();
+    all.sort();
+    all
+}
 
 const TO_TAPE: [&str; 9] = [
     "(1) not running",
@@ -287,6 +302,18 @@ fn number(sent: &[u8]) -> Option<u32> {
     Some(if length == 28 { word(sent, 24) } else { word(sent, place) })
 }
 
+/// 02 No. 7: MTIO 6 as the tape and the mover are.
+const OFF_LINE: [&str; 6] = ["read-only", "writable", "PAUSED", "HALTED", "not at the beginning", "a count"];
+
+/// 02 No. 7: tape open while the drive is empty, and what comes before and after that.
+const NOT_LOADED: [(&str, u32); 5] = [
+    ("an empty drive", 10),
+    ("an empty drive and a damaged image", 10),
+    ("an empty drive and another name", 16),
+    ("an empty drive and another mode", 9),
+    ("a damaged image", 15),
+];
+
 /// Everything that has to be reached at least once.
 pub fn wanted() -> Vec<String> {
     let mut all = vec!["reply unknown 1".to_string()];
@@ -302,12 +329,15 @@ pub fn wanted() -> Vec<String> {
         (3, &[0, 12, 13]),
         (4, &[0]),
         (5, &[0, 13]),
-        (6, &[1]),
+        (6, &[0, 6, 7, 19]),
         (7, &[9]),
     ] {
         all.extend(numbers.iter().map(|n| format!("mtio op {op} {n}")));
     }
     all.push("mtio op 5 count 0".into());
+    all.extend(OFF_LINE.map(|case| format!("mtio op 6, {case}: 0")));
+    all.extend(NOT_LOADED.map(|(case, number)| format!("tape open with {case}: {number}")));
+    all.extend(changers::wanted().into_iter().map(|case| format!("changer {case}")));
     // Pairs that calls reach: each end apart with each other, and the joined ones. PAUSED by LOCAL needs data ACTIVE.
     for d in DATA_APART {
         all.extend(MOVER_APART.map(|m| format!("pair {d}, {m}")));
@@ -337,8 +367,11 @@ pub fn wanted() -> Vec<String> {
         all.push(format!("{call} closed"));
     }
     all.push("open 1001".into());
+    all.push("open 1002".into());
+    all.push("1002 named twice".into());
+    all.push("open 1001, a list that names one twice".into());
     all.extend(SIZED.map(|message| format!("size 0: reply {message:03x} 26")));
-    all.extend((1..=10).map(|line| format!("1002 line {line}")));
+    all.extend((1..=12).map(|line| format!("1002 line {line}")));
     all.extend(EDGES.map(|e| format!("edge {e}")));
     all.extend(
         ["counter wraps", "moved wraps", "processed wraps", "closed and 1001", "closed and 1002"].map(String::from),
@@ -357,6 +390,14 @@ impl Counts {
             return self.listing(*room, given.code, &given.sent, &world.accounts);
         }
         let Some((call, tcp)) = call_name(step, before) else { return };
+        if world.natural && call != "open" {
+            if given.code == 1002 {
+                self.add(NEVER_BROKEN.into());
+            }
+            if cartridges(before) != cartridges(&world.session) {
+                self.add(NEVER_LOST.into());
+            }
+        }
         if given.code != 0 {
             self.add(format!("{call} {}", given.code));
             if given.rule == "store of another length" {
@@ -368,6 +409,12 @@ impl Counts {
             if seen.closed_before && call != "open" {
                 self.add(format!("closed and {}", given.code));
             }
+            if let Step::Open { slots, .. } = step
+                && given.code == 1001
+                && (0..9).any(|i| slots[i] != 0 && slots[i + 1..].contains(&slots[i]))
+            {
+                self.add("open 1001, a list that names one twice".into());
+            }
             return;
         }
         self.add(format!("{}{call} {}", if tcp { "by TCP, " } else { "" }, given.rule));
@@ -376,6 +423,7 @@ impl Counts {
             self.addresses(step, &given.sent, before);
             self.environment(step, seen, before, world);
             self.logins(step, &given.sent, before, world);
+            self.changer(step, &given.sent, before, world);
         }
         self.messages(step, &given.sent);
         self.sizes(&given.sent, before, world.natural);
@@ -484,6 +532,35 @@ impl Counts {
         };
         for case in cases {
             self.add(format!("{what} {case}: {number}"));
+        }
+    }
+
+    /// 02 No. 7: execute CDB, MTIO 6 and tape open.
+    fn changer(&mut self, step: &Step, sent: &[u8], before: &Session, world: &World) {
+        let (Step::Request { input, .. }, Some(number)) = (step, number(sent)) else { return };
+        let (body, t) = (&input[28..], &before.tape);
+        match word(input, 16) {
+            0x206 if number == 0 => {
+                for case in changers::cases(body, sent, before, &world.session) {
+                    self.add(format!("changer {case}"));
+                }
+            }
+            0x303 if number == 0 && word(body, 0) == 6 => {
+                let state = before.mover.state_name();
+                let tests =
+                    [!t.writable, t.writable, state == "PAUSED", state == "HALTED", t.position > 0, word(body, 4) > 0];
+                for (case, _) in OFF_LINE.into_iter().zip(tests).filter(|(_, applies)| *applies) {
+                    self.add(format!("mtio op 6, {case}: 0"));
+                }
+            }
+            0x300 if matches!(number, 9 | 10 | 15 | 16) => {
+                let (empty, damaged) = (before.changer.slots[0] == 0, !proved::sound(&world.image));
+                let tests = [empty, empty && damaged, empty && number == 16, empty && number == 9, damaged && !empty];
+                for ((case, _), _) in NOT_LOADED.into_iter().zip(tests).filter(|(_, applies)| *applies) {
+                    self.add(format!("tape open with {case}: {number}"));
+                }
+            }
+            _ => {}
         }
     }
 
@@ -648,9 +725,9 @@ impl Counts {
         wanted().into_iter().filter(|key| !self.0.contains_key(key)).collect()
     }
 
-    /// How often came what no sequence of calls may lead to.
-    pub fn never(&self) -> u64 {
-        self.get(NEVER)
+    /// What came that no sequence of calls may lead to.
+    pub fn never(&self) -> Vec<&'static str> {
+        [NEVER, NEVER_BROKEN, NEVER_LOST].into_iter().filter(|what| self.get(what) > 0).collect()
     }
 
     fn get(&self, key: &str) -> u64 {
@@ -670,7 +747,7 @@ impl Counts {
     pub fn print(&self) {
         println!("replies, number: how often");
         for message in HANDLED {
-            let row: Vec<String> = [0, 1, 3, 4, 5, 6, 7, 9, 12, 13, 15, 16, 18, 19, 22, 23, 25, 26]
+            let row: Vec<String> = [0, 1, 3, 4, 5, 6, 7, 9, 10, 12, 13, 15, 16, 18, 19, 22, 23, 25, 26]
                 .iter()
                 .map(|n| (n, self.get(&format!("reply {message:03x} {n}"))))
                 .filter(|(_, count)| *count > 0)
@@ -681,6 +758,8 @@ impl Counts {
         println!("  unknown  1: {}", self.get("reply unknown 1"));
         for (title, start) in [
             ("MTIO, op number", "mtio op "),
+            ("tape open with", "tape open with "),
+            ("changer", "changer "),
             ("data and mover", "pair "),
             ("to tape", "to tape "),
             ("from tape", "from tape "),

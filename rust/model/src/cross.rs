@@ -3,6 +3,7 @@
 //! relation are tried too.
 
 use crate::accounts::{self, Entry, digest};
+use crate::changers;
 use crate::convert::session;
 use crate::lists;
 use crate::logins::{by_md5, by_text};
@@ -11,7 +12,7 @@ use crate::model::accounts::{Challenge, MD5, TEXT};
 use crate::model::requests::{Auth, HANDLED, Request, address_list, decode};
 use crate::script::Step;
 use crate::stores;
-use proved::Session;
+use proved::{Session, Slots};
 use wire::{Header, quads, text, words};
 
 /// A data end or a mover: its state and its address type.
@@ -81,6 +82,12 @@ fn bodies(message: u32) -> Vec<Vec<u8>> {
                 cdb(&[3, 0, 0, 0], 18),
                 cdb(&[0x12; 16], 0),
                 cdb(&[0; 17], 18),
+                cdb(&changers::moving(0, 1, 16), 18),
+                cdb(&changers::moving(0, 17, 16), 18),
+                cdb(&changers::moving(0, 17, 1), 18),
+                cdb(&changers::moving(0, 17, 1)[..11], 18),
+                cdb(&changers::status(0, 0, 10, 100), 500),
+                cdb(&changers::status(0, 0, 10, 500)[..11], 500),
             ]
         }
         0x300 => {
@@ -231,8 +238,11 @@ fn images() -> [Vec<u8>; 3] {
     [sound, unsound, full]
 }
 
+/// A cartridge in the drive and two in slots.
+const SLOTS: Slots = [7, 0, 3, 0, 0, 0, 0, 0, u32::MAX];
+
 fn rest(authorized: bool) -> Session {
-    let mut s = State::at_rest();
+    let mut s = State::at_rest(SLOTS);
     s.authorized = authorized;
     (s.challenged, s.challenge) = (true, NEWEST);
     s.number = 2;
@@ -278,6 +288,9 @@ pub fn all(each: EachOf) -> bool {
     let plain: Each =
         &mut |image, session, step| each(&Lent { image, store: &store, accounts: &accounts }, session, step);
     devices(plain, &images)
+        && opens(plain, &images)
+        && changers(plain, &images)
+        && loads(plain, &images)
         && requests_by_pair(plain, &images)
         && types(plain, &images)
         && moves_by_pair(plain, &images)
@@ -501,6 +514,118 @@ fn devices(each: Each, [sound, ..]: &[Vec<u8>; 3]) -> bool {
         }
     }
     true
+}
+
+/// Slot lists: none, one place full, all but one, all; numbers at their limits.
+fn slot_lists() -> Vec<Slots> {
+    let all = [5, 1, 2, 3, 4, 6, u32::MAX, 0x100, 0x1_0000];
+    let one = (0..9).map(|i| std::array::from_fn(|j| if i == j { all[i] } else { 0 }));
+    let but_one = (0..9).map(|i| std::array::from_fn(|j| if i == j { 0 } else { all[j] }));
+    [[0; 9], all, SLOTS, [0, 0, 3, 0, 0, 0, 0, 0, 7]].into_iter().chain(one).chain(but_one).collect()
+}
+
+/// Lists that name one twice: every two places, with nothing in the others, or something.
+fn twice() -> Vec<Slots> {
+    let pairs = || (0..9).flat_map(|i| (0..i).map(move |j| (i, j)));
+    let alone = pairs().map(|(i, j)| std::array::from_fn(|k| if k == i || k == j { 0x100 } else { 0 }));
+    let among = pairs().map(|(i, j)| std::array::from_fn(|k| if k == i { j } else { k } as u32 + 1));
+    // No two are the same, though bytes of them are.
+    let near = [[1, 0x101, 0x1_0001, 0x100_0001, 0, 0, 0, 0, 0], [0, 0x100, 0, 0, 0x1_0000, 0, 0, 0, 0x100_0000]];
+    alone.chain(among).chain(near).collect()
+}
+
+/// 02 No. 7: sessions opened with every kind of list, into outputs at their limits.
+fn opens(each: Each, [sound, ..]: &[Vec<u8>; 3]) -> bool {
+    slot_lists().into_iter().chain(twice()).all(|slots| {
+        [0, 40, ROOM - 1, ROOM, ROOM + 1]
+            .into_iter()
+            .all(|room| each(sound, &rest(true), &Step::Open { time: 3, room, slots }))
+    })
+}
+
+/// 02 No. 7: MOVE MEDIUM from everywhere to everywhere, and READ ELEMENT STATUS of every type from every start, so
+/// many, and cut at every byte; with flags and reserved bits, and of other lengths.
+fn changer_steps() -> Vec<Step> {
+    let mut all: Vec<(Vec<u8>, u32)> = vec![];
+    let addresses = changers::ADDRESSES;
+    for (transport, from, to) in
+        [0, 1, 256, 65_535].into_iter().flat_map(|t| addresses.map(|from| addresses.map(|to| (t, from, to)))).flatten()
+    {
+        all.push((changers::moving(transport, from, to).to_vec(), 18));
+    }
+    for (kind, start) in (0..16).flat_map(|kind| changers::STARTS.map(|start| (kind, start))) {
+        all.extend(changers::NUMBERS.map(|number| (changers::status(kind, start, number, 500).to_vec(), 500)));
+    }
+    for n in 0..=160 {
+        all.push((changers::status(0, 0, 10, n).to_vec(), 500));
+        all.push((changers::status(0, 0, 10, 500).to_vec(), n));
+        all.push((changers::status(2, 20, 3, n).to_vec(), 160 - n));
+    }
+    for (allocation, data_in) in [(0x100, 99), (0x1_0000, 99), (0xff_ffff, u32::MAX), (99, 0x100), (99, 0x1_0000)] {
+        all.push((changers::status(0, 0, 10, allocation).to_vec(), data_in));
+    }
+    for whole in [changers::moving(0, 17, 16), changers::moving(0, 1, 18), changers::status(0, 0, 10, 500)] {
+        for i in 1..12 {
+            all.extend([0x01, 0x0f, 0x10, 0x80, 0xff].map(|bits| {
+                let mut other = whole;
+                other[i] |= bits;
+                (other.to_vec(), 500)
+            }));
+        }
+        for n in 1..18 {
+            let mut other = whole.to_vec();
+            other.resize(n, 0xff);
+            all.push((other, 500));
+        }
+    }
+    all.into_iter().map(|(cdb, data_in)| request(0x206, &changers::execute(&cdb, data_in))).collect()
+}
+
+fn changers(each: Each, [sound, ..]: &[Vec<u8>; 3]) -> bool {
+    let steps = changer_steps();
+    for (slots, opened) in slot_lists().into_iter().flat_map(|slots| [false, true].map(|opened| (slots, opened))) {
+        let mut s = rest(true);
+        (s.changer.opened, s.changer.slots) = (true, slots);
+        (s.tape.opened, s.tape.writable) = (opened, opened);
+        (s.changer.key, s.changer.code, s.changer.qualifier) = if opened { (0, 0, 0) } else { (1, 2, 3) };
+        if !steps.iter().all(|step| each(sound, &s, step)) {
+            return false;
+        }
+    }
+    true
+}
+
+/// 02 No. 7: every request, move and event beside a drive that is loaded or empty, and lists that name one twice,
+/// with the tape closed and open, sound and not, and the mover in each state.
+fn loads(each: Each, [sound, unsound, _]: &[Vec<u8>; 3]) -> bool {
+    let requests = HANDLED.iter().flat_map(|m| requests(*m));
+    let steps: Vec<Step> = requests.chain(events()).chain(streams()).chain(destinations()).collect();
+    let lists = [SLOTS, [0; 9], [0, 0, 3, 0, 0, 0, 0, 0, 7], [7, 7, 0, 0, 0, 0, 0, 0, 0], [1, 0, 9, 0, 0, 0, 0, 0, 9]];
+    for (slots, (image, mover)) in
+        lists.into_iter().flat_map(|l| [sound, unsound].into_iter().flat_map(move |i| (0..5).map(move |m| (l, (i, m)))))
+    {
+        for (opened, writable, closed) in
+            [(false, false, false), (true, false, false), (true, true, false), (true, true, true)]
+        {
+            let mut s = rest(true);
+            (s.changer.opened, s.changer.slots, s.closed) = (true, slots, closed);
+            (s.tape.opened, s.tape.writable, s.tape.position) = (opened, writable, 2);
+            with_ends(&mut s, ((0, 0), (mover, (mover != 0) as u32)));
+            (s.mover.mode, s.mover.left) = (0, 4);
+            with_window(&mut s, WINDOWS[2]);
+            if !steps.iter().all(|step| each(image, &s, step)) {
+                return false;
+            }
+        }
+    }
+    // Each two places, at each call that has a session.
+    let few = [request(0x400, &[]), request(0x206, &changers::execute(&changers::moving(0, 1, 16), 0))];
+    let calls: Vec<Step> = few.into_iter().chain(events()).chain(streams()).chain(destinations()).collect();
+    twice().into_iter().flat_map(|slots| [false, true].map(|opened| (slots, opened))).all(|(slots, opened)| {
+        let mut s = rest(true);
+        (s.changer.opened, s.changer.slots, s.tape.opened) = (true, slots, opened);
+        calls.iter().all(|step| each(sound, &s, step))
+    })
 }
 
 fn requests_by_pair(each: Each, [sound, unsound, _]: &[Vec<u8>; 3]) -> bool {

@@ -4,6 +4,7 @@
 use std::collections::VecDeque;
 
 use crate::accounts::{self, Entry, digest};
+use crate::changers;
 use crate::convert::{numbers, set_field};
 use crate::images;
 use crate::lists;
@@ -14,7 +15,7 @@ use crate::random::Random;
 use crate::script::Step;
 use crate::stores;
 use crate::world::World;
-use proved::Session;
+use proved::{Session, Slots};
 use wire::{Header, LAST, put_word, word_at};
 
 const ROOM: usize = 36_864;
@@ -35,6 +36,8 @@ pub struct Driver {
     wild: u64,
     /// Whether most steps are logins.
     logins: bool,
+    /// Whether many steps are the changer's.
+    changes: bool,
     /// A sound image to lend again after a damaged one.
     spare: Option<Vec<u8>>,
     queue: VecDeque<Step>,
@@ -59,6 +62,7 @@ impl Driver {
             stops: 0,
             wild: 0,
             logins: false,
+            changes: false,
             spare: None,
             queue: VecDeque::new(),
             closed_calls: 0,
@@ -80,14 +84,35 @@ impl Driver {
         self.stops = r.pick(&[60, 60, 60, 6]);
         self.wild = r.pick(&[2, 8, 8, 20, 60]);
         self.logins = r.percent(5);
+        self.changes = r.percent(10);
         self.spare = None;
         self.queue.clear();
         self.closed_calls = 0;
         let accounts = if r.percent(10) { accounts::any(r) } else { accounts::of(&accounts::right(r)) };
         let image = if r.percent(4) { images::damaged(r, self.size) } else { images::sound(r, self.size) };
         let store = if r.percent(70) { vec![0; stores::LENGTH] } else { stores::any(r) };
-        let open = Step::Open { time: self.time(), room: self.room() };
+        let (slots, right) = self.slots();
+        // A list that names one twice meets a short output more often.
+        let room = if right || self.r.percent(70) { self.room() } else { ROOM - 1 };
+        let open = Step::Open { time: self.time(), room, slots };
         vec![Step::Accounts(accounts), Step::Image(image), Step::Store(store), open]
+    }
+
+    /// The slot list that a session begins with, and whether it names none twice; mostly there is a cartridge in the
+    /// drive.
+    fn slots(&mut self) -> (Slots, bool) {
+        let r = &mut self.r;
+        let full = r.pick(&[0, 20, 50, 80, 100]);
+        let slots = match r.below(50) {
+            0 => [0; 9],
+            1 | 2 => {
+                let slots = changers::list(r, full, true);
+                return (changers::named_twice(r, slots), false);
+            }
+            3..=8 => changers::list(r, full.max(20), false),
+            _ => changers::list(r, full, true),
+        };
+        (slots, true)
     }
 
     /// None: the session has come to its end.
@@ -192,6 +217,9 @@ impl Driver {
         if self.r.percent(2) {
             return self.changer(s);
         }
+        if self.changes && self.r.percent(50) {
+            return self.changer_work(w);
+        }
         if let Some(image) = self.spare.clone()
             && self.r.percent(60)
         {
@@ -211,7 +239,11 @@ impl Driver {
         if self.r.percent(1) {
             self.tcp = self.r.pick(&[(false, false), (false, true), (true, false), (true, true)]);
         }
-        if !s.tape.opened && self.r.percent(90) {
+        if !s.tape.opened && s.changer.slots[0] == 0 && self.r.percent(60) {
+            return self.load(w);
+        }
+        let opening = if s.changer.slots[0] == 0 { 10 } else { 90 };
+        if !s.tape.opened && self.r.percent(opening) {
             let mode = if self.mode == 0 && self.r.percent(95) { 1 } else { self.r.pick(&[0, 1]) };
             return self.tape_open(b"tape0", mode);
         }
@@ -451,6 +483,7 @@ impl Driver {
             4 => return self.plain(0x403),
             5 => return Step::End { time: self.time(), room: self.room(), ok: self.r.percent(50) },
             6..=8 => return self.plain(0x301),
+            43..=45 => return self.words(0x303, &[6, 0]),
             9..=14 => return self.tape_work(),
             15..=18 => return self.swap(),
             19..=20 => return self.to_tape(s),
@@ -746,7 +779,7 @@ impl Driver {
             }
             4 => self.words(0x303, &[4, 0]),
             _ => {
-                let op = self.r.pick(&[0, 1, 2, 3, 5]);
+                let op = if self.r.percent(4) { 6 } else { self.r.pick(&[0, 1, 2, 3, 5]) };
                 let count = self.r.pick(&[0, 1, 1, 1, 2, 2, 3, 5, u32::MAX]);
                 self.words(0x303, &[op, count])
             }
@@ -763,11 +796,50 @@ impl Driver {
             0 => self.plain(0x201),
             1 => self.plain(0x204),
             2 => self.plain(0x202),
-            _ => self.cdb(),
+            _ => self.cdb(s),
         }
     }
 
-    fn cdb(&mut self) -> Step {
+    /// The drive is empty: a cartridge from a slot, if there is one; now and then a tape is opened all the same.
+    fn load(&mut self, w: &World) -> Step {
+        let s = &w.session;
+        if self.r.percent(12) {
+            return self.some(w, 0x300);
+        }
+        if self.r.percent(3) {
+            let step = self.tape_open(b"tape0", 1);
+            self.queue.extend([step, Step::Image(w.image.clone())]);
+            return Step::Image(images::damaged(&mut self.r, self.size));
+        }
+        let full: Vec<u16> = (1..9).filter(|i| s.changer.slots[*i] != 0).map(changers::address).collect();
+        if !s.changer.opened || full.is_empty() {
+            return self.changer(s);
+        }
+        let from = self.r.pick(&full);
+        self.request(0x206, &changers::execute(&changers::moving(0, from, 1), 0))
+    }
+
+    /// Moves and states of the changer, tapes opened and closed between them, and other cartridges.
+    fn changer_work(&mut self, w: &World) -> Step {
+        let s = &w.session;
+        match self.r.below(20) {
+            0 | 1 => self.some(w, 0x300),
+            2 => self.words(0x303, &[6, 1]),
+            3 => self.plain(0x301),
+            // The host lends the image of the cartridge that came into the drive.
+            4 => {
+                let size = self.size;
+                Step::Image(images::sound(&mut self.r, size))
+            }
+            _ => self.changer(s),
+        }
+    }
+
+    fn cdb(&mut self, s: &Session) -> Step {
+        if self.r.percent(60) {
+            let (cdb, data_in) = changers::cdb(&mut self.r, s);
+            return self.request(0x206, &changers::execute(&cdb, data_in));
+        }
         let n = self.r.pick(&[0, 1, 4, 5, 6, 6, 6, 10, 12, 16, 17, 40]);
         let mut cdb = self.r.bytes(n);
         if n > 0 {
@@ -908,7 +980,7 @@ impl Driver {
                 self.opaque(&mut body, name);
                 self.request(message, &body)
             }
-            0x206 => self.cdb(),
+            0x206 => self.cdb(s),
             0x300 => {
                 let name = if self.r.percent(50) { b"tape0" } else { self.r.pick(&names) };
                 let mode = self.r.pick(&[0, 1, 1, 2, u32::MAX]);
@@ -1020,8 +1092,9 @@ impl Driver {
         let before = w.session;
         let mut s = before;
         let size = s.mover.size.max(1) as u64;
-        match self.r.below(15) {
+        match self.r.below(17) {
             14 => self.other_login(&mut s),
+            15 | 16 => self.other_slots(&mut s),
             0 => s.sequence = u32::MAX - self.r.below(3) as u32,
             1 if s.mover.mode == 1 && s.mover.state > 1 => {
                 s.mover.moved = u64::MAX - self.r.below(2 * size);
@@ -1055,6 +1128,24 @@ impl Driver {
         }
         self.queue.push_back(Step::Session(s));
         self.follow(w, &s);
+    }
+
+    /// Another list: one that names a cartridge twice, or has none in the drive, or is right.
+    fn other_slots(&mut self, s: &mut Session) {
+        let r = &mut self.r;
+        s.changer.slots = match r.below(6) {
+            0 | 1 => changers::named_twice(r, s.changer.slots),
+            2 => changers::list(r, 50, false),
+            3 => {
+                let slots = changers::list(r, 50, true);
+                changers::named_twice(r, slots)
+            }
+            4 => changers::list(r, 100, true),
+            _ => {
+                s.changer.opened = true;
+                changers::list(r, 50, true)
+            }
+        };
     }
 
     /// One to three fields of a session, whatever they are.

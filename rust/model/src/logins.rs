@@ -340,6 +340,7 @@ mod tests {
     use super::*;
     use crate::convert::session;
     use crate::model::State;
+    use crate::model::state::EMPTY;
 
     const NEWEST: Challenge = [1; 64];
     const LENT: Challenge = [2; 64];
@@ -347,7 +348,7 @@ mod tests {
 
     /// The cases of a login by these accounts; not yet logged in.
     fn told(entries: &[Entry], challenged: bool, body: Vec<u8>) -> Vec<String> {
-        let mut s = session(&State::at_rest());
+        let mut s = session(&State::at_rest(EMPTY));
         (s.login.challenged, s.login.challenge) = (challenged, NEWEST);
         let accounts = accounts::of(entries);
         cases(&body, &Met { session: &s, accounts: &accounts, lent: &LENT, older: Some(OLDER) })

@@ -4,7 +4,7 @@
 //!     image LENGTH HEX                 this image is lent from here on; zeros follow the bytes given
 //!     store LENGTH HEX                 this store of the environment is lent from here on; zeros follow the bytes given
 //!     session FIELD=VALUE ..           the session is replaced by this one
-//!     open TIME ROOM                   the calls; ROOM is the output's length
+//!     open TIME ROOM SLOTS             the calls; ROOM is the output's length, SLOTS nine numbers with commas between
 //!     request TIME ROOM CHALLENGE MADE LIST INPUT
 //!                                      the challenge that is lent (64 bytes; zeros follow those given), whether a
 //!                                      connection is made, and the list of addresses that is lent
@@ -17,7 +17,7 @@
 
 use crate::convert::{fields, set_field};
 use crate::model::accounts::Challenge;
-use proved::Session;
+use proved::{Session, Slots};
 
 #[derive(Clone)]
 pub enum Step {
@@ -25,7 +25,7 @@ pub enum Step {
     Image(Vec<u8>),
     Store(Vec<u8>),
     Session(Session),
-    Open { time: u32, room: usize },
+    Open { time: u32, room: usize, slots: Slots },
     Request { time: u32, room: usize, challenge: Challenge, made: bool, list: Vec<u8>, input: Vec<u8> },
     To { time: u32, room: usize, last: bool, stream: Vec<u8> },
     From { time: u32, room: usize, destination: usize },
@@ -78,7 +78,9 @@ impl Step {
                 let all: Vec<String> = fields(s).iter().map(|(name, x)| format!("{name}={x}")).collect();
                 format!("session {}", all.join(" "))
             }
-            Step::Open { time, room } => format!("open {time} {room}"),
+            Step::Open { time, room, slots } => {
+                format!("open {time} {room} {}", slots.map(|n| n.to_string()).join(","))
+            }
             Step::Request { time, room, challenge, made, list, input } => {
                 let challenge = hex(without_zeros(challenge));
                 format!("request {time} {room} {challenge} {} {} {}", *made as u8, hex(list), hex(input))
@@ -116,7 +118,10 @@ impl Step {
                 all.resize(whole(0)?, 0);
                 if kind == "image" { Step::Image(all) } else { Step::Store(all) }
             }
-            "open" => Step::Open { time: time()?, room: room()? },
+            "open" => {
+                let slots: Option<Vec<u32>> = w.get(2)?.split(',').map(|n| n.parse().ok()).collect();
+                Step::Open { time: time()?, room: room()?, slots: slots?.try_into().ok()? }
+            }
             "request" => {
                 let mut lent = bytes(2)?;
                 lent.resize(64, 0);

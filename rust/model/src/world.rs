@@ -4,6 +4,7 @@ use crate::convert;
 use crate::model::State;
 use crate::model::accounts::Challenge;
 use crate::model::calls::{self, Given, Kept, Lent};
+use crate::model::state::EMPTY;
 use crate::script::Step;
 use crate::stores;
 use proved::{Answer, Listed, Moved, Session};
@@ -42,7 +43,7 @@ fn filled(buffer: &mut Vec<u8>, n: usize) {
 impl World {
     pub fn new() -> World {
         World {
-            session: convert::session(&State::at_rest()),
+            session: convert::session(&State::at_rest(EMPTY)),
             image: vec![],
             store: vec![0; stores::LENGTH],
             accounts: vec![],
@@ -108,8 +109,8 @@ impl World {
     fn model(&mut self, step: &Step, s: &mut State, kept: &mut Kept, room: usize) -> Given {
         let Kept { image, .. } = &mut *kept;
         match step {
-            Step::Open { time, .. } => {
-                let (next, given) = calls::open(*time, room);
+            Step::Open { time, slots, .. } => {
+                let (next, given) = calls::open(slots, *time, room);
                 *s = next;
                 given
             }
@@ -131,7 +132,7 @@ impl World {
     fn core(&mut self, step: &Step) -> Moved {
         let (s, image, store, out) = (self.session, &mut self.image, &mut self.store, &mut self.out);
         let answer = match step {
-            Step::Open { time, .. } => proved::open(*time, out),
+            Step::Open { time, slots, .. } => proved::open(slots, *time, out),
             Step::Request { time, challenge, made, list, input, .. } => {
                 proved::request(s, &self.accounts, challenge, list, *made, image, store, input, *time, out)
             }

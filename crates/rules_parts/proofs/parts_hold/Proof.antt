@@ -38,9 +38,17 @@ returns c =
       mover-joined = mover-joined;
       ends = λ offset. end-endless offset endless refl;
       others = end-other;
-      begun = λ closed n. (refl, refl);
+      begun = λ closed n slots. (refl, refl);
       entered = λ g. (refl, refl, refl);
       given = λ c g. (refl, refl, refl);
+      changer = record {
+        begun = λ closed n slots. refl;
+        cleared = λ opened c. refl;
+        refused = λ key code qualifier c. refl;
+        held = λ slots c. refl;
+        pending = λ slots c. (refl, refl, refl);
+        opened = λ slots c. refl;
+      };
       untested = λ size offset h. right-length size offset endless (record { whole = λ n. absurd (n refl); starts = rw (end-endless offset endless refl) h; fits = rw (end-endless offset endless refl) (omega arith) });
     }
 

@@ -1,6 +1,6 @@
 -- Each arm: what its function ensures is the definition's clause for that request.
 use Rattle.rules.proofs.Serving.{text-is}
-use Rattle.rules.specs.ScsiService.{scsiStep}
+use Rattle.rules.specs.ScsiService.{scsiStep, scsiShown}
 use Rattle.wire_requests.specs.Within.{textsWithin}
 use native.Mathlib.Omega.{arith}
 use borrow.Author.Needs.{needs}
@@ -63,23 +63,23 @@ execute-cdb-requires : tie.Need-execute-cdb-requires
 execute-cdb-requires c κs = search needs
 
 returns : tie.Need-returns
-unfolding scsiStep
+unfolding scsiStep scsiShown
 returns c = rw (c .before .before .before .q .given .1, ← (c .before .is-changer .ensures)) (c .open-changer .ensures)
 
 returns-2 : tie.Need-returns-2
-unfolding scsiStep
+unfolding scsiStep scsiShown
 returns-2 c = rw (c .before .enum-told .given .1) (c .clear .ensures)
 
 returns-3 : tie.Need-returns-3
-unfolding scsiStep
+unfolding scsiStep scsiShown
 returns-3 c = rw (c .before .enum-told2 .given .1) (c .get-state .ensures)
 
 returns-4 : tie.Need-returns-4
-unfolding scsiStep
+unfolding scsiStep scsiShown
 returns-4 c = rw (c .before .enum-told3 .given .1) (c .clear2 .ensures)
 
 returns-5 : tie.Need-returns-5
-unfolding scsiStep
+unfolding scsiStep scsiShown
 returns-5 c = rw (c .before .before .before .before .q2 .given .1, ← text-is) (c .execute-cdb .ensures)
 
 pub serve-spec : {M : Type 1} → statement M

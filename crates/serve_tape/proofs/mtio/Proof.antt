@@ -16,7 +16,7 @@ use Rattle.tape_ops.proofs.mtio.Reads as mtio-reads
 use Rattle.rules_parts.proofs.types.Mover.holds_tape.Reads as holds-tape-reads
 use Rattle.serve_tape.proofs.is_protected.Reads as is-protected-reads
 use Rattle.serve_tape.proofs.is_refusal.Reads as is-refusal-reads
-use Rattle.serve_tape.proofs.moved_to.Reads as moved-to-reads
+use Rattle.serve_tape.proofs.after_mtio.Reads as after-mtio-reads
 
 returns : tie.Need-returns
 unfolding tapeMtio judge
@@ -52,8 +52,8 @@ returns-4 c = let a = c .before .before .before .before .before .before .before 
     let leaves = promises .leave (now (a .image)) (a .t .position) .mtio (a .op) (a .times) in
     (rw (← (e .is)) (sym (search picking depth 14)), left (λ (s : Spaced). s .error) _ _ _ _ _ e (c .before .is-refusal .ensures) (c .if4 .taken) leaves)
 
-moved-to-requires : tie.Need-moved-to-requires
-moved-to-requires c κs = search needs
+after-mtio-requires : tie.Need-after-mtio-requires
+after-mtio-requires c κs = search needs
 
 same-length-2 : tie.Need-same-length-2
 same-length-2 c = search needs
@@ -61,7 +61,7 @@ same-length-2 c = search needs
 returns-5 : tie.Need-returns-5
 unfolding tapeMtio judge
 returns-5 c = let e = c .before .before .before .before .before .mtio .ensures in
-    rw (c .moved-to .ensures, ← (e .is), e .image) (sym (search picking depth 14))
+    rw (c .after-mtio .ensures, ← (e .is), e .image) (sym (search picking depth 14))
 
 pub mtio-spec : {M : Type 1} → statement M
 mtio-spec =
@@ -76,6 +76,6 @@ mtio-spec =
     is-refusal-requires
     same-length
     returns-4
-    moved-to-requires
+    after-mtio-requires
     same-length-2
     returns-5)

@@ -23,17 +23,21 @@ returns-3 : tie.Need-returns-3
 unfolding tapeOpen judge
 returns-3 c = refused (search picking depth 10)
 
-sound-requires : tie.Need-sound-requires
-sound-requires c κs = search needs
-
 returns-4 : tie.Need-returns-4
 unfolding tapeOpen judge
 returns-4 c = refused (search picking depth 12)
 
+sound-requires : tie.Need-sound-requires
+sound-requires c κs = search needs
+
 returns-5 : tie.Need-returns-5
 unfolding tapeOpen judge
-returns-5 c = sym (search picking depth 12)
+returns-5 c = refused (search picking depth 14)
+
+returns-6 : tie.Need-returns-6
+unfolding tapeOpen judge
+returns-6 c = sym (search picking depth 14)
 
 pub open-tape-spec : {M : Type 1} → statement M
 open-tape-spec =
-    tie.close (tie.spec returns returns-2 returns-3 sound-requires returns-4 returns-5)
+    tie.close (tie.spec returns returns-2 returns-3 returns-4 sound-requires returns-5 returns-6)

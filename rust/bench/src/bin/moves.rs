@@ -78,9 +78,11 @@ fn random_data(random: &mut Random, m: &Mover) -> Data {
 
 /// One number of a session changed, so that it may break the relation, or a flag of it.
 fn disturb(random: &mut Random, s: &mut Session) {
-    match random.below(18) {
+    match random.below(20) {
         15 => s.source.address = random.below(3) as u32,
         16 => s.mover.address = random.below(3) as u32,
+        17 => s.changer.slots[0] = random.below(4) as u32,
+        18 => s.changer.slots[8] = random.below(4) as u32,
         0 => s.source.state = random.below(6) as u32,
         1 => s.mover.state = random.below(6) as u32,
         2 => s.mover.mode = random.below(3) as u32,
@@ -112,7 +114,13 @@ fn random_session(random: &mut Random, size: usize, entries: usize) -> Session {
         source: random_data(random, &mover),
         mover,
         tape: Tape { opened: true, writable: true, position },
-        changer: Changer { opened: random.below(2) == 0, key: 0, code: 0, qualifier: 0 },
+        changer: Changer {
+            opened: random.below(2) == 0,
+            key: 0,
+            code: 0,
+            qualifier: 0,
+            slots: [1, 0, 2, 0, 0, 0, 0, 0, 3],
+        },
     };
     if random.below(4) == 0 {
         disturb(random, &mut s);
@@ -257,7 +265,7 @@ impl Bed {
         let mut lens = vec![64; small];
         lens.resize(small + count, RECORD);
         let mut out = vec![0; OUTPUT];
-        let Answer { code, len, session } = proved::open(TIME, &mut out);
+        let Answer { code, len, session } = proved::open(&[1, 0, 0, 0, 0, 0, 0, 0, 0], TIME, &mut out);
         assert_eq!((code, len, session.sequence), (0, 40, 2), "a new session");
         Bed {
             image: image(small + count, &lens, lens.iter().sum()),

@@ -1,5 +1,6 @@
 //! A vault that is started and ended with a value, and what tests judge by.
 #![allow(dead_code, unused_imports)]
+pub mod changer;
 pub mod far;
 pub use host::client::{Client, Ended, TO_READ, TO_WRITE, Why};
 pub use host::own::{Running, noise};

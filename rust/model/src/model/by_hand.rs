@@ -28,7 +28,7 @@ pub fn record(message: u32, body: &[u8]) -> Vec<u8> {
 /// for three entries; an empty store.
 pub struct Desk {
     pub s: State,
-    image: Vec<u8>,
+    pub image: Vec<u8>,
     pub store: Vec<u8>,
     pub accounts: Vec<u8>,
     pub challenge: Challenge,
@@ -38,7 +38,7 @@ pub struct Desk {
 
 impl Desk {
     pub fn new() -> Desk {
-        let mut s = State::at_rest();
+        let mut s = State::at_rest([1, 0, 0, 0, 0, 0, 0, 0, 0]);
         (s.authorized, s.fresh, s.number) = (true, false, 2);
         (s.tape.open, s.tape.writable) = (true, true);
         (s.mover.record_size, s.mover.window) = (4, (0, 8));

@@ -4,6 +4,7 @@ use super::accounts::{self, Challenge};
 use super::record::{Notice, framed, sent};
 use super::refusals::{Outcome, refuse, refused};
 use super::requests::{Address, HANDLED, Request, decode};
+use super::state::{Changer, EMPTY, Slots};
 use super::{State, changer, connection, ends, environment, moves, relation, tape};
 
 pub const ROOM: usize = 36_864;
@@ -21,8 +22,10 @@ fn given(code: u32, rule: &'static str) -> Given {
     Given { code, count: 0, sent: vec![], rule }
 }
 
-const BROKEN: [&str; 11] =
-    ["", "line 1", "line 2", "line 3", "line 4", "line 5", "line 6", "line 7", "line 8", "line 9", "line 10"];
+const BROKEN: [&str; 13] = [
+    "", "line 1", "line 2", "line 3", "line 4", "line 5", "line 6", "line 7", "line 8", "line 9", "line 10", "line 11",
+    "line 12",
+];
 
 /// "Before all else the call is refused, and nothing written or changed: 1001 if the output is under 36,864 bytes, 1002
 /// if the session breaks a relation listed in docs/". "after it [closing] nothing is answered or changed."
@@ -49,14 +52,18 @@ fn notify(s: &mut State, time: u32, notices: &[Notice], out: &mut Vec<u8>) {
     }
 }
 
-/// "Opening a session sends connection status ... as number 1." With a short output the session that comes back is a
-/// closed one that sent nothing.
-pub fn open(time: u32, room: usize) -> (State, Given) {
-    let mut s = State::at_rest();
+/// "Opening a session sends connection status ... as number 1." 02 No. 7: the list is "one that names none twice
+/// (else 1002)". With a short output and with such a list the session that comes back is a closed one that sent
+/// nothing, whose list is empty (reading).
+pub fn open(slots: &Slots, time: u32, room: usize) -> (State, Given) {
+    let refused = |g: Given| (State { closed: true, ..State::at_rest(EMPTY) }, g);
     if room < ROOM {
-        s.closed = true;
-        return (s, given(1001, "short output"));
+        return refused(given(1001, "short output"));
     }
+    if Changer::names_one_twice(slots) {
+        return refused(given(1002, "named twice"));
+    }
+    let mut s = State::at_rest(*slots);
     let mut g = given(0, "opened");
     notify(&mut s, time, &[Notice::Connected], &mut g.sent);
     (s, g)

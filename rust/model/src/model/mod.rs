@@ -8,6 +8,8 @@ mod by_hand;
 pub mod calls;
 pub mod cartridge;
 pub mod changer;
+#[cfg(test)]
+mod changer_by_hand;
 pub mod connection;
 pub mod ends;
 pub mod environment;

@@ -1,7 +1,7 @@
 //! "1002 if the session breaks a relation listed in docs/": the lines of docs/RELATION.md. Gives the number of the
 //! first broken line.
 
-use super::state::{ENDLESS, LOCAL, State, TCP, data, mover};
+use super::state::{Changer, ENDLESS, LOCAL, State, TCP, data, mover};
 
 pub fn broken(s: &State) -> Option<u32> {
     let m = &s.mover;
@@ -70,6 +70,19 @@ fn types(s: &State) -> Option<u32> {
     // IDLE: the address type is LOCAL
     if s.data.state == data::IDLE && s.data.address != LOCAL || m.state == mover::IDLE && m.address != LOCAL {
         return Some(10);
+    }
+    slots(s)
+}
+
+/// 02 No. 7.
+fn slots(s: &State) -> Option<u32> {
+    // no two places name the same cartridge
+    if Changer::names_one_twice(&s.changer.slots) {
+        return Some(11);
+    }
+    // the tape is open: there is a cartridge in the drive
+    if s.tape.open && s.changer.loaded() == 0 {
+        return Some(12);
     }
     None
 }

@@ -87,6 +87,25 @@ pub struct Changer {
     pub open: bool,
     /// The pending sense: its key, code and qualifier; zeros where none is pending.
     pub sense: [u8; 3],
+    pub slots: Slots,
+}
+
+/// 02 No. 7: "eight slots and one drive": "a cartridge's number or 0 a place". The drive comes first, then the slots
+/// 16 to 23.
+pub type Slots = [u32; 9];
+
+pub const EMPTY: Slots = [0; 9];
+
+impl Changer {
+    /// "from one that names none twice"; 0 names none.
+    pub fn names_one_twice(slots: &Slots) -> bool {
+        (0..9).any(|i| slots[i] != 0 && slots[..i].contains(&slots[i]))
+    }
+
+    /// The cartridge in the drive.
+    pub fn loaded(&self) -> u32 {
+        self.slots[0]
+    }
 }
 
 impl Data {
@@ -143,7 +162,7 @@ impl Mover {
 
 impl State {
     /// Record size, 02 No. 9: "The first value becomes 10,240". (01: "It starts at 0, unset.")
-    pub fn at_rest() -> State {
+    pub fn at_rest(slots: Slots) -> State {
         State {
             closed: false,
             fresh: true,
@@ -154,7 +173,7 @@ impl State {
             data: Data::at_rest(),
             mover: Mover::at_rest(10_240),
             tape: Tape { open: false, writable: false, position: 0 },
-            changer: Changer { open: false, sense: [0; 3] },
+            changer: Changer { open: false, sense: [0; 3], slots },
         }
     }
 

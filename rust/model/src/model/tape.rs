@@ -5,11 +5,16 @@ use super::refusals::{Outcome, refuse};
 use super::state::{State, Tape, mover};
 use super::xdr::Writer;
 
+/// A closed tape's position is forgotten (reading).
+const CLOSED: Tape = Tape { open: false, writable: false, position: 0 };
+
 /// "Tape open: mode 0 reads, 1 also writes, else 9; position 0."
 pub fn open(s: &mut State, image: &mut [u8], device: &[u8], mode: u32) -> Outcome {
     refuse(mode > 1, 9)?;
     refuse(device != b"tape0", 16)?;
     refuse(s.tape.open, 3)?;
+    // 02 No. 7: "10 (no tape loaded) at tape open, after 3"
+    refuse(s.changer.loaded() == 0, 10)?;
     // "15 at tape open"
     refuse(Cartridge::read(image).is_none(), 15)?;
     s.tape = Tape { open: true, writable: mode == 1, position: 0 };
@@ -29,7 +34,7 @@ fn idle_tape(s: &State) -> Result<(), u32> {
 
 pub fn close(s: &mut State) -> Outcome {
     idle_tape(s)?;
-    s.tape = Tape { open: false, writable: false, position: 0 };
+    s.tape = CLOSED;
     Ok(Writer::words(&[0]))
 }
 
@@ -50,11 +55,16 @@ pub fn mtio(s: &mut State, image: &mut [u8], op: u32, count: u32) -> Outcome {
     idle_tape(s)?;
     // "5: tape open read-only: write, MTIO 5"
     refuse(op == 5 && !s.tape.writable, 5)?;
-    // "9 ...; 1 instead for MTIO op 6"; "6 off; others 9"
-    refuse(op == 6, 1)?;
+    // "6 off; others 9"; 02 No. 7: "MTIO 6 no longer gives 1"
     refuse(op > 6, 9)?;
     let position = s.tape.position;
     let cartridge = standing(s, image)?;
+    if op == 6 {
+        // 02 No. 7: "MTIO 6, which rewinds and closes the tape device, residue 0". The cartridge stays in the drive
+        // (reading).
+        s.tape = CLOSED;
+        return Ok(Writer::words(&[0, 0]));
+    }
     let walked = match op {
         0 | 1 => cartridge.space_files(position, count, op == 0),
         2 | 3 => cartridge.space_records(position, count, op == 2),

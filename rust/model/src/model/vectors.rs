@@ -31,8 +31,8 @@ fn auth(body: &[u8], auth: &Auth) -> String {
     }
 }
 
-/// What a line has of it behind the sequence number: the end of a login's, a listen's, a connect's and a start's, else no more
-/// than whether it is read.
+/// What a line has of it behind the sequence number: the end of a login's, a CDB's, an MTIO's, a listen's, a
+/// connect's and a start's, else no more than whether it is read.
 fn shown(record: &[u8]) -> String {
     let Some(r) = framed(record) else { return "broken".into() };
     if r.kind != 0 {
@@ -50,6 +50,10 @@ fn shown(record: &[u8]) -> String {
         Some(Request::DataConnect { to }) => connect(&to),
         Some(Request::MoverConnect { to, .. }) => connect(&to),
         Some(Request::StartBackup { pairs, .. } | Request::StartRecover { pairs, .. }) => format!("+{}", pairs.len()),
+        Some(Request::ScsiCdb { data_in, cdb }) => {
+            format!("SCSI_EXECUTE_CDB cdb {} datain_len {data_in}", part(r.body, cdb))
+        }
+        Some(Request::TapeMtio { op, count }) => format!("TAPE_MTIO op {op} count {count}"),
         Some(Request::DataEnvironment) => "DATA_GET_ENV".into(),
         Some(_) => String::new(),
     }
@@ -60,14 +64,14 @@ fn vectors_are_read_as_they_are_marked() {
     let path = concat!(env!("CARGO_MANIFEST_DIR"), "/../../crates/run_requests/stdin");
     let text = std::fs::read_to_string(path).unwrap();
     let lines: Vec<&str> = text.lines().collect();
-    let (mut connects, mut starts, mut logins) = (0, 0, 0);
+    let (mut connects, mut starts, mut logins, mut moves) = (0, 0, 0, 0);
     for pair in lines.chunks(2) {
         let (name, hex) = pair[0].split_once(' ').unwrap_or((pair[0], ""));
         let (record, expected) = (bytes(hex), pair[1].strip_prefix("= ").unwrap());
         let shown = shown(&record);
         assert!(expected.ends_with(&shown), "{name}: {expected}, and not {shown}");
-        let read =
-            shown.is_empty() || ["addresses", "LISTEN", "+", "ENV", "AUTH"].iter().any(|word| shown.contains(word));
+        let read = shown.is_empty()
+            || ["addresses", "LISTEN", "+", "ENV", "AUTH", "CDB", "MTIO"].iter().any(|word| shown.contains(word));
         assert_eq!(read, expected.contains("_"), "{name}");
         // The reader gives as many as the line says.
         let count = addresses(&record).len();
@@ -76,7 +80,8 @@ fn vectors_are_read_as_they_are_marked() {
         assert_eq!(count, told, "{name}");
         connects += (count > 0) as u32;
         starts += shown.starts_with("+") as u32;
+        moves += (shown.contains("=a5") || shown.contains("=b8")) as u32;
         logins += (shown.contains(" digest ") || shown.contains("ATTR")) as u32;
     }
-    assert!(lines.len() > 500 && connects > 8 && starts > 12 && logins > 8);
+    assert!(lines.len() > 500 && connects > 8 && starts > 12 && logins > 8 && moves > 12);
 }

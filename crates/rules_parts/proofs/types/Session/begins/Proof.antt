@@ -14,7 +14,7 @@ at-rest-requires : tie.Need-at-rest-requires
 at-rest-requires c κs = search needs
 
 returns : tie.Need-returns
-returns c = session-begun _ _ _ _ (c .before .rests .ensures) (c .at-rest .ensures)
+returns c = session-begun _ _ _ _ _ (c .before .rests .ensures) (c .at-rest .ensures)
 
 pub begins-spec : {M : Type 1} → statement M
 begins-spec = tie.close (tie.spec rests-requires at-rest-requires returns)

@@ -1,0 +1,2 @@
+-- The laws of what a request tells.
+pub mod Telling
