@@ -15,7 +15,8 @@ import sys
 
 WORD = re.compile(r'[^\s(){}\[\].;,@"«»:]+')
 HEAD = re.compile(r'(?:(?:abbrev|unfoldable|pub|private)\s+)*([^\s(){}.;,@"«»:]+)\s*:(?:\s+(\S+)|\s*$)')
-BLOCK = re.compile(r"(?:(?:abbrev|unfoldable|pub|private)\s+)*(record|data)\s")
+BLOCK = re.compile(r"(?:(?:abbrev|unfoldable|pub|private)\s+)*(record|data|module)\s")
+INNER = re.compile(r'\s+(?:(?:abbrev|unfoldable|pub|private)\s+)*([^\s(){}.;,@"«»:]+)\s*:(?:\s|$)')
 FIELD = re.compile(r'\s+(?:pub )?([^\s(){}.;,@"«»:]+) :(?:\s|$)')
 # Where the new name would fall together with another of the same file.
 APART = {
@@ -27,17 +28,23 @@ APART = {
     "atSize": "is_at_size",
     "bare-text": "bare_text_lem",
     "behind-text": "behind_text_lem",
+    "body-len": "body_len_lem",
     "broken-accounts": "broken_accounts_lem",
     "challenged-first": "challenged_first_lem",
+    "count-on": "count_on_lem",
     "data-connect": "data_connect_lem",
     "empty-part": "empty_part_lem",
+    "entry-len": "entry_len_lem",
     "entry-part": "entry_part_lem",
+    "entry-start": "entry_start_lem",
     "fedBy": "fed_with",
     "from-tape": "from_tape_lem",
+    "have-room": "have_room_lem",
     "in-drive": "in_drive_lem",
     "in-turn": "in_turn_lem",
     "is-full": "is_full_lem",
     "is-move": "is_move_lem",
+    "is-tcp": "is_tcp_lem",
     "is-type": "is_type_lem",
     "lent-only": "lent_only_lem",
     "line-feed": "line_feed_lem",
@@ -52,6 +59,7 @@ APART = {
     "mover-closed": "mover_closed_lem",
     "mover-connect": "mover_connect_lem",
     "mover-joined": "mover_joined_lem",
+    "mover-joins": "mover_joins_lem",
     "newest-counts": "newest_counts_lem",
     "not-used-up": "not_used_up_lem",
     "notice-words": "notice_words_lem",
@@ -61,6 +69,7 @@ APART = {
     "pair-words": "pair_words_lem",
     "pastTop": "is_past_top",
     "readAs": "read_fields",
+    "right-digest": "right_digest_lem",
     "run-numbered": "run_numbered_lem",
     "same-service": "same_service_lem",
     "seen-login": "seen_login_lem",
@@ -86,7 +95,7 @@ def declared(path, proof):
             if not line.strip():
                 continue
             if not line[0].isspace():
-                block = bool(BLOCK.match(line))
+                block = BLOCK.match(line)
                 if block:
                     continue
                 m = HEAD.match(line)
@@ -94,7 +103,7 @@ def declared(path, proof):
                 if m and not (proof and re.match(r"(tie\.|goal\.|\{M|statement)", m[2] or "")):
                     yield m[1]
             elif block:
-                m = FIELD.match(line)
+                m = (INNER if block[1] == "module" else FIELD).match(line)
                 if m:
                     yield m[1]
 

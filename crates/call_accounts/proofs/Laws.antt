@@ -17,7 +17,7 @@ use Rattle.xdr_opaque.proofs.Laws.{then, put}
 use Rattle.wire_accounts.specs.Accounts.{AccountEntry, are_laid, accounts_in, accounts_from, entries_of}
 use Rattle.wire_accounts.specs.Place.{AccountAt}
 use Rattle.wire_accounts.specs.declared.AccountPlace.{AccountPlace}
-use Rattle.wire_accounts.proofs.Laws.{Laid, counted, none_in, laid-first, entries-first, laid_on, entries-on, entries-end}
+use Rattle.wire_accounts.proofs.Laws.{Laid, counted, none_in, laid_first, entries_first, laid_on, entries_on, entries_end}
 use Rattle.call_accounts.specs.Listing.{least_listing, word_of, line_of, lines_from, listing, told, listed, listed_out, ListingTold}
 
 -- ---- a line
@@ -25,14 +25,14 @@ module _ {at last : ℕ} (number kind : ℕ) {l m : List ℕ} (h : at < length l
   digit : (text : List ℕ) → Put (at + 1) text (set l at (48 + number)) last m → Put at ((48 + number) ∷ text) l last m
   digit text q = then (put (at + 1) (store_one at (48 + number) l h) (omega arith)) q
 
-  pub line-md5 : kind ≡ md5_auth → Put (at + 1) (32 ∷ 109 ∷ 100 ∷ 53 ∷ 10 ∷ []) (set l at (48 + number)) last m → Put at (line_of number kind) l last m
+  pub line_md5 : kind ≡ md5_auth → Put (at + 1) (32 ∷ 109 ∷ 100 ∷ 53 ∷ 10 ∷ []) (set l at (48 + number)) last m → Put at (line_of number kind) l last m
   unfolding line_of word_of choose
-  line-md5 e q = rw (eq-eqb kind md5_auth e) (digit _ q)
+  line_md5 e q = rw (eq-eqb kind md5_auth e) (digit _ q)
 
-  pub line-withdrawn : (kind ≡ md5_auth → ⊥)
+  pub line_withdrawn : (kind ≡ md5_auth → ⊥)
       → Put (at + 1) (32 ∷ 119 ∷ 105 ∷ 116 ∷ 104 ∷ 100 ∷ 114 ∷ 97 ∷ 119 ∷ 110 ∷ 10 ∷ []) (set l at (48 + number)) last m → Put at (line_of number kind) l last m
   unfolding line_of word_of choose
-  line-withdrawn e q = rw (ne_eqb kind md5_auth e) (digit _ q)
+  line_withdrawn e q = rw (ne_eqb kind md5_auth e) (digit _ q)
 
 pub line_most : (number kind : ℕ) → length (line_of number kind) ≤ 12
 unfolding line_of word_of
@@ -50,15 +50,15 @@ pub record Going (b : List ℕ) (number n at : ℕ) (l : List ℕ) (next : ℕ) 
   pub wrote : Put 0 done l next m
 
 module _ {b l : List ℕ} where
-  pub going-first : (n : ℕ) → n ≡ word b 0 → are_laid (accounts_in b) ≡ true → Going b 0 n 4 l 0 l
+  pub going_first : (n : ℕ) → n ≡ word b 0 → are_laid (accounts_in b) ≡ true → Going b 0 n 4 l 0 l
   unfolding listing
-  going-first n e h =
+  going_first n e h =
       record {
-        ahead = laid-first b n e h;
+        ahead = laid_first b n e h;
         few = omega (arith, e, (counted b h).1);
         room = omega arith;
         done = [];
-        whole = ap (lines_from 0) (entries-first b n e h);
+        whole = ap (lines_from 0) (entries_first b n e h);
         wrote = put 0 (overlay_none 0 l) (omega arith);
       }
 
@@ -75,24 +75,24 @@ module _ {b l : List ℕ} where
           room = omega (arith, g.room, q.end, line_most number a.kind);
           done = g.done ++ s;
           whole =
-              g.whole ∙ ap (λ (x : List AccountEntry). g.done ++ lines_from number x) (entries-on g.ahead r h)
+              g.whole ∙ ap (λ (x : List AccountEntry). g.done ++ lines_from number x) (entries_on g.ahead r h)
               ∙ sym (append_assoc g.done s (lines_from (number + 1) es));
           wrote = then g.wrote q;
         }
 
     pub going_end : n ≤ 0 → Put 0 (listing b) l next m
     unfolding lines_from
-    going_end h = rw (g.whole, entries-end b n at h, append-nil) g.wrote
+    going_end h = rw (g.whole, entries_end b n at h, append-nil) g.wrote
 
 -- ---- the call
 module _ (b o : List ℕ) where
-  pub told-short : length o < least_listing → ListingTold b o (told short_output 0) o
+  pub told_short : length o < least_listing → ListingTold b o (told short_output 0) o
   unfolding listed listed_out choose
-  told-short h = let t = lt-ltb (length o) least_listing h in record { is = rw t; out = rw t }
+  told_short h = let t = lt-ltb (length o) least_listing h in record { is = rw t; out = rw t }
 
-  pub told-all : (n : ℕ) (o' : List ℕ) → least_listing ≤ length o → Put 0 (listing b) o n o' → ListingTold b o (told 0 n) o'
+  pub told_all : (n : ℕ) (o' : List ℕ) → least_listing ≤ length o → Put 0 (listing b) o n o' → ListingTold b o (told 0 n) o'
   unfolding listed listed_out choose
-  told-all n o' h p =
+  told_all n o' h p =
       let t = le-ltb (length o) least_listing h in
       let e : n ≡ length (listing b) = omega (arith, p.end) in
       record { is = rw (t, e); out = rw t p.wrote }
@@ -102,4 +102,4 @@ module _ (b o : List ℕ) where
   no_lines h = rw (none_in b h)
 
   pub told_none : least_listing ≤ length o → are_laid (accounts_in b) ≡ false → ListingTold b o (told 0 0) o
-  told_none h k = told-all 0 o h (rw (no_lines k) (put 0 (overlay_none 0 o) (omega arith)))
+  told_none h k = told_all 0 o h (rw (no_lines k) (put 0 (overlay_none 0 o) (omega arith)))

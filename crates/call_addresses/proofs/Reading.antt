@@ -32,7 +32,7 @@ use Rattle.wire_layouts.specs.declared.Text.{Text}
 use Rattle.wire_layouts.specs.declared.Scan.{Scan}
 use Rattle.wire_layouts.specs.declared.Addresses.{Addresses}
 use Rattle.wire_layouts.proofs.AddressLists.{addresses_given}
-use Rattle.wire_layouts.proofs.AddressTypes.{type-judged}
+use Rattle.wire_layouts.proofs.AddressTypes.{type_judged}
 use Rattle.wire_requests.specs.Bodies.{connect_fields, layout_of, request_of, decoded}
 use Rattle.wire_requests.specs.RoundTrip.{Known}
 use Rattle.wire_requests.specs.declared.JointRequest.TheVariants as JointRequest
@@ -167,8 +167,8 @@ own Message.Unknown b = tt
 -- ---- what a body is read as behind its mode, or from its start: an address of type TCP, or another
 module _ (b : List ℕ) (at : ℕ) where
   data TcpRead : Read → Type 0 where
-    no-tcp : TcpRead broken
-    is-tcp : {n x : ℕ} {items : List (Item Text)} → field_at addresses b (at + 4) ≡ field_got (four n) items x
+    no_tcp : TcpRead broken
+    is_tcp_lem : {n x : ℕ} {items : List (Item Text)} → field_at addresses b (at + 4) ≡ field_got (four n) items x
         → TcpRead (whole (value (four tcp_address) [] ∷ value (four n) items ∷ []))
 
   data OtherRead : Read → Type 0 where
@@ -185,58 +185,58 @@ module _ (b : List ℕ) (at : ℕ) where
   Listed (stop v) = ⊥
   Listed bad = Unit
 
-  counted-listed : (n : ℕ) (g : Got) → Listed (counted n g)
+  counted_listed : (n : ℕ) (g : Got) → Listed (counted n g)
   unfolding Listed counted
-  counted-listed n (got is x) = tt
-  counted-listed n cut = tt
+  counted_listed n (got is x) = tt
+  counted_listed n cut = tt
 
   listed : Listed (field_at addresses b (at + 4))
   unfolding Listed field_at
   listed =
       by_test Listed (leb (at + 4 + 4) (length b)) _ _
-      (λ e. by_test Listed (leb (xdr.word b (at + 4)) most_addresses) _ _ (λ k. counted-listed (xdr.word b (at + 4)) _) (λ k. tt)) (λ e. tt)
+      (λ e. by_test Listed (leb (xdr.word b (at + 4)) most_addresses) _ _ (λ k. counted_listed (xdr.word b (at + 4)) _) (λ k. tt)) (λ e. tt)
 
-  list-end : (n x : ℕ) (items : List (Item Text)) → field_at addresses b (at + 4) ≡ field_got (four n) items x
+  list_end : (n x : ℕ) (items : List (Item Text)) → field_at addresses b (at + 4) ≡ field_got (four n) items x
       → TcpRead (and_value (value (four tcp_address) []) (and_value (value (four n) items) (read_fields [] b x)))
   unfolding read_fields and_value
-  list-end n x items e =
+  list_end n x items e =
       by_test (λ r. TcpRead (and_value (value (four tcp_address) []) (and_value (value (four n) items) r))) (eqb x (length b)) (whole []) broken
-      (λ k. is-tcp e) (λ k. no-tcp)
+      (λ k. is_tcp_lem e) (λ k. no_tcp)
 
   list_read : (g : FieldGot) → field_at addresses b (at + 4) ≡ g → Listed g → TcpRead (and_value (value (four tcp_address) []) (and_read g (read_fields [] b)))
   unfolding Listed and_read and_value
-  list_read (field_got (four n) items x) e l = list-end n x items e
+  list_read (field_got (four n) items x) e l = list_end n x items e
   list_read (field_got (eight n) items x) e l = absurd l
   list_read (field_got (bytes t) items x) e l = absurd l
   list_read (field_got (fixed t) items x) e l = absurd l
   list_read (stop v) e l = absurd l
-  list_read bad e l = no-tcp
+  list_read bad e l = no_tcp
 
-  type-there : is_tcp b at ≡ true → at + 4 ≤ length b
+  type_there : is_tcp b at ≡ true → at + 4 ≤ length b
   unfolding is_tcp
-  type-there e =
+  type_there e =
       by_test (λ t. t ≡ true → at + 4 ≤ length b) (leb (at + 4) (length b)) _ _ (λ k _. leb-true _ _ k)
       (λ k h. absurd (let z : ◌≡◌ {A = ℕ} 0 1 = cc in omega arith)) e
 
-  tcp-read : is_tcp b at ≡ true → TcpRead (read_fields (connect_fields true) b at)
+  tcp_read : is_tcp b at ≡ true → TcpRead (read_fields (connect_fields true) b at)
   unfolding read_fields field_at and_read choose
-  tcp-read e =
-      let w : xdr.word b at ≡ tcp_address = eqb-true _ _ (sym (type-judged b at) ∙ e) in
-      rw (le-leb (at + 4) (length b) (type-there e), w) (list_read (field_at addresses b (at + 4)) refl listed)
+  tcp_read e =
+      let w : xdr.word b at ≡ tcp_address = eqb-true _ _ (sym (type_judged b at) ∙ e) in
+      rw (le-leb (at + 4) (length b) (type_there e), w) (list_read (field_at addresses b (at + 4)) refl listed)
 
-  other-end : OtherRead (and_value (value (four (xdr.word b at)) []) (read_fields [] b (at + 4)))
+  other_end : OtherRead (and_value (value (four (xdr.word b at)) []) (read_fields [] b (at + 4)))
   unfolding read_fields and_value
-  other-end = by_test (λ r. OtherRead (and_value (value (four (xdr.word b at)) []) r)) (eqb (at + 4) (length b)) (whole []) broken (λ k. to_end) (λ k. no_other)
+  other_end = by_test (λ r. OtherRead (and_value (value (four (xdr.word b at)) []) r)) (eqb (at + 4) (length b)) (whole []) broken (λ k. to_end) (λ k. no_other)
 
-  other-read : OtherRead (read_fields (connect_fields false) b at)
+  other_read : OtherRead (read_fields (connect_fields false) b at)
   unfolding read_fields field_at and_read
-  other-read =
+  other_read =
       let P : FieldGot → Type 0 = λ g. OtherRead (and_read g (read_fields [] b)) in
-      by_test P (leb (at + 4) (length b)) _ _ (λ e. by_test P (eqb (xdr.word b at) local_address) _ _ (λ k. other-end) (λ k. to_type)) (λ e. no_other)
+      by_test P (leb (at + 4) (length b)) _ _ (λ e. by_test P (eqb (xdr.word b at) local_address) _ _ (λ k. other_end) (λ k. to_type)) (λ e. no_other)
 
   -- TCP's word is judged to be TCP
-  not-tcp : is_tcp b at ≡ false → xdr.word b at ≡ tcp_address → ⊥
-  not-tcp f w = let t : true ≡ false = sym (type-judged b at ∙ eq-eqb (xdr.word b at) tcp_address w) ∙ f in let z : ◌≡◌ {A = ℕ} 0 1 = cc in omega arith
+  not_tcp : is_tcp b at ≡ false → xdr.word b at ≡ tcp_address → ⊥
+  not_tcp f w = let t : true ≡ false = sym (type_judged b at ∙ eq-eqb (xdr.word b at) tcp_address w) ∙ f in let z : ◌≡◌ {A = ℕ} 0 1 = cc in omega arith
 
 -- ---- the request of what a body was read as
 read_as : (m : Message) → Known m → (b : List ℕ) (r : Read) → read_fields (layout_of m b) b 0 ≡ r
@@ -251,30 +251,30 @@ abbrev pub mover_connect : Message
 mover_connect = Message.Joint JointKind.MoverConnect
 
 module _ (b : List ℕ) (n : ℕ) (q : decoded data_connect b ≡ Joint (JointRequest.DataConnect tcp_address n)) where
-  data-no : read_fields (layout_of data_connect b) b 0 ≡ broken → ⊥
+  data_no : read_fields (layout_of data_connect b) b 0 ≡ broken → ⊥
   unfolding summed choose
-  data-no e = let f = sym (read_as data_connect tt b broken e) ∙ q in let z : ◌≡◌ {A = ℕ} 0 1 = cc in omega arith
+  data_no e = let f = sym (read_as data_connect tt b broken e) ∙ q in let z : ◌≡◌ {A = ℕ} 0 1 = cc in omega arith
 
-  data-other : (r : Read) → OtherRead b 0 r → read_fields (layout_of data_connect b) b 0 ≡ r → is_tcp b 0 ≡ false → ⊥
+  data_other : (r : Read) → OtherRead b 0 r → read_fields (layout_of data_connect b) b 0 ≡ r → is_tcp b 0 ≡ false → ⊥
   unfolding summed puts put choose
-  data-other _ no_other e t = data-no e
-  data-other _ to_end e t = let f = sym (read_as data_connect tt b _ e) ∙ q in not-tcp b 0 t (cc)
-  data-other _ to_type e t = let f = sym (read_as data_connect tt b _ e) ∙ q in not-tcp b 0 t (cc)
+  data_other _ no_other e t = data_no e
+  data_other _ to_end e t = let f = sym (read_as data_connect tt b _ e) ∙ q in not_tcp b 0 t (cc)
+  data_other _ to_type e t = let f = sym (read_as data_connect tt b _ e) ∙ q in not_tcp b 0 t (cc)
 
   abbrev DataGiven : Type 0
   DataGiven = ListGiven data_connect b (value (four tcp_address) [] ∷ []) n (addresses_at b 4)
 
-  data-list : (r : Read) → TcpRead b 0 r → read_fields (layout_of data_connect b) b 0 ≡ r → DataGiven
+  data_list : (r : Read) → TcpRead b 0 r → read_fields (layout_of data_connect b) b 0 ≡ r → DataGiven
   unfolding summed puts put choose
-  data-list _ no-tcp e = absurd (data-no e)
-  data-list _ (is-tcp {n = m} {x = x} {items = items} g) e =
+  data_list _ no_tcp e = absurd (data_no e)
+  data_list _ (is_tcp_lem {n = m} {x = x} {items = items} g) e =
       let f = sym (read_as data_connect tt b _ e) ∙ q in
       let k : m ≡ n = cc in
       record { items = items; reads = rw k at e; given = addresses_given.decoded b 4 n items x (rw k at g) }
 
-  data-given : (t : Bool) → is_tcp b 0 ≡ t → DataGiven
-  data-given true e = data-list _ (tcp-read b 0 e) (ap (λ (t : Bool). read_fields (connect_fields t) b 0) e)
-  data-given false e = absurd (data-other _ (other-read b 0) (ap (λ (t : Bool). read_fields (connect_fields t) b 0) e) e)
+  data_given : (t : Bool) → is_tcp b 0 ≡ t → DataGiven
+  data_given true e = data_list _ (tcp_read b 0 e) (ap (λ (t : Bool). read_fields (connect_fields t) b 0) e)
+  data_given false e = absurd (data_other _ (other_read b 0) (ap (λ (t : Bool). read_fields (connect_fields t) b 0) e) e)
 
 -- a word before the address
 word_first : (b : List ℕ) (fs : List Field) (P : Read → Type 0)
@@ -283,36 +283,36 @@ unfolding read_fields field_at single part_at and_read
 word_first b fs P n y = by_test (λ p. P (and_read (single p) (read_fields fs b))) (leb 4 (length b)) _ _ (λ e. y) (λ e. n)
 
 module _ (b : List ℕ) (mode n : ℕ) (q : decoded mover_connect b ≡ Joint (JointRequest.MoverConnect mode tcp_address n)) where
-  mover-no : read_fields (layout_of mover_connect b) b 0 ≡ broken → ⊥
+  mover_no : read_fields (layout_of mover_connect b) b 0 ≡ broken → ⊥
   unfolding summed choose
-  mover-no e = let f = sym (read_as mover_connect tt b broken e) ∙ q in let z : ◌≡◌ {A = ℕ} 0 1 = cc in omega arith
+  mover_no e = let f = sym (read_as mover_connect tt b broken e) ∙ q in let z : ◌≡◌ {A = ℕ} 0 1 = cc in omega arith
 
-  mover-other : (r : Read) → OtherRead b 4 r → read_fields (layout_of mover_connect b) b 0 ≡ and_value (value (four (xdr.word b 0)) []) r
+  mover_other : (r : Read) → OtherRead b 4 r → read_fields (layout_of mover_connect b) b 0 ≡ and_value (value (four (xdr.word b 0)) []) r
       → is_tcp b 4 ≡ false → ⊥
   unfolding summed puts put choose and_value
-  mover-other _ no_other e t = mover-no e
-  mover-other _ to_end e t = let f = sym (read_as mover_connect tt b _ e) ∙ q in not-tcp b 4 t (cc)
-  mover-other _ to_type e t = let f = sym (read_as mover_connect tt b _ e) ∙ q in not-tcp b 4 t (cc)
+  mover_other _ no_other e t = mover_no e
+  mover_other _ to_end e t = let f = sym (read_as mover_connect tt b _ e) ∙ q in not_tcp b 4 t (cc)
+  mover_other _ to_type e t = let f = sym (read_as mover_connect tt b _ e) ∙ q in not_tcp b 4 t (cc)
 
   abbrev MoverGiven : Type 0
   MoverGiven = ListGiven mover_connect b (value (four mode) [] ∷ value (four tcp_address) [] ∷ []) n (addresses_at b 8)
 
-  mover-list : (r : Read) → TcpRead b 4 r → read_fields (layout_of mover_connect b) b 0 ≡ and_value (value (four (xdr.word b 0)) []) r → MoverGiven
+  mover_list : (r : Read) → TcpRead b 4 r → read_fields (layout_of mover_connect b) b 0 ≡ and_value (value (four (xdr.word b 0)) []) r → MoverGiven
   unfolding summed puts put choose and_value
-  mover-list _ no-tcp e = absurd (mover-no e)
-  mover-list _ (is-tcp {n = m} {x = x} {items = items} g) e =
+  mover_list _ no_tcp e = absurd (mover_no e)
+  mover_list _ (is_tcp_lem {n = m} {x = x} {items = items} g) e =
       let f = sym (read_as mover_connect tt b _ e) ∙ q in
       let k : m ≡ n = cc in
       let w : xdr.word b 0 ≡ mode = cc in
       record { items = items; reads = rw (k, w) at e; given = addresses_given.decoded b 8 n items x (rw k at g) }
 
-  mover-given : (t : Bool) → is_tcp b 4 ≡ t → MoverGiven
-  mover-given true e =
-      word_first b (connect_fields true) (λ r. read_fields (layout_of mover_connect b) b 0 ≡ r → MoverGiven) (λ k. absurd (mover-no k)) (mover-list _ (tcp-read b 4 e))
+  mover_given : (t : Bool) → is_tcp b 4 ≡ t → MoverGiven
+  mover_given true e =
+      word_first b (connect_fields true) (λ r. read_fields (layout_of mover_connect b) b 0 ≡ r → MoverGiven) (λ k. absurd (mover_no k)) (mover_list _ (tcp_read b 4 e))
       (ap (λ (t : Bool). read_fields (one word ∷ connect_fields t) b 0) e)
-  mover-given false e =
+  mover_given false e =
       absurd
-      (word_first b (connect_fields false) (λ r. read_fields (layout_of mover_connect b) b 0 ≡ r → ⊥) mover-no (λ k. mover-other _ (other-read b 4) k e)
+      (word_first b (connect_fields false) (λ r. read_fields (layout_of mover_connect b) b 0 ≡ r → ⊥) mover_no (λ k. mover_other _ (other_read b 4) k e)
       (ap (λ (t : Bool). read_fields (one word ∷ connect_fields t) b 0) e))
 
 -- ---- the host is given them
@@ -324,7 +324,7 @@ data_connect_lem r n a =
     let m : message_of (message_word r) ≡ data_connect = rw a.is at (own (message_of (message_word r)) b) in
     let q : decoded data_connect b ≡ Joint (JointRequest.DataConnect tcp_address n) = rw m at a.is in
     let k : addresses_in r ≡ addresses_at b 4 = asked r a.well a.request ∙ ap (λ (x : Request). of_request x b) a.is in
-    rw k (data-given b n q (is_tcp b 0) refl)
+    rw k (data_given b n q (is_tcp b 0) refl)
 
 pub mover_connect_lem : (r : List ℕ) (mode n : ℕ) → Asks r (Joint (JointRequest.MoverConnect mode tcp_address n))
     → ListGiven mover_connect (body_of r) (value (four mode) [] ∷ value (four tcp_address) [] ∷ []) n (addresses_in r)
@@ -334,4 +334,4 @@ mover_connect_lem r mode n a =
     let m : message_of (message_word r) ≡ mover_connect = rw a.is at (own (message_of (message_word r)) b) in
     let q : decoded mover_connect b ≡ Joint (JointRequest.MoverConnect mode tcp_address n) = rw m at a.is in
     let k : addresses_in r ≡ addresses_at b 8 = asked r a.well a.request ∙ ap (λ (x : Request). of_request x b) a.is in
-    rw k (mover-given b mode n q (is_tcp b 4) refl)
+    rw k (mover_given b mode n q (is_tcp b 4) refl)

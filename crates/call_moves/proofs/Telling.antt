@@ -15,23 +15,23 @@ use Rattle.call_moves.specs.Told.{MoveTold, event}
 
 module _ (k : Kept) (l : Lent) {image variables dest out out' : List ℕ} where
   module _ (stream : List ℕ) (last : Bool) {r : Moved} where
-    pub to-stopped : (code : ℕ) → Stop code ≡ guarded k.session l.room Stop Go
+    pub to_stopped : (code : ℕ) → Stop code ≡ guarded k.session l.room Stop Go
         → MoveTold (idling code k []) r image variables dest out out'
         → MoveTold (moved_to_tape k l stream last) r image variables dest out out'
     unfolding moved_to_tape
-    to-stopped code h t = when_stopped (λ (e : Moving). MoveTold e r image variables dest out out') k.session l.room code _ _ h t
+    to_stopped code h t = when_stopped (λ (e : Moving). MoveTold e r image variables dest out out') k.session l.room code _ _ h t
 
-    pub to-goes : Go ≡ guarded k.session l.room Stop Go → MoveTold (feeding k l stream last) r image variables dest out out'
+    pub to_goes : Go ≡ guarded k.session l.room Stop Go → MoveTold (feeding k l stream last) r image variables dest out out'
         → MoveTold (moved_to_tape k l stream last) r image variables dest out out'
     unfolding moved_to_tape
-    to-goes h t = when_goes (λ (e : Moving). MoveTold e r image variables dest out out') k.session l.room _ _ h t
+    to_goes h t = when_goes (λ (e : Moving). MoveTold e r image variables dest out out') k.session l.room _ _ h t
 
   module _ (into : List ℕ) {r : Moved} where
-    pub from-stopped : (code : ℕ) → Stop code ≡ guarded k.session l.room Stop Go
+    pub from_stopped : (code : ℕ) → Stop code ≡ guarded k.session l.room Stop Go
         → MoveTold (idling code k into) r image variables dest out out'
         → MoveTold (moved_from_tape k l into) r image variables dest out out'
     unfolding moved_from_tape
-    from-stopped code h t = when_stopped (λ (e : Moving). MoveTold e r image variables dest out out') k.session l.room code _ _ h t
+    from_stopped code h t = when_stopped (λ (e : Moving). MoveTold e r image variables dest out out') k.session l.room code _ _ h t
 
     pub from_goes : Go ≡ guarded k.session l.room Stop Go → MoveTold (handing k l into) r image variables dest out out'
         → MoveTold (moved_from_tape k l into) r image variables dest out out'
@@ -39,13 +39,13 @@ module _ (k : Kept) (l : Lent) {image variables dest out out' : List ℕ} where
     from_goes h t = when_goes (λ (e : Moving). MoveTold e r image variables dest out out') k.session l.room _ _ h t
 
 module _ (k : Kept) (l : Lent) (mv : Move) {r : Answer} {image variables out out' : List ℕ} where
-  pub event-stopped : (code : ℕ) → Stop code ≡ guarded k.session l.room Stop Go → CallTold (silent code k) r image variables out out'
+  pub event_stopped : (code : ℕ) → Stop code ≡ guarded k.session l.room Stop Go → CallTold (silent code k) r image variables out out'
       → CallTold (event k l mv) r image variables out out'
-  event-stopped code h t = when_stopped (λ (a : Answered). CallTold a r image variables out out') k.session l.room code _ _ h t
+  event_stopped code h t = when_stopped (λ (a : Answered). CallTold a r image variables out out') k.session l.room code _ _ h t
 
-  pub event-goes : Go ≡ guarded k.session l.room Stop Go → CallTold (announced k l mv k.image) r image variables out out'
+  pub event_goes : Go ≡ guarded k.session l.room Stop Go → CallTold (announced k l mv k.image) r image variables out out'
       → CallTold (event k l mv) r image variables out out'
-  event-goes h t = when_goes (λ (a : Answered). CallTold a r image variables out out') k.session l.room _ _ h t
+  event_goes h t = when_goes (λ (a : Answered). CallTold a r image variables out out') k.session l.room _ _ h t
 
 -- the same move, image and destination, whatever they are made of
 pub moved_as : (k : Kept) (l : Lent) (mv mv₂ : Move) (i i₂ b b₂ : List ℕ) (r : Moved)

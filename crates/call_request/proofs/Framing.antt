@@ -37,14 +37,14 @@ request_by true false s m s' m' e = absurd (let z : ◌≡◌ {A = ℕ} 0 1 = cc
 request_by false k s m s' m' e = absurd (let z : ◌≡◌ {A = ℕ} 0 1 = cc in omega arith)
 
 module _ (r : List ℕ) where
-  pub frame-broken : Framed.Broken ≡ framed r → well_framed r ≡ false
+  pub frame_broken : Framed.Broken ≡ framed r → well_framed r ≡ false
   unfolding framed
-  frame-broken e = broken_by (well_framed r) (eqb (kind_of r) 0) _ _ e
+  frame_broken e = broken_by (well_framed r) (eqb (kind_of r) 0) _ _ e
 
-  pub frame-other : Framed.NotRequest ≡ framed r → (well_framed r ≡ true) × (not (eqb (kind_of r) 0) ≡ true)
+  pub frame_other : Framed.NotRequest ≡ framed r → (well_framed r ≡ true) × (not (eqb (kind_of r) 0) ≡ true)
   unfolding framed
-  frame-other e = other_by (well_framed r) (eqb (kind_of r) 0) _ _ e
+  frame_other e = other_by (well_framed r) (eqb (kind_of r) 0) _ _ e
 
-  pub frame-request : (s m : ℕ) → Framed.Request s m ≡ framed r → (well_framed r ≡ true) × (not (eqb (kind_of r) 0) ≡ false) × (m ≡ word r 16)
+  pub frame_request : (s m : ℕ) → Framed.Request s m ≡ framed r → (well_framed r ≡ true) × (not (eqb (kind_of r) 0) ≡ false) × (m ≡ word r 16)
   unfolding framed
-  frame-request s m e = request_by (well_framed r) (eqb (kind_of r) 0) _ _ s m e
+  frame_request s m e = request_by (well_framed r) (eqb (kind_of r) 0) _ _ s m e

@@ -43,7 +43,7 @@ use Rattle.rules.proofs.Sending.{scsi_sends}
 use Rattle.serve_changer.specs.declared.ChangerChange.{ChangerChange}
 use Rattle.serve_changer.specs.declared.ScsiDone.TheVariants as ScsiDone
 use Rattle.serve_changer.specs.Done.{Tells}
-use Rattle.rules.proofs.Calls.{judged-locked, judged-free}
+use Rattle.rules.proofs.Calls.{judged_locked, judged_free}
 use Rattle.rules_parts.specs.declared.types.Answer.{Answer}
 use Rattle.call_sending.specs.Call.{CallTold}
 
@@ -55,22 +55,22 @@ accepted_says P o reply p e h = rw (← e) at h
 -- ---- a call by the outcome of its step: refused; accepted with no end halted; accepted
 module _ {A : Type 0} (k : Kept) (time : ℕ) (r : List ℕ) (q : Request) (put : A → Done) (o : Outcome A) {v : Answer}
     {image variables l l' : List ℕ} where
-  pub call-refused : (e : ℕ) → is_unread q ≡ false → refuse e ≡ o → CallTold (replying r time (refused_in r e) [] k) v image variables l l'
+  pub call_refused : (e : ℕ) → is_unread q ≡ false → refuse e ≡ o → CallTold (replying r time (refused_in r e) [] k) v image variables l l'
       → CallTold (settled k time r q (onto put o)) v image variables l l'
   unfolding settled onto refusing choose
-  call-refused e u h c = rw (← h, u) c
+  call_refused e u h c = rw (← h, u) c
 
-  pub call-ended : (reply : Reply) (p : A) → accept reply p ≡ o
+  pub call_ended : (reply : Reply) (p : A) → accept reply p ≡ o
       → CallTold (halting time (put p).dwhy (put p).mwhy (replying r time reply (put p).shown (put p).kept)) v image variables l l'
       → CallTold (settled k time r q (onto put o)) v image variables l l'
   unfolding settled onto
-  call-ended reply p h c = rw (← h) c
+  call_ended reply p h c = rw (← h) c
 
-  pub call-accepted : (reply : Reply) (p : A) → (put p).dwhy ≡ 0 → (put p).mwhy ≡ 0 → accept reply p ≡ o
+  pub call_accepted : (reply : Reply) (p : A) → (put p).dwhy ≡ 0 → (put p).mwhy ≡ 0 → accept reply p ≡ o
       → CallTold (replying r time reply (put p).shown (put p).kept) v image variables l l'
       → CallTold (settled k time r q (onto put o)) v image variables l l'
   unfolding settled onto noticed choose
-  call-accepted reply p d m h c = rw (← h, d, m) c
+  call_accepted reply p d m h c = rw (← h, d, m) c
 
 -- ---- the service TAPE and MOVER: what an interface of it came to, as the service's own outcome
 module _ (p : TapePart) where
@@ -79,19 +79,19 @@ module _ (p : TapePart) where
   unfolding tape_step onto
   tape_refuses drive q body e h = rw h
 
-  pub tape-accepts : (drive : ℕ) (q : TapeRequest) (body : List ℕ) (reply : Reply) (s : Loaded)
+  pub tape_accepts : (drive : ℕ) (q : TapeRequest) (body : List ℕ) (reply : Reply) (s : Loaded)
       → device_step drive p.mover.state p.tape p.image q body ≡ accept reply s → accept reply (with_loaded p s) ≡ tape_step drive p q body
   unfolding tape_step onto
-  tape-accepts drive q body reply s h = rw h
+  tape_accepts drive q body reply s h = rw h
 
   pub mover_refuses : (q : MoverRequest) (list : List ℕ) (e : ℕ) → refuse e ≡ mover_step p.mover p.tape q list → refuse e ≡ mover_part_step p q list
   unfolding mover_part_step onto
   mover_refuses q list e h = rw (← h)
 
-  pub mover-accepts : (q : MoverRequest) (list : List ℕ) (reply : Reply) (m : Mover) → accept reply m ≡ mover_step p.mover p.tape q list
+  pub mover_accepts : (q : MoverRequest) (list : List ℕ) (reply : Reply) (m : Mover) → accept reply m ≡ mover_step p.mover p.tape q list
       → accept reply (with_mover p m) ≡ mover_part_step p q list
   unfolding mover_part_step onto
-  mover-accepts q list reply m h = rw (← h)
+  mover_accepts q list reply m h = rw (← h)
 
 -- ---- the request of a record, by what was decoded from the part of it that is lent
 pub request_is : (r : List ℕ) {body : List ℕ} {m : ℕ} {row : Row} {kind : Message} {q : Request} → body ≡ drop 28 r → m ≡ word r 16 → row ≡ row_of m → kind ≡ row.kind
@@ -107,29 +107,29 @@ header_sends e seen = tt
 
 -- a request that is locked is refused with 4; any other is at its service
 module _ (k : Kept) (l : Lent) (r : List ℕ) (q : Request) {v : Answer} {image variables out out' : List ℕ} where
-  pub call-locked : q ≡ request_in r → is_locked k.session.login q ≡ true
+  pub call_locked : q ≡ request_in r → is_locked k.session.login q ≡ true
       → CallTold (replying r l.time (refused_in r 4) [] k) v image variables out out'
       → CallTold (judged k l r (request_in r)) v image variables out out'
-  call-locked e h c = rw (← e, judged-locked k l r q h) c
+  call_locked e h c = rw (← e, judged_locked k l r q h) c
 
-  pub call-free : q ≡ request_in r → is_locked k.session.login q ≡ false
+  pub call_free : q ≡ request_in r → is_locked k.session.login q ≡ false
       → CallTold (choose (is_close q) (closing k) (settled k l.time r q (outcome k l r q))) v image variables out out'
       → CallTold (judged k l r (request_in r)) v image variables out out'
-  call-free e h c = rw (← e, judged-free k l r q h) c
+  call_free e h c = rw (← e, judged_free k l r q h) c
 
 -- a call by what its guard found, with the room that the store leaves it
 module _ (k : Kept) (l : Lent) (r : List ℕ) (room : ℕ) (h : room ≡ room_of k l) {v : Answer} {image variables out out' : List ℕ} where
-  pub call-stopped : (code : ℕ) → Stop code ≡ guarded k.session room Stop Go → CallTold (silent code k) v image variables out out'
+  pub call_stopped : (code : ℕ) → Stop code ≡ guarded k.session room Stop Go → CallTold (silent code k) v image variables out out'
       → CallTold (answered k l r) v image variables out out'
   unfolding answered
-  call-stopped code g c =
+  call_stopped code g c =
       rw (← h) (when_stopped (λ (a : Answered). CallTold a v image variables out out') k.session room code _ _ g c)
 
-  pub call-goes : Go ≡ guarded k.session room Stop Go
+  pub call_goes : Go ≡ guarded k.session room Stop Go
       → CallTold (choose (well_framed r) (requested k l r) (closing k)) v image variables out out'
       → CallTold (answered k l r) v image variables out out'
   unfolding answered
-  call-goes g c =
+  call_goes g c =
       rw (← h) (when_goes (λ (a : Answered). CallTold a v image variables out out') k.session room _ _ g c)
 
 -- the room that the code found, and what follows where it is enough
@@ -169,13 +169,13 @@ shown_after DataRequest.Stop body list v = refl
 shown_after (DataRequest.Listen address) body list v = refl
 
 module _ (q : DataRequest) (body list v v' : List ℕ) (h : v' ≡ variables_after q body v) where
-  shown-same : data_shown q list v' ≡ data_shown q list v
-  shown-same = ap (data_shown q list) h ∙ shown_after q body list v
+  shown_same : data_shown q list v' ≡ data_shown q list v
+  shown_same = ap (data_shown q list) h ∙ shown_after q body list v
 
   pub shown_sends : (reply : Reply) → Sendable reply (data_shown q list v) → Sendable reply (data_shown q list v')
-  shown_sends reply t = rw shown-same t
+  shown_sends reply t = rw shown_same t
 
-  pub shown-reply : (r : List ℕ) (time : ℕ) (reply : Reply) (image : List ℕ) (s t : Session) (a : Answer) (l l' : List ℕ) → s ≡ t
+  pub shown_reply : (r : List ℕ) (time : ℕ) (reply : Reply) (image : List ℕ) (s t : Session) (a : Answer) (l l' : List ℕ) → s ≡ t
       → CallTold (replying r time reply (data_shown q list v') (held s image v')) a image v' l l'
       → CallTold (replying r time reply (data_shown q list v) (held t image (variables_after q body v))) a image v' l l'
-  shown-reply r time reply image s t a l l' e c = rw (← e, ← shown-same, ← h) c
+  shown_reply r time reply image s t a l l' e c = rw (← e, ← shown_same, ← h) c

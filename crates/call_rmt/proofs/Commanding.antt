@@ -38,7 +38,7 @@ use Rattle.rules.specs.Answer.{Kept, held, Answered, silent, guarded, tape_part,
 use Rattle.rules.specs.Rmt.{rmt_request, in_record, bare, said, told, counted_in, rmt_reply, saying, replied, commanded}
 use Rattle.rules.proofs.Guarding.{when_stopped, when_goes}
 use Rattle.rules.proofs.Sending.{tape_sends}
-use Rattle.rules.proofs.Calls.{verdict-free}
+use Rattle.rules.proofs.Calls.{verdict_free}
 use Rattle.call_sending.specs.Call.{CallTold}
 
 -- ---- the request that a command is
@@ -69,24 +69,24 @@ module _ (c : List ℕ) {q : Command} {r : Request} (e : q ≡ rmt_command c) (f
   request_is : r ≡ rmt_request (rmt_command c)
   request_is = f ∙ ap rmt_request e
 
-  pub read-bad : OneOf no_tape (tag_of request.the_type r) → rmt_request (rmt_command c) ≡ Request.Bad
-  read-bad h = not_tape (rmt_command c) (rw request_is at h)
+  pub read_bad : OneOf no_tape (tag_of request.the_type r) → rmt_request (rmt_command c) ≡ Request.Bad
+  read_bad h = not_tape (rmt_command c) (rw request_is at h)
 
-  pub read-tape : (t : TapeRequest) → r ≡ Request.Tape t → rmt_request (rmt_command c) ≡ Request.Tape t
-  read-tape t g = sym request_is ∙ g
+  pub read_tape : (t : TapeRequest) → r ≡ Request.Tape t → rmt_request (rmt_command c) ≡ Request.Tape t
+  read_tape t g = sym request_is ∙ g
 
   pub read_within : (t : TapeRequest) → r ≡ Request.Tape t → texts_within c (Request.Tape t)
-  read_within t g = rw (← (read-tape t g)) (texts_of (rmt_command c) c (command_within c))
+  read_within t g = rw (← (read_tape t g)) (texts_of (rmt_command c) c (command_within c))
 
 -- ---- what is told
 module _ (e n : ℕ) (b : List ℕ) {next : ℕ} {l m : List ℕ} where
-  pub told-refused : (e ≡ 0 → ⊥) → Put 0 (refused (error_of e)) l next m → Put 0 (told e n b) l next m
+  pub told_refused : (e ≡ 0 → ⊥) → Put 0 (refused (error_of e)) l next m → Put 0 (told e n b) l next m
   unfolding told choose
-  told-refused h p = rw (eqb_no h) p
+  told_refused h p = rw (eqb_no h) p
 
-  pub told-accepted : e ≡ 0 → Put 0 (accepted n ++ b) l next m → Put 0 (told e n b) l next m
+  pub told_accepted : e ≡ 0 → Put 0 (accepted n ++ b) l next m → Put 0 (told e n b) l next m
   unfolding told choose
-  told-accepted h p = rw (eqb_yes h) p
+  told_accepted h p = rw (eqb_yes h) p
 
 abbrev others : List ℕ
 others = 2 ∷ 3 ∷ 4 ∷ 5 ∷ 6 ∷ 7 ∷ 8 ∷ 9 ∷ 10 ∷ 11 ∷ 12 ∷ 13 ∷ 17 ∷ 18 ∷ 19 ∷ []
@@ -130,47 +130,47 @@ said_told b s n image variables l l' p =
 
 -- ---- a command by what was found on the way
 module _ (k : Kept) (c : List ℕ) (q : TapeRequest) where
-  verdict-locked : k.session.login.authorized ≡ false → verdict k bare (in_record c) (Request.Tape q) ≡ refuse 4
+  verdict_locked : k.session.login.authorized ≡ false → verdict k bare (in_record c) (Request.Tape q) ≡ refuse 4
   unfolding verdict judge is_locked needs_login choose
-  verdict-locked a = rw (verdict, is_locked, a)
+  verdict_locked a = rw (verdict, is_locked, a)
 
-  verdict-known : k.session.login.authorized ≡ true → verdict k bare (in_record c) (Request.Tape q) ≡ outcome k bare (in_record c) (Request.Tape q)
+  verdict_known : k.session.login.authorized ≡ true → verdict k bare (in_record c) (Request.Tape q) ≡ outcome k bare (in_record c) (Request.Tape q)
   unfolding verdict judge is_locked needs_login choose
-  verdict-known a = rw (verdict, is_locked, a)
+  verdict_known a = rw (verdict, is_locked, a)
 
   -- what the tape came to
   abbrev came : Outcome Loaded
   came = device_step (in_drive k.session.changer.slots) k.session.mover.state k.session.tape k.image q c
 
 module _ (k : Kept) (c : List ℕ) {v : Answer} {image variables l l' : List ℕ} where
-  pub told-bad : rmt_request (rmt_command c) ≡ Request.Bad → CallTold (saying (refused (error_of 18)) k) v image variables l l'
+  pub told_bad : rmt_request (rmt_command c) ≡ Request.Bad → CallTold (saying (refused (error_of 18)) k) v image variables l l'
       → CallTold (replied k (said k c)) v image variables l l'
   unfolding needs_login outcome replied
-  told-bad e t = rw (e, verdict-free k bare (in_record c) Request.Bad refl) t
+  told_bad e t = rw (e, verdict_free k bare (in_record c) Request.Bad refl) t
 
   module _ (q : TapeRequest) (e : rmt_request (rmt_command c) ≡ Request.Tape q) where
-    pub told-locked : k.session.login.authorized ≡ false → CallTold (saying (refused (error_of 4)) k) v image variables l l'
+    pub told_locked : k.session.login.authorized ≡ false → CallTold (saying (refused (error_of 4)) k) v image variables l l'
         → CallTold (replied k (said k c)) v image variables l l'
     unfolding replied
-    told-locked a t = rw (e, verdict-locked k c q a) t
+    told_locked a t = rw (e, verdict_locked k c q a) t
 
-    pub told-known : k.session.login.authorized ≡ true → CallTold (replied k (outcome k bare (in_record c) (Request.Tape q))) v image variables l l'
+    pub told_known : k.session.login.authorized ≡ true → CallTold (replied k (outcome k bare (in_record c) (Request.Tape q))) v image variables l l'
         → CallTold (replied k (said k c)) v image variables l l'
-    told-known a t = rw (e, verdict-known k c q a) t
+    told_known a t = rw (e, verdict_known k c q a) t
 
   -- and by what the tape came to
   module _ (q : TapeRequest) where
-    pub work-refused : (n : ℕ) → came k c q ≡ refuse n → CallTold (saying (refused (error_of n)) k) v image variables l l'
+    pub work_refused : (n : ℕ) → came k c q ≡ refuse n → CallTold (saying (refused (error_of n)) k) v image variables l l'
         → CallTold (replied k (outcome k bare (in_record c) (Request.Tape q))) v image variables l l'
     unfolding outcome tape_step onto replied
-    work-refused n h t = rw h t
+    work_refused n h t = rw h t
 
-    pub work-accepted : (r : Reply) (p : Loaded) {s : Session} → came k c q ≡ accept r p
+    pub work_accepted : (r : Reply) (p : Loaded) {s : Session} → came k c q ≡ accept r p
         → s ≡ (with_tape k (with_loaded (tape_part k) p)).kept.session
         → CallTold (saying (rmt_reply r p.image) (held s p.image k.variables)) v image variables l l'
         → CallTold (replied k (outcome k bare (in_record c) (Request.Tape q))) v image variables l l'
     unfolding outcome tape_step onto replied
-    work-accepted r p h e t = rw h (rw e at t)
+    work_accepted r p h e t = rw h (rw e at t)
 
 -- what the tape came to can be told
 pub work_sends : (drive mover : ℕ) (t : Tape) (l : List ℕ) (q : TapeRequest) (c : List ℕ) (r : Reply) (next : Tape) (l' : List ℕ)
@@ -180,12 +180,12 @@ work_sends drive mover t l q c r next l' e = rw e at (tape_sends drive mover t l
 
 -- ---- the call, by what its guard found
 module _ (k : Kept) (room : ℕ) (c : List ℕ) {v : Answer} {image variables l l' : List ℕ} where
-  pub command-stopped : (code : ℕ) → Stop code ≡ guarded k.session room Stop Go → CallTold (silent code k) v image variables l l'
+  pub command_stopped : (code : ℕ) → Stop code ≡ guarded k.session room Stop Go → CallTold (silent code k) v image variables l l'
       → CallTold (commanded k room c) v image variables l l'
   unfolding commanded
-  command-stopped code h t = when_stopped (λ (a : Answered). CallTold a v image variables l l') k.session room code _ _ h t
+  command_stopped code h t = when_stopped (λ (a : Answered). CallTold a v image variables l l') k.session room code _ _ h t
 
-  pub command-goes : Go ≡ guarded k.session room Stop Go → CallTold (replied k (said k c)) v image variables l l'
+  pub command_goes : Go ≡ guarded k.session room Stop Go → CallTold (replied k (said k c)) v image variables l l'
       → CallTold (commanded k room c) v image variables l l'
   unfolding commanded
-  command-goes h t = when_goes (λ (a : Answered). CallTold a v image variables l l') k.session room _ _ h t
+  command_goes h t = when_goes (λ (a : Answered). CallTold a v image variables l l') k.session room _ _ h t

@@ -22,21 +22,21 @@ word_is v a b c d h k m n = cc
 
 -- two fields of two bytes
 module _ (a b : ℕ) (small : b < 65536) where
-  halves-1 : (a * 65536 + b) / 16777216 % 256 ≡ a / 256 % 256
-  halves-1 = omega arith
+  halves_1 : (a * 65536 + b) / 16777216 % 256 ≡ a / 256 % 256
+  halves_1 = omega arith
 
-  halves-2 : (a * 65536 + b) / 65536 % 256 ≡ a % 256
-  halves-2 = omega arith
+  halves_2 : (a * 65536 + b) / 65536 % 256 ≡ a % 256
+  halves_2 = omega arith
 
-  halves-3 : (a * 65536 + b) / 256 % 256 ≡ b / 256 % 256
-  halves-3 = omega arith
+  halves_3 : (a * 65536 + b) / 256 % 256 ≡ b / 256 % 256
+  halves_3 = omega arith
 
-  halves-4 : (a * 65536 + b) % 256 ≡ b % 256
-  halves-4 = omega arith
+  halves_4 : (a * 65536 + b) % 256 ≡ b % 256
+  halves_4 = omega arith
 
-  pub be32-halves : be32 (a * 65536 + b) ≡ be16 a ++ be16 b
+  pub be32_halves : be32 (a * 65536 + b) ≡ be16 a ++ be16 b
   unfolding be16
-  be32-halves = word_is (a * 65536 + b) _ _ _ _ halves-1 halves-2 halves-3 halves-4
+  be32_halves = word_is (a * 65536 + b) _ _ _ _ halves_1 halves_2 halves_3 halves_4
 
 -- a byte that is zero and a field of three bytes
 pub be32_three : (n : ℕ) → n < 16777216 → be32 n ≡ 0 ∷ be24 n
@@ -60,7 +60,7 @@ descriptor_is slots e flags h k =
     let small : flags * 256 < 65536 = omega arith in
     let high : flags * 256 / 256 % 256 ≡ flags = omega arith in
     let low : flags * 256 % 256 ≡ 0 = omega arith in
-    rw (be32-halves e (flags * 256) small, high, low, h, be32_three 0 (omega arith))
+    rw (be32_halves e (flags * 256) small, high, low, h, be32_three 0 (omega arith))
 
 pub descriptors_length : (slots es : List ℕ) → length (descriptors slots es) ≡ 12 * length es
 unfolding descriptors descriptor be16
@@ -90,7 +90,7 @@ page_length slots (e ∷ es) k = omega (arith, descriptors_length slots (e ∷ e
 pub status_is : (slots es : List ℕ) → first_of es < 65536 → length es < 65536 → length (pages slots es) < 16777216 →
     status_of slots es ≡ be32s ((first_of es * 65536 + length es) ∷ length (pages slots es) ∷ []) ++ pages slots es
 unfolding status_of be32s be16 be24
-status_is slots es f n h = rw (be32-halves (first_of es) (length es) n, be32_three (length (pages slots es)) h)
+status_is slots es f n h = rw (be32_halves (first_of es) (length es) n, be32_three (length (pages slots es)) h)
 
 pub status_length : (slots es : List ℕ) → length (status_of slots es) ≡ 8 + length (pages slots es)
 unfolding status_of be16 be24

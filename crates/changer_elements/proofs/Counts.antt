@@ -47,9 +47,9 @@ module _ (from to : ℕ) (l : List ℕ) (source : from < length l) (destination 
   apart : from ≡ to → ⊥
   apart e = full (ap (λ (k : ℕ). get_or l k 0) e ∙ empty)
 
-  pub moved-times : (v : ℕ) → (v ≡ 0 → ⊥) → times v (moved from to l) ≡ times v l
+  pub moved_times : (v : ℕ) → (v ≡ 0 → ⊥) → times v (moved from to l) ≡ times v l
   unfolding moved
-  moved-times v h =
+  moved_times v h =
       let x : ℕ = get_or l from 0 in
       let a : List ℕ = set l to x in
       let there : from < length a = omega (arith, length-set l to x) in
@@ -64,9 +64,9 @@ module _ (from to : ℕ) (l : List ℕ) (source : from < length l) (destination 
   moved_to =
       get_or-set_other (set l to (get_or l from 0)) from to 0 0 (λ e. apart (sym e)) ∙ get_or-set_same l to (get_or l from 0) 0 destination
 
-  pub moved-from : get_or (moved from to l) from 0 ≡ 0
+  pub moved_from : get_or (moved from to l) from 0 ≡ 0
   unfolding moved
-  moved-from =
+  moved_from =
       let there : from < length (set l to (get_or l from 0)) = omega (arith, length-set l to (get_or l from 0)) in
       get_or-set_same (set l to (get_or l from 0)) from 0 0 there
 

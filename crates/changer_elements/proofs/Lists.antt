@@ -23,21 +23,21 @@ unfolding those
 those_nil p = refl
 
 module _ (p : ℕ → Bool) (e : ℕ) (es : List ℕ) where
-  pub those-yes : p e ≡ true → those p (e ∷ es) ≡ e ∷ those p es
+  pub those_yes : p e ≡ true → those p (e ∷ es) ≡ e ∷ those p es
   unfolding those choose
-  those-yes h = rw h
+  those_yes h = rw h
 
-  pub those-no : p e ≡ false → those p (e ∷ es) ≡ those p es
+  pub those_no : p e ≡ false → those p (e ∷ es) ≡ those p es
   unfolding those choose
-  those-no h = rw h
+  those_no h = rw h
 
 pub those_append : (p : ℕ → Bool) (a b : List ℕ) → those p (a ++ b) ≡ those p a ++ those p b
 unfolding those
 those_append p [] b = refl
 those_append p (e ∷ es) b =
     by_cases (p e)
-    (λ h. those-yes p e (es ++ b) h ∙ ap (λ (l : List ℕ). e ∷ l) (those_append p es b) ∙ ap (λ (l : List ℕ). l ++ those p b) (sym (those-yes p e es h)))
-    (λ h. those-no p e (es ++ b) h ∙ those_append p es b ∙ ap (λ (l : List ℕ). l ++ those p b) (sym (those-no p e es h)))
+    (λ h. those_yes p e (es ++ b) h ∙ ap (λ (l : List ℕ). e ∷ l) (those_append p es b) ∙ ap (λ (l : List ℕ). l ++ those p b) (sym (those_yes p e es h)))
+    (λ h. those_no p e (es ++ b) h ∙ those_append p es b ∙ ap (λ (l : List ℕ). l ++ those p b) (sym (those_no p e es h)))
 
 pub those_have : (p : ℕ → Bool) (es : List ℕ) → Each (λ (e : ℕ). p e ≡ true) (those p es)
 unfolding those choose
@@ -53,10 +53,10 @@ take_append (suc n) (x ∷ xs) b =
 
 -- ---- what a part of a list keeps
 module _ (P : ℕ → Type 0) where
-  pub each-those : (p : ℕ → Bool) (es : List ℕ) → Each P es → Each P (those p es)
+  pub each_those : (p : ℕ → Bool) (es : List ℕ) → Each P es → Each P (those p es)
   unfolding those choose
-  each-those p [] h = tt
-  each-those p (e ∷ es) h = by_cases (p e) (λ q. rw q (h.0, each-those p es h.1)) (λ q. rw q (each-those p es h.1))
+  each_those p [] h = tt
+  each_those p (e ∷ es) h = by_cases (p e) (λ q. rw q (h.0, each_those p es h.1)) (λ q. rw q (each_those p es h.1))
 
   pub each_take : (n : ℕ) (es : List ℕ) → Each P es → Each P (take n es)
   each_take zero es h = tt
@@ -183,7 +183,7 @@ elements_small =
 
 pub reported_small : (a : Asked) → Each (λ (e : ℕ). e < 24) (reported a)
 unfolding reported
-reported_small a = each_take (λ (e : ℕ). e < 24) a.number (those (is_asked a) elements) (each-those (λ (e : ℕ). e < 24) (is_asked a) elements elements_small)
+reported_small a = each_take (λ (e : ℕ). e < 24) a.number (those (is_asked a) elements) (each_those (λ (e : ℕ). e < 24) (is_asked a) elements elements_small)
 
 -- ---- by types
 abbrev Typed : ℕ → ℕ → Type 0
@@ -192,12 +192,12 @@ Typed k e = type_of e ≡ k
 type_all : (k : ℕ) (es : List ℕ) → Each (Typed k) es → of_type k es ≡ es
 unfolding of_type is_type
 type_all k [] h = those_nil (is_type k)
-type_all k (e ∷ es) h = those-yes (is_type k) e es (eqb_yes h.0) ∙ ap (λ (l : List ℕ). e ∷ l) (type_all k es h.1)
+type_all k (e ∷ es) h = those_yes (is_type k) e es (eqb_yes h.0) ∙ ap (λ (l : List ℕ). e ∷ l) (type_all k es h.1)
 
 type_none : (k j : ℕ) (es : List ℕ) → (k ≡ j → ⊥) → Each (Typed k) es → of_type j es ≡ []
 unfolding of_type is_type
 type_none k j [] d h = those_nil (is_type j)
-type_none k j (e ∷ es) d h = those-no (is_type j) e es (eqb_no (λ q. d (sym h.0 ∙ q))) ∙ type_none k j es d h.1
+type_none k j (e ∷ es) d h = those_no (is_type j) e es (eqb_no (λ q. d (sym h.0 ∙ q))) ∙ type_none k j es d h.1
 
 -- a list that has first transports, then drives, then slots
 record Parted (es : List ℕ) : Type 0 where
@@ -218,9 +218,9 @@ parted_those p es h =
       is =
           ap (those p) h.is ∙ those_append p h.transports (h.drives ++ h.slots)
           ∙ ap (λ (l : List ℕ). those p h.transports ++ l) (those_append p h.drives h.slots);
-      first = each-those (Typed 1) p h.transports h.first;
-      second = each-those (Typed 4) p h.drives h.second;
-      third = each-those (Typed 2) p h.slots h.third;
+      first = each_those (Typed 1) p h.transports h.first;
+      second = each_those (Typed 4) p h.drives h.second;
+      third = each_those (Typed 2) p h.slots h.third;
     }
 
 parted_take : (n : ℕ) (es : List ℕ) → Parted es → Parted (take n es)
@@ -259,23 +259,23 @@ module _ (es : List ℕ) (h : Parted es) where
       ap (those (is_type k)) h.is ∙ those_append (is_type k) h.transports (h.drives ++ h.slots)
       ∙ ap (λ (l : List ℕ). those (is_type k) h.transports ++ l) (those_append (is_type k) h.drives h.slots)
 
-  transports-are : of_type 1 es ≡ h.transports
-  transports-are =
+  transports_are : of_type 1 es ≡ h.transports
+  transports_are =
       part_of 1
       ∙ rw (type_all 1 h.transports h.first, type_none 4 1 h.drives (λ q. omega arith) h.second, type_none 2 1 h.slots (λ q. omega arith) h.third, append-nil)
 
-  drives-are : of_type 4 es ≡ h.drives
-  drives-are =
+  drives_are : of_type 4 es ≡ h.drives
+  drives_are =
       part_of 4
       ∙ rw (type_none 1 4 h.transports (λ q. omega arith) h.first, type_all 4 h.drives h.second, type_none 2 4 h.slots (λ q. omega arith) h.third, append-nil)
 
-  slots-are : of_type 2 es ≡ h.slots
-  slots-are =
+  slots_are : of_type 2 es ≡ h.slots
+  slots_are =
       part_of 2
       ∙ rw (type_none 1 2 h.transports (λ q. omega arith) h.first, type_none 4 2 h.drives (λ q. omega arith) h.second, type_all 2 h.slots h.third)
 
   in_parts : of_type 1 es ++ (of_type 4 es ++ of_type 2 es) ≡ es
-  in_parts = rw (transports-are, drives-are, slots-are) (sym h.is)
+  in_parts = rw (transports_are, drives_are, slots_are) (sym h.is)
 
 pub reported_in_order : (a : Asked) → of_type 1 (reported a) ++ (of_type 4 (reported a) ++ of_type 2 (reported a)) ≡ reported a
 unfolding reported

@@ -18,7 +18,7 @@ use Rattle.changer_elements.specs.Slots.{moved, times}
 use Rattle.changer_elements.specs.Move.{is_movable, is_held, judge_move, move_medium, slots_after}
 use Rattle.changer_elements.specs.MovesHold.{PlacesHold, Movable, MovesHold}
 use Rattle.changer_elements.proofs.Laws.{both, by_cases, slot_between, place_drive, place_slot, full_yes, full_no, fields_are}
-use Rattle.changer_elements.proofs.Counts.{moved-times, moved_to, moved-from, moved_other}
+use Rattle.changer_elements.proofs.Counts.{moved_times, moved_to, moved_from, moved_other}
 
 -- ---- elements
 of_slots : (k : ℕ) → k < 8 → (has_place (16 + k) ≡ true) × (place_of (16 + k) ≡ k + 1)
@@ -142,43 +142,43 @@ unfolding slots_after
 after_is slots o from to h = ap (slots_after slots) h
 
 module _ (cdb slots : List ℕ) (opened : Bool) (from to : ℕ) (g : Goes cdb slots opened from to) where
-  pub source-within : from < 9
-  source-within = omega (arith, within (half cdb 4) g.moves.source, g.source)
+  pub source_within : from < 9
+  source_within = omega (arith, within (half cdb 4) g.moves.source, g.source)
 
-  destination-within : to < 9
-  destination-within = omega (arith, within (half cdb 6) g.moves.destination, g.destination)
+  destination_within : to < 9
+  destination_within = omega (arith, within (half cdb 6) g.moves.destination, g.destination)
 
-  pub source-full : get_or slots from 0 ≡ 0 → ⊥
-  source-full z = g.moves.full (ap (λ (k : ℕ). get_or slots k 0) g.source ∙ z)
+  pub source_full : get_or slots from 0 ≡ 0 → ⊥
+  source_full z = g.moves.full (ap (λ (k : ℕ). get_or slots k 0) g.source ∙ z)
 
-  pub destination-empty : get_or slots to 0 ≡ 0
-  destination-empty = ap (λ (k : ℕ). get_or slots k 0) (sym g.destination) ∙ g.moves.empty
+  pub destination_empty : get_or slots to 0 ≡ 0
+  destination_empty = ap (λ (k : ℕ). get_or slots k 0) (sym g.destination) ∙ g.moves.empty
 
 pub moves_within : (cdb slots : List ℕ) (opened : Bool) (from to : ℕ) → move_medium cdb slots opened ≡ Moves from to → (from < 9) × (to < 9)
 moves_within cdb slots opened from to h =
     let g = goes cdb slots opened from to h in
-    (source-within cdb slots opened from to g, destination-within cdb slots opened from to g)
+    (source_within cdb slots opened from to g, destination_within cdb slots opened from to g)
 
 module _ (cdb slots : List ℕ) (opened : Bool) (from to : ℕ) (n : length slots ≡ 9) (g : Goes cdb slots opened from to) where
   source_in : from < length slots
-  source_in = omega (arith, source-within cdb slots opened from to g)
+  source_in = omega (arith, source_within cdb slots opened from to g)
 
-  destination-in : to < length slots
-  destination-in = omega (arith, destination-within cdb slots opened from to g)
+  destination_in : to < length slots
+  destination_in = omega (arith, destination_within cdb slots opened from to g)
 
   full : get_or slots from 0 ≡ 0 → ⊥
-  full = source-full cdb slots opened from to g
+  full = source_full cdb slots opened from to g
 
   empty : get_or slots to 0 ≡ 0
-  empty = destination-empty cdb slots opened from to g
+  empty = destination_empty cdb slots opened from to g
 
-  pub goes-times : (v : ℕ) → (v ≡ 0 → ⊥) → times v (moved from to slots) ≡ times v slots
-  goes-times = moved-times from to slots source_in destination-in full empty
+  pub goes_times : (v : ℕ) → (v ≡ 0 → ⊥) → times v (moved from to slots) ≡ times v slots
+  goes_times = moved_times from to slots source_in destination_in full empty
 
-  goes-there : (get_or (moved from to slots) to 0 ≡ get_or slots from 0) × (get_or (moved from to slots) from 0 ≡ 0)
-  goes-there = (
-    moved_to from to slots source_in destination-in full empty,
-    moved-from from to slots source_in destination-in full empty,
+  goes_there : (get_or (moved from to slots) to 0 ≡ get_or slots from 0) × (get_or (moved from to slots) from 0 ≡ 0)
+  goes_there = (
+    moved_to from to slots source_in destination_in full empty,
+    moved_from from to slots source_in destination_in full empty,
   )
 
 arrives : (cdb slots : List ℕ) (opened : Bool) (from to : ℕ) → length slots ≡ 9 → move_medium cdb slots opened ≡ Moves from to →
@@ -186,7 +186,7 @@ arrives : (cdb slots : List ℕ) (opened : Bool) (from to : ℕ) → length slot
     × (get_or (slots_after slots (move_medium cdb slots opened)) from 0 ≡ 0)
 arrives cdb slots opened from to n h =
     rw (after_is slots (move_medium cdb slots opened) from to h)
-    (goes-there cdb slots opened from to n (goes cdb slots opened from to h))
+    (goes_there cdb slots opened from to n (goes cdb slots opened from to h))
 
 others : (cdb slots : List ℕ) (opened : Bool) (from to i : ℕ) → move_medium cdb slots opened ≡ Moves from to →
     (i ≡ from → ⊥) → (i ≡ to → ⊥) →

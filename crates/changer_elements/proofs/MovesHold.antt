@@ -9,7 +9,7 @@ use Rattle.changer_elements.specs.Slots.{names_none_twice, times}
 use Rattle.changer_elements.specs.Move.{move_medium}
 use Rattle.changer_elements.specs.MovesHold.{InOnePlace, MoveCall, after_move, after_moves, ListHolds, ElementsHold}
 use Rattle.changer_elements.proofs.Counts.{moved_length, in_one_place, times_some, names_hold}
-use Rattle.changer_elements.proofs.Moves.{places_hold, goes, goes-times, moves_hold, by_outcome}
+use Rattle.changer_elements.proofs.Moves.{places_hold, goes, goes_times, moves_hold, by_outcome}
 use Rattle.changer_elements.proofs.Senses.{senses_hold}
 use Rattle.changer_elements.proofs.Staying.{none_twice_after, drive_stays, drive_after, in_drive_lem}
 
@@ -21,7 +21,7 @@ one_length slots m =
 one_times : (slots : List ℕ) (m : MoveCall) → length slots ≡ 9 → (v : ℕ) → (v ≡ 0 → ⊥) → times v (after_move slots m) ≡ times v slots
 one_times slots m n v z =
     by_outcome (λ (l : List ℕ). times v l ≡ times v slots) slots (move_medium m.cdb slots m.opened) refl
-    (λ from to h. goes-times m.cdb slots m.opened from to n (goes m.cdb slots m.opened from to h) v z)
+    (λ from to h. goes_times m.cdb slots m.opened from to n (goes m.cdb slots m.opened from to h) v z)
 
 long : (slots : List ℕ) (ms : List MoveCall) → length (after_moves slots ms) ≡ length slots
 unfolding after_moves

@@ -22,17 +22,17 @@ unfolding move_medium judge_move
 wrong cdb slots opened n h = sym (pick_else _ (ltb_no n) (pick_if _ (no_not h) refl))
 
 module _ (t source destination : ℕ) where
-  wrong-transport : (t ≡ 0 → ⊥) → is_movable t source destination ≡ false
+  wrong_transport : (t ≡ 0 → ⊥) → is_movable t source destination ≡ false
   unfolding is_movable
-  wrong-transport h = sym (pick_else _ (eqb_no h) refl)
+  wrong_transport h = sym (pick_else _ (eqb_no h) refl)
 
-  wrong-source : has_place source ≡ false → is_movable t source destination ≡ false
+  wrong_source : has_place source ≡ false → is_movable t source destination ≡ false
   unfolding is_movable
-  wrong-source h = if_so (eqb t 0) (λ p. sym (pick_else _ h refl))
+  wrong_source h = if_so (eqb t 0) (λ p. sym (pick_else _ h refl))
 
-  wrong-destination : has_place destination ≡ false → is_movable t source destination ≡ false
+  wrong_destination : has_place destination ≡ false → is_movable t source destination ≡ false
   unfolding is_movable
-  wrong-destination h = if_so (eqb t 0) (λ p. if_so (has_place source) (λ q. h))
+  wrong_destination h = if_so (eqb t 0) (λ p. if_so (has_place source) (λ q. h))
 
 -- ---- where they are right
 module _ (cdb slots : List ℕ) (opened : Bool) (n : Named cdb) where
@@ -70,9 +70,9 @@ module _ (cdb slots : List ℕ) (opened : Bool) (n : Named cdb) where
       (pick_if _ h refl)))))
 
 module _ (source destination : ℕ) where
-  held-from : source ≡ 1 → is_held true source destination ≡ true
+  held_from : source ≡ 1 → is_held true source destination ≡ true
   unfolding is_held
-  held-from e = sym (pick_if _ refl (pick_if _ (eqb_yes e) refl))
+  held_from e = sym (pick_if _ refl (pick_if _ (eqb_yes e) refl))
 
   held_to : destination ≡ 1 → is_held true source destination ≡ true
   unfolding is_held
@@ -85,11 +85,11 @@ pub senses_hold : SensesHold
 senses_hold =
     record {
       short = short;
-      by_other = λ cdb slots opened n h. wrong cdb slots opened n (wrong-transport _ _ _ h);
-      source = λ cdb slots opened n h. wrong cdb slots opened n (wrong-source _ _ _ h);
-      destination = λ cdb slots opened n h. wrong cdb slots opened n (wrong-destination _ _ _ h);
+      by_other = λ cdb slots opened n h. wrong cdb slots opened n (wrong_transport _ _ _ h);
+      source = λ cdb slots opened n h. wrong cdb slots opened n (wrong_source _ _ _ h);
+      destination = λ cdb slots opened n h. wrong cdb slots opened n (wrong_destination _ _ _ h);
       full = full;
       empty = empty;
-      from_drive = λ cdb slots n d f e. held cdb slots true n d f (held-from _ _ e);
+      from_drive = λ cdb slots n d f e. held cdb slots true n d f (held_from _ _ e);
       to_drive = λ cdb slots n d f e. held cdb slots true n d f (held_to _ _ e);
     }

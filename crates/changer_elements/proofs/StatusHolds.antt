@@ -81,9 +81,9 @@ module _ (slots es : List ℕ) where
   unfolding status_of be16 be24 half
   head_first h = omega arith
 
-  head-number : length es < 65536 → half (status_of slots es) 2 ≡ length es
+  head_number : length es < 65536 → half (status_of slots es) 2 ≡ length es
   unfolding status_of be16 be24 half
-  head-number h = omega arith
+  head_number h = omega arith
 
   head_bytes : length (pages slots es) < 16777216 →
       get_or (status_of slots es) 5 0 * 65536 + half (status_of slots es) 6 ≡ length (pages slots es)
@@ -111,13 +111,13 @@ told slots e flags h k =
     rw (high, low, k)
 
 module _ (slots : List ℕ) (e : ℕ) (h : has_place e ≡ true) where
-  empty-flags : get_or slots (place_of e) 0 ≡ 0 → flags_of slots e ≡ 8
+  empty_flags : get_or slots (place_of e) 0 ≡ 0 → flags_of slots e ≡ 8
   unfolding flags_of
-  empty-flags z = sym (pick_if _ h (pick_else _ (full_no e _ slots refl z) refl))
+  empty_flags z = sym (pick_if _ h (pick_else _ (full_no e _ slots refl z) refl))
 
-  full-flags : (get_or slots (place_of e) 0 ≡ 0 → ⊥) → flags_of slots e ≡ 9
+  full_flags : (get_or slots (place_of e) 0 ≡ 0 → ⊥) → flags_of slots e ≡ 9
   unfolding flags_of
-  full-flags z = sym (pick_if _ h (pick_if _ (full_yes e _ slots refl z) refl))
+  full_flags z = sym (pick_if _ h (pick_if _ (full_yes e _ slots refl z) refl))
 
 transport_flags : (slots : List ℕ) → flags_of slots 0 ≡ 0
 unfolding flags_of
@@ -131,11 +131,11 @@ bytes =
       whole = status_length;
       most = status_most;
       first = λ a slots. head_first slots (reported a) (first_small a);
-      number = λ a slots. head-number slots (reported a) (omega (arith, reported_few a));
+      number = λ a slots. head_number slots (reported a) (omega (arith, reported_few a));
       bytes = λ a slots. head_bytes slots (reported a) (omega (arith, pages_most slots (reported a) (reported_types a)));
       cut = cut_length;
-      of_empty = λ slots e h z. told slots e 8 (low_address e h) (empty-flags slots e h z);
-      of_full = λ slots e h z. told slots e 9 (low_address e h) (full-flags slots e h z);
+      of_empty = λ slots e h z. told slots e 8 (low_address e h) (empty_flags slots e h z);
+      of_full = λ slots e h z. told slots e 9 (low_address e h) (full_flags slots e h z);
       of_transport = λ slots. told slots 0 0 (omega arith) (transport_flags slots);
     }
 
@@ -145,23 +145,23 @@ module _ (s t : List ℕ) (h : (e : ℕ) → is_full s e ≡ is_full t e) where
   unfolding flags_of
   same_flags e = rw (h e)
 
-  same-descriptors : (es : List ℕ) → descriptors s es ≡ descriptors t es
+  same_descriptors : (es : List ℕ) → descriptors s es ≡ descriptors t es
   unfolding descriptors descriptor
-  same-descriptors [] = refl
-  same-descriptors (e ∷ es) = rw (same_flags e, same-descriptors es)
+  same_descriptors [] = refl
+  same_descriptors (e ∷ es) = rw (same_flags e, same_descriptors es)
 
-  same-page : (k : ℕ) (es : List ℕ) → page_of s k es ≡ page_of t k es
+  same_page : (k : ℕ) (es : List ℕ) → page_of s k es ≡ page_of t k es
   unfolding page_of
-  same-page k [] = refl
-  same-page k (e ∷ es) = rw (same-descriptors (e ∷ es))
+  same_page k [] = refl
+  same_page k (e ∷ es) = rw (same_descriptors (e ∷ es))
 
-  same-pages : (es : List ℕ) → pages s es ≡ pages t es
+  same_pages : (es : List ℕ) → pages s es ≡ pages t es
   unfolding pages
-  same-pages es = rw (same-page 1 (of_type 1 es), same-page 4 (of_type 4 es), same-page 2 (of_type 2 es))
+  same_pages es = rw (same_page 1 (of_type 1 es), same_page 4 (of_type 4 es), same_page 2 (of_type 2 es))
 
   by_full : (a : Asked) → status_data a s ≡ status_data a t
   unfolding status_data status_of
-  by_full a = rw (same-pages (reported a))
+  by_full a = rw (same_pages (reported a))
 
 same_half : (x y : List ℕ) (at : ℕ) → get_or x at 0 ≡ get_or y at 0 → get_or x (at + 1) 0 ≡ get_or y (at + 1) 0 → half x at ≡ half y at
 unfolding half

@@ -18,7 +18,7 @@ use Rattle.changer_elements.specs.Move.{move_medium, slots_after}
 use Rattle.changer_elements.proofs.Laws.{by_cases}
 use Rattle.changer_elements.proofs.Counts.{moved_other}
 use Rattle.changer_elements.proofs.Moves.{apart, places_hold, Goes, goes, by_outcome}
-use Rattle.changer_elements.proofs.Moves.{source-within, source-full, destination-empty}
+use Rattle.changer_elements.proofs.Moves.{source_within, source_full, destination_empty}
 
 -- ---- by index
 -- a number that is not named in the k places from place i on is in none of them, and the other way round
@@ -99,9 +99,9 @@ set_some (y ∷ ys) (suc i) x z = set_some ys i x z
 
 -- ---- a move from one place to a different one
 module _ (from to : ℕ) (l : List ℕ) (d : from ≡ to → ⊥) where
-  left-empty : get_or (moved from to l) from 0 ≡ 0
+  left_empty : get_or (moved from to l) from 0 ≡ 0
   unfolding moved
-  left-empty = set_empty (set l to (get_or l from 0)) from
+  left_empty = set_empty (set l to (get_or l from 0)) from
 
   arrived : (get_or (moved from to l) to 0 ≡ 0 → ⊥) → get_or (moved from to l) to 0 ≡ get_or l from 0
   unfolding moved
@@ -122,11 +122,11 @@ module _ (from to : ℕ) (l : List ℕ) (d : from ≡ to → ⊥) where
       let there : at i ≡ at to = ap at same in
       f same (there ∙ arrived (λ y. z (there ∙ y))))
       (λ (p : eqb i to ≡ false).
-      let other : i ≡ from → ⊥ = λ e. z (ap (λ (j : ℕ). get_or (moved from to l) j 0) e ∙ left-empty) in
+      let other : i ≡ from → ⊥ = λ e. z (ap (λ (j : ℕ). get_or (moved from to l) j 0) e ∙ left_empty) in
       g other (isnt p) (moved_other from to i l other (isnt p)))
 
-  moved-differ : from < 9 → (get_or l from 0 ≡ 0 → ⊥) → Differ 9 0 l → Differ 9 0 (moved from to l)
-  moved-differ s full f a b h m n z q =
+  moved_differ : from < 9 → (get_or l from 0 ≡ 0 → ⊥) → Differ 9 0 l → Differ 9 0 (moved from to l)
+  moved_differ s full f a b h m n z q =
       came a z
       (λ at e.
       came b (λ y. z (q ∙ y))
@@ -142,12 +142,12 @@ goes_on : (cdb slots : List ℕ) (opened : Bool) (from to : ℕ) → Goes cdb sl
     names_none_twice slots ≡ true → names_none_twice (moved from to slots) ≡ true
 unfolding names_none_twice
 goes_on cdb slots opened from to g e =
-    let full : get_or slots from 0 ≡ 0 → ⊥ = source-full cdb slots opened from to g in
-    let empty : get_or slots to 0 ≡ 0 = destination-empty cdb slots opened from to g in
+    let full : get_or slots from 0 ≡ 0 → ⊥ = source_full cdb slots opened from to g in
+    let empty : get_or slots to 0 ≡ 0 = destination_empty cdb slots opened from to g in
     let two : from ≡ to → ⊥ = λ q. full (ap (λ (k : ℕ). get_or slots k 0) q ∙ empty) in
     no_not
     (none_again 9 0 (moved from to slots)
-    (moved-differ from to slots two (source-within cdb slots opened from to g) full (differ 9 0 slots (not-true _ e))))
+    (moved_differ from to slots two (source_within cdb slots opened from to g) full (differ 9 0 slots (not-true _ e))))
 
 pub none_twice_after : (cdb slots : List ℕ) (opened : Bool) → names_none_twice slots ≡ true →
     names_none_twice (slots_after slots (move_medium cdb slots opened)) ≡ true

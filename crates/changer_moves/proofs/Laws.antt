@@ -37,21 +37,21 @@ again_some k i l r e f = rw (eqb_no e) f
 
 -- a loop that has found none named again in the first i of nine places
 module _ (i : ℕ) (l : List ℕ) (inv : names_none_twice l ≡ not (some_again (9 - i) i l)) where
-  pub twice-here : i < 9 → is_again (8 - i) i l ≡ true → false ≡ names_none_twice l
+  pub twice_here : i < 9 → is_again (8 - i) i l ≡ true → false ≡ names_none_twice l
   unfolding some_again choose
-  twice-here h e =
+  twice_here h e =
       let k : 9 - i ≡ suc (8 - i) = omega arith in
       sym (inv ∙ rw (k, e))
 
-  pub twice-next : i < 9 → is_again (8 - i) i l ≡ false → names_none_twice l ≡ not (some_again (9 - (i + 1)) (i + 1) l)
+  pub twice_next : i < 9 → is_again (8 - i) i l ≡ false → names_none_twice l ≡ not (some_again (9 - (i + 1)) (i + 1) l)
   unfolding some_again choose
-  twice-next h e =
+  twice_next h e =
       let k : 9 - i ≡ suc (8 - i) = omega arith in
       let m : 9 - (i + 1) ≡ 8 - i = omega arith in
       inv ∙ rw (k, e, m)
 
-  pub twice-end : 9 ≤ i → true ≡ names_none_twice l
+  pub twice_end : 9 ≤ i → true ≡ names_none_twice l
   unfolding some_again
-  twice-end h =
+  twice_end h =
       let k : 9 - i ≡ 0 = omega arith in
       sym (inv ∙ rw k)

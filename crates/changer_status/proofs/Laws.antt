@@ -12,7 +12,7 @@ use lib.Seq.{take-nil, take-length, take-append-le, take-suc-set, drop-cons, app
 use borrow.Author.Tests.{eqb-true, eqb-false}
 use Rattle.xdr.specs.Choose.{choose, least}
 use Rattle.xdr.specs.Xdr.{be32s, overlay}
-use Rattle.xdr.proofs.Tests.{pick_if, pick_else, eqb_yes, eqb_no, least-right, least-take}
+use Rattle.xdr.proofs.Tests.{pick_if, pick_else, eqb_yes, eqb_no, least_right, least_take}
 use Rattle.xdr.proofs.Laws.{more, then_at, overlay_none, overlay_front, length_be32s}
 use Rattle.xdr_opaque.specs.Put.{Put}
 use Rattle.changer_elements.specs.Elements.{has_place, place_of}
@@ -21,7 +21,7 @@ use Rattle.changer_elements.specs.declared.Asked.{Asked}
 use Rattle.changer_elements.specs.Status.{elements, type_of, is_asked, those, reported, be16, flags_of, descriptor, descriptors, is_type, of_type}
 use Rattle.changer_elements.specs.Status.{page, pages, first_of, status_of, status_data}
 use Rattle.changer_status.specs.Writers.{next_taken, Told, Few, HandsOver}
-use Rattle.changer_elements.proofs.Lists.{those_nil, those-yes, those-no, those_append, reported_few, reported_types}
+use Rattle.changer_elements.proofs.Lists.{those_nil, those_yes, those_no, those_append, reported_few, reported_types}
 use Rattle.changer_elements.proofs.Bytes.{descriptors_length, descriptors_append, page_none, page_some, status_is, status_most, cut_length}
 
 -- ---- the elements to report, while i of ten are looked at: those that stand at the front of the list, and those still to come
@@ -53,9 +53,9 @@ module _ (a : Asked) (list : List ℕ) (left count i e : ℕ) (r : Reporting a l
   unfolding next_taken
   some_left h = eqb-false left 0 (taken (eqb left 0) h).0
 
-  pub reporting-more : next_taken a left e ≡ true → Reporting a (set list count e) (left - 1) (count + 1) (i + 1)
+  pub reporting_more : next_taken a left e ≡ true → Reporting a (set list count e) (left - 1) (count + 1) (i + 1)
   unfolding next_taken
-  reporting-more h =
+  reporting_more h =
       let some : left ≡ 0 → ⊥ = eqb-false left 0 (taken (eqb left 0) h).0 in
       let asked : is_asked a e ≡ true = (taken (eqb left 0) h).1 in
       let k : left ≡ suc (left - 1) = omega arith in
@@ -63,7 +63,7 @@ module _ (a : Asked) (list : List ℕ) (left count i e : ℕ) (r : Reporting a l
       let rest : List ℕ = those (is_asked a) (drop (i + 1) elements) in
       let come : take left (those (is_asked a) (drop i elements)) ≡ e ∷ take (left - 1) rest =
       ap (λ (l : List ℕ). take left (those (is_asked a) l)) next_is
-      ∙ ap (take left) (those-yes (is_asked a) e (drop (i + 1) elements) asked)
+      ∙ ap (take left) (those_yes (is_asked a) e (drop (i + 1) elements) asked)
       ∙ ap (λ (n : ℕ). take n (e ∷ rest)) k in
       let front : take (count + 1) (set list count e) ≡ take count list ++ (e ∷ []) = ap (λ (n : ℕ). take n (set list count e)) (add-one count) ∙ take-suc-set list count e fits in
       record {
@@ -79,14 +79,14 @@ module _ (a : Asked) (list : List ℕ) (left count i e : ℕ) (r : Reporting a l
   none_left : left ≡ 0 → take left (those (is_asked a) (drop i elements)) ≡ take left (those (is_asked a) (drop (i + 1) elements))
   none_left z = rw z
 
-  pub reporting-skip : next_taken a left e ≡ false → Reporting a list left count (i + 1)
+  pub reporting_skip : next_taken a left e ≡ false → Reporting a list left count (i + 1)
   unfolding next_taken
-  reporting-skip h =
+  reporting_skip h =
       let come : take left (those (is_asked a) (drop i elements)) ≡ take left (those (is_asked a) (drop (i + 1) elements)) =
       by_cases (eqb left 0)
       (λ z. none_left (eqb-true left 0 z))
       (λ z. ap (λ (l : List ℕ). take left (those (is_asked a) l)) next_is
-      ∙ ap (take left) (those-no (is_asked a) e (drop (i + 1) elements) (skipped (eqb left 0) h z))) in
+      ∙ ap (take left) (those_no (is_asked a) e (drop (i + 1) elements) (skipped (eqb left 0) h z))) in
       record {
         done = omega arith;
         few = (let f = r.few in omega arith);
@@ -135,12 +135,12 @@ module _ (slots : List ℕ) (k e : ℕ) where
   pub one_yes : type_of e ≡ k → descriptors slots (of_type k (e ∷ [])) ≡ descriptor slots e
   unfolding of_type is_type descriptors
   one_yes h =
-      ap (descriptors slots) (those-yes (is_type k) e [] (eqb_yes h) ∙ ap (λ (l : List ℕ). e ∷ l) (those_nil (is_type k)))
+      ap (descriptors slots) (those_yes (is_type k) e [] (eqb_yes h) ∙ ap (λ (l : List ℕ). e ∷ l) (those_nil (is_type k)))
       ∙ append-nil (descriptor slots e)
 
   pub one_no : (type_of e ≡ k → ⊥) → descriptors slots (of_type k (e ∷ [])) ≡ []
   unfolding of_type is_type descriptors
-  one_no h = ap (descriptors slots) (those-no (is_type k) e [] (eqb_no h) ∙ those_nil (is_type k))
+  one_no h = ap (descriptors slots) (those_no (is_type k) e [] (eqb_no h) ∙ those_nil (is_type k))
 
 -- the first of those that are left, and the rest
 pub descriptors_next : (slots es : List ℕ) (k i : ℕ) → i < length es →
@@ -163,8 +163,8 @@ nil_of [] h = refl
 nil_of (x ∷ xs) h = absurd (omega arith)
 
 module _ (slots es : List ℕ) (k at end : ℕ) (l m : List ℕ) (p : Put (at + 8) (descriptors slots (of_type k es)) l end m) where
-  pub page-left : end ≡ at + 8 → Put at (page slots k es) l at m
-  page-left e =
+  pub page_left : end ≡ at + 8 → Put at (page slots k es) l at m
+  page_left e =
       let count = descriptors_length slots (of_type k es) in
       let empty : of_type k es ≡ [] = nil_of (of_type k es) (omega (arith, p.end)) in
       let bare : page slots k es ≡ [] = page_none slots (of_type k es) k empty in
@@ -176,9 +176,9 @@ module _ (slots es : List ℕ) (k at end : ℕ) (l m : List ℕ) (p : Put (at + 
             ∙ overlay_none at l ∙ ap (λ (b : List ℕ). overlay at b l) (sym bare);
       }
 
-  pub page-put : (m' : List ℕ) → (end ≡ at + 8 → ⊥) → k < 256 → at + 8 + 12 * length (of_type k es) ≤ length l → length (of_type k es) ≤ 10 →
+  pub page_put : (m' : List ℕ) → (end ≡ at + 8 → ⊥) → k < 256 → at + 8 + 12 * length (of_type k es) ≤ length l → length (of_type k es) ≤ 10 →
       m' ≡ overlay at (be32s ((k * 16777216 + 12) ∷ (end - (at + 8)) ∷ [])) m → Put at (page slots k es) l end m'
-  page-put m' some small fits few w =
+  page_put m' some small fits few w =
       let d : List ℕ = descriptors slots (of_type k es) in
       let count : length d ≡ 12 * length (of_type k es) = descriptors_length slots (of_type k es) in
       let long : end - (at + 8) ≡ length d = omega (arith, p.end) in
@@ -196,9 +196,9 @@ module _ (slots es : List ℕ) (k at end : ℕ) (l m : List ℕ) (p : Put (at + 
 -- ---- the whole status
 module _ (slots es l m₁ m₂ m₃ : List ℕ) (second third end : ℕ) (few : Few es) (fits : 152 ≤ length l)
     (p : Put 8 (page slots 1 es) l second m₁) (q : Put second (page slots 4 es) m₁ third m₂) (r : Put third (page slots 2 es) m₂ end m₃) where
-  pages-put : m₃ ≡ overlay 8 (pages slots es) l
+  pages_put : m₃ ≡ overlay 8 (pages slots es) l
   unfolding pages
-  pages-put =
+  pages_put =
       let a : List ℕ = page slots 1 es in
       let b : List ℕ = page slots 4 es in
       let c : List ℕ = page slots 2 es in
@@ -206,18 +206,18 @@ module _ (slots es l m₁ m₂ m₃ : List ℕ) (second third end : ℕ) (few : 
       let ends : 8 + length (a ++ b) ≡ third = omega (arith, length-append a b, p.end, q.end) in
       more 8 third (a ++ b) c l m₂ m₃ two r.wrote ends ∙ ap (λ (x : List ℕ). overlay 8 x l) (append_assoc a b c)
 
-  pub pages-end : end ≡ 8 + length (pages slots es)
+  pub pages_end : end ≡ 8 + length (pages slots es)
   unfolding pages
-  pages-end =
+  pages_end =
       let a : List ℕ = page slots 1 es in
       let b : List ℕ = page slots 4 es in
       let c : List ℕ = page slots 2 es in
       omega (arith, length-append a (b ++ c), length-append b c, p.end, q.end, r.end)
 
-  pub status-put : (first : ℕ) (m : List ℕ) → first ≡ first_of es → first < 65536 → length (pages slots es) ≤ 144 →
+  pub status_put : (first : ℕ) (m : List ℕ) → first ≡ first_of es → first < 65536 → length (pages slots es) ≤ 144 →
       m ≡ overlay 0 (be32s ((first * 65536 + length es) ∷ (end - 8) ∷ [])) m₃ → Put 0 (status_of slots es) l end m
-  status-put first m f small most w =
-      let ended : end ≡ 8 + length (pages slots es) = pages-end in
+  status_put first m f small most w =
+      let ended : end ≡ 8 + length (pages slots es) = pages_end in
       let long : end - 8 ≡ length (pages slots es) = omega arith in
       let head : List ℕ = be32s ((first_of es * 65536 + length es) ∷ length (pages slots es) ∷ []) in
       let eight : length head ≡ 8 = length_be32s ((first_of es * 65536 + length es) ∷ length (pages slots es) ∷ []) in
@@ -227,7 +227,7 @@ module _ (slots es l m₁ m₂ m₃ : List ℕ) (second third end : ℕ) (few : 
         wrote =
             w ∙ ap (λ (n : ℕ). overlay 0 (be32s ((first * 65536 + length es) ∷ n ∷ [])) m₃) long
             ∙ ap (λ (n : ℕ). overlay 0 (be32s ((n * 65536 + length es) ∷ length (pages slots es) ∷ [])) m₃) f
-            ∙ ap (λ (x : List ℕ). overlay 0 head x) pages-put
+            ∙ ap (λ (x : List ℕ). overlay 0 head x) pages_put
             ∙ overlay_front 0 8 head (pages slots es) l (omega arith) (omega arith) ∙ ap (λ (b : List ℕ). overlay 0 b l) (sym is);
       }
 
@@ -243,25 +243,25 @@ handed_over a slots out m whole n p h =
     let s : List ℕ = status_of slots (reported a) in
     let ends : whole ≡ length s = omega (arith, p.end) in
     let same : n ≡ least a.cut (length s) = h ∙ ap (least a.cut) ends in
-    let within : least a.cut (length s) ≤ length s = least-right a.cut (length s) in
+    let within : least a.cut (length s) ≤ length s = least_right a.cut (length s) in
     record {
       end = same ∙ sym (cut_length a slots);
       bytes =
           ap (λ (k : ℕ). take k m) same ∙ ap (take (least a.cut (length s))) p.wrote
           ∙ take-append-le (least a.cut (length s)) s (drop (0 + length s) out) within
-          ∙ least-take a.cut (length s) s ∙ ap (take a.cut) (take-length s);
+          ∙ least_take a.cut (length s) s ∙ ap (take a.cut) (take-length s);
       few = omega (arith, status_most a slots);
     }
 
 -- ---- values by a chain of choices
 module _ (slots : List ℕ) (e place : ℕ) where
-  pub flags-none : has_place e ≡ false → 0 ≡ flags_of slots e
+  pub flags_none : has_place e ≡ false → 0 ≡ flags_of slots e
   unfolding flags_of
-  flags-none h = pick_else _ h refl
+  flags_none h = pick_else _ h refl
 
-  pub flags-empty : has_place e ≡ true → place ≡ place_of e → get_or slots place 0 ≡ 0 → 8 ≡ flags_of slots e
+  pub flags_empty : has_place e ≡ true → place ≡ place_of e → get_or slots place 0 ≡ 0 → 8 ≡ flags_of slots e
   unfolding flags_of
-  flags-empty h p z = pick_if _ h (pick_else _ (full_no e place slots p z) refl)
+  flags_empty h p z = pick_if _ h (pick_else _ (full_no e place slots p z) refl)
 
   pub flags_full : has_place e ≡ true → place ≡ place_of e → (get_or slots place 0 ≡ 0 → ⊥) → 9 ≡ flags_of slots e
   unfolding flags_of

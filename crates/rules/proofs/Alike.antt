@@ -68,27 +68,27 @@ module _ (l m : List ℕ) (a : Sound l) (b : Sound m) (one : count l ≡ count m
   Alike o o' = Agree (left_at t.position o) → SameOutcome l m o o'
 
   -- a refusal passes nothing
-  agree-given : Agree (left_at t.position (given t op l (mtio_step l op t.position times).gives)) → Agree (mtio_step l op t.position times).gives.position
-  agree-given =
+  agree_given : Agree (left_at t.position (given t op l (mtio_step l op t.position times).gives)) → Agree (mtio_step l op t.position times).gives.position
+  agree_given =
       let g = (mtio_step l op t.position times).gives in
       by_test (λ (o : Outcome Loaded). Agree (left_at t.position o) → Agree g.position) (is_refusal g.error) _ _
       (λ e _ i. rw (((cartridge.promises).stand l t.position).mtio op times (refusal_facts _ e)) (λ h. absurd (none_passed (goes_forward op) t.position i h)))
       (λ e h. rw (after_at l op t.position times t e) at h)
 
-  given-alike : Alike (given t op (mtio_step l op t.position times).image (mtio_step l op t.position times).gives)
+  given_alike : Alike (given t op (mtio_step l op t.position times).image (mtio_step l op t.position times).gives)
       (given t op (mtio_step m op t.position times).image (mtio_step m op t.position times).gives)
   unfolding Alike
-  given-alike =
+  given_alike =
       let p = t.position in
       rw (((cartridge.promises).leave l p).spacing op times other, ((cartridge.promises).leave m p).spacing op times other)
-      (λ agree. rw (sym ((cartridge.promises).alike l m a b one op p times other (agree-given agree))) (given_same l m t op (mtio_step l op p times).gives))
+      (λ agree. rw (sym ((cartridge.promises).alike l m a b one op p times other (agree_given agree))) (given_same l m t op (mtio_step l op p times).gives))
 
-  mtio-alike : (mover : ℕ) → Alike (tape_mtio mover t l op times) (tape_mtio mover t m op times)
+  mtio_alike : (mover : ℕ) → Alike (tape_mtio mover t l op times) (tape_mtio mover t m op times)
   unfolding tape_mtio judge Alike
-  mtio-alike mover =
+  mtio_alike mover =
       by_both Alike (not t.opened) _ _ _ _ (λ _ _. refused _)
       (λ _. by_both Alike (holds_tape mover) _ _ _ _ (λ _ _. refused _)
-      (λ _. by_both Alike (protects op t.writable) _ _ _ _ (λ _ _. refused _) (λ _. given-alike)))
+      (λ _. by_both Alike (protects op t.writable) _ _ _ _ (λ _ _. refused _) (λ _. given_alike)))
 
 -- ---- the answer
 module _ (s : Session) (l m v : List ℕ) (lent : Lent) (r : List ℕ) (q : Request) where
@@ -96,11 +96,11 @@ module _ (s : Session) (l m v : List ℕ) (lent : Lent) (r : List ℕ) (q : Requ
   abbrev made : List ℕ → Outcome Loaded → Answered
   made image o = settled (held s image v) lent.time r q (onto (with_tape (held s image v)) (onto (with_loaded (tape_part (held s image v))) o))
 
-  made-same : (o o' : Outcome Loaded) → SameOutcome l m o o' → SameAnswer l m v (made l o) (made m o')
+  made_same : (o o' : Outcome Loaded) → SameOutcome l m o o' → SameAnswer l m v (made l o) (made m o')
   unfolding settled onto noticed choose reply_bytes shape_of
-  made-same _ _ (refused e) =
+  made_same _ _ (refused e) =
       record { code = refl; reply = refl; notices = refl; session = refl; first_image = refl; second_image = refl; stores = (refl, refl) }
-  made-same _ _ (accepted e n t) =
+  made_same _ _ (accepted e n t) =
       record { code = refl; reply = refl; notices = refl; session = refl; first_image = refl; second_image = refl; stores = (refl, refl) }
 
   made_at : (o : Outcome Loaded) → (made l o).next.session.tape.position ≡ left_at s.tape.position o
@@ -116,14 +116,14 @@ module _ (s : Session) (l m v : List ℕ) (lent : Lent) (r : List ℕ) (op times
   abbrev q : Request
   q = Request.Tape (TapeRequest.Mtio op times)
 
-  abbrev ofTape : List ℕ → Outcome Loaded
-  ofTape image = tape_mtio s.mover.state s.tape image op times
+  abbrev of_tape : List ℕ → Outcome Loaded
+  of_tape image = tape_mtio s.mover.state s.tape image op times
 
   -- behind the login test
-  served : Answers (made s l m v lent r q l (ofTape l)) (made s l m v lent r q m (ofTape m))
+  served : Answers (made s l m v lent r q l (of_tape l)) (made s l m v lent r q m (of_tape m))
   unfolding Answers Alike
   served agree =
-      made-same s l m v lent r q _ _ (mtio-alike l m a b one s.tape op times other s.mover.state (rw (made_at s l m v lent r q (ofTape l)) at agree))
+      made_same s l m v lent r q _ _ (mtio_alike l m a b one s.tape op times other s.mover.state (rw (made_at s l m v lent r q (of_tape l)) at agree))
 
   -- nothing done, and closing
   still : (code : ℕ) → Answers (silent code (held s l v)) (silent code (held s m v))
@@ -135,16 +135,16 @@ module _ (s : Session) (l m v : List ℕ) (lent : Lent) (r : List ℕ) (op times
   closes _ = record { code = refl; reply = refl; notices = refl; session = refl; first_image = refl; second_image = refl; stores = (refl, refl) }
 
   -- the login test
-  behind-login : (locked : Bool)
+  behind_login : (locked : Bool)
       → Answers (settled (held s l v) lent.time r q (judge (test locked 4 ∷ []) (outcome (held s l v) lent r q)))
       (settled (held s m v) lent.time r q (judge (test locked 4 ∷ []) (outcome (held s m v) lent r q)))
   unfolding Answers judge choose outcome onto tape_step device_step
-  behind-login true = λ _. made-same s l m v lent r q _ _ (refused 4)
-  behind-login false = served
+  behind_login true = λ _. made_same s l m v lent r q _ _ (refused 4)
+  behind_login false = served
 
   judges : Answers (judged (held s l v) lent r q) (judged (held s m v) lent r q)
   unfolding judged is_close choose verdict
-  judges = behind-login (is_locked s.login q)
+  judges = behind_login (is_locked s.login q)
 
   calls : request_in r ≡ q → Answers (answered (held s l v) lent r) (answered (held s m v) lent r)
   unfolding answered guarded room_of requested

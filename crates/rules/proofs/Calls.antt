@@ -18,8 +18,8 @@ use Rattle.tape_ops.specs.Step.{Step}
 use Rattle.tape_ops.specs.Operations.{write_step, mtio_step}
 use Rattle.tape_ops.proofs.Promises as cartridge
 use Rattle.wire_pairs.specs.Store.{storing, emptied, is_laid}
-use Rattle.wire_pairs.proofs.Back.{storing-length, start-leaves}
-use Rattle.wire_pairs.proofs.Stopped.{stop-leaves}
+use Rattle.wire_pairs.proofs.Back.{storing_length, start_leaves}
+use Rattle.wire_pairs.proofs.Stopped.{stop_leaves}
 use Rattle.wire_frame.specs.Frame.{well_framed, kind_of, body_of}
 use Rattle.wire_frame.specs.declared.Message.TheVariants as Message
 use Rattle.wire_requests.specs.Bodies.{decoded}
@@ -56,29 +56,29 @@ use Rattle.rules.specs.Relation.{data_wrong, mover_wrong, drive_wrong, slots_wro
 use Rattle.rules.specs.Promises.{Keeps, JointKeeps, data_side, part_wrong, part_side}
 use Rattle.rules.specs.Answer.{Kept, Lent, held, Answered, guarded, room_of, answered, requested, judged, is_close, settled, verdict, needs_login, is_locked, outcome, refusing, is_unread}
 use Rattle.rules.specs.Answer.{refused_in, noticed, silent, closing, replying, Done, tape_part, with_data, with_part, with_tape, with_changer, with_login, with_ends, message_in, request_in}
-use Rattle.rules.specs.Order.{Item, Requested, Commanded, with_list, Turn, taken, run}
+use Rattle.rules.specs.Order.{Call, run}
 use Rattle.rules.specs.Rmt.{rmt_request, in_record, bare, said, replied, commanded}
 use Rattle.rules.specs.RmtHolds.{CommandLeaves}
 use Rattle.rules.specs.Calls.{opened_session, unopened_session, opening, Unopened, Opens, OpeningHolds, Unmoved, Heard, is_mislent, CallsKeep}
-use Rattle.rules.proofs.JudgeLaws.{judged-by, accepts, accepts_any, accepts_map, accepts_both, refusal-says, carried}
-use Rattle.rules.proofs.Kept.{kept-mover}
-use Rattle.rules.proofs.Keeping.{clash, rest_kept, data_keeps, tape_keeps, mover_part_keeps, joint-keeps}
-use Rattle.rules.proofs.Changer.{scsi-drive, stays_none_twice, tape_drives}
-use Rattle.rules.proofs.Guarding.{by_guard, goes_on, stored, lent-well}
-use Rattle.rules.proofs.Numbers.{number-right, refusal-right}
+use Rattle.rules.proofs.JudgeLaws.{judged_by, accepts, accepts_any, accepts_map, accepts_both, refusal_says, carried}
+use Rattle.rules.proofs.Kept.{kept_mover}
+use Rattle.rules.proofs.Keeping.{clash, rest_kept, data_keeps, tape_keeps, mover_part_keeps, joint_keeps}
+use Rattle.rules.proofs.Changer.{scsi_drive, stays_none_twice, tape_drives}
+use Rattle.rules.proofs.Guarding.{by_guard, goes_on, stored, lent_well}
+use Rattle.rules.proofs.Numbers.{number_right, refusal_right}
 
 -- ---- a call comes to nothing, to closing, or to a request that is judged
 module _ (P : Answered → Type 0) (k : Kept) (l : Lent) (r : List ℕ) where
-  pub by-stored-call : ((code : ℕ) → P (silent code k)) → P (closing k) → (length k.variables ≡ store_length → P (judged k l r (request_in r)))
+  pub by_stored_call : ((code : ℕ) → P (silent code k)) → P (closing k) → (length k.variables ≡ store_length → P (judged k l r (request_in r)))
       → P (answered k l r)
   unfolding answered requested
-  by-stored-call still close serve =
+  by_stored_call still close serve =
       by_guard P k.session (room_of k l) _ _ still
       (λ g. by_test P (well_framed r) _ _
       (λ _. by_test P (not (eqb (kind_of r) 0)) _ _ (λ _. still 0) (λ _. serve (stored k l g.roomy))) (λ _. close))
 
   pub by_call : ((code : ℕ) → P (silent code k)) → P (closing k) → P (judged k l r (request_in r)) → P (answered k l r)
-  by_call still close serve = by-stored-call still close (λ _. serve)
+  by_call still close serve = by_stored_call still close (λ _. serve)
 
 -- ---- what holds of what is passed on, and stays with a message sent and with closing, holds after a call if every accepted request keeps it
 module _ (Q : Kept → Type 0) (sends : (k : Kept) (first : Bool) → Q k → Q (held (after_message k.session first) k.image k.variables))
@@ -89,46 +89,46 @@ module _ (Q : Kept → Type 0) (sends : (k : Kept) (first : Bool) → Q k → Q 
   abbrev Accepted : Reply → Done → Type 0
   Accepted _ d = Q d.kept
 
-  pub noticed-holds : (time why : ℕ) (n : Notice) (a : Answered) → Next a → Next (noticed time why n a)
+  pub noticed_holds : (time why : ℕ) (n : Notice) (a : Answered) → Next a → Next (noticed time why n a)
   unfolding noticed
-  noticed-holds time why n a h = by_test Next (eqb why 0) _ _ (λ _. h) (λ _. sends a.next a.next.session.first h)
+  noticed_holds time why n a h = by_test Next (eqb why 0) _ _ (λ _. h) (λ _. sends a.next a.next.session.first h)
 
   module _ (k : Kept) (l : Lent) (r : List ℕ) (h : Q k) where
-    settled-holds : (q : Request) (o : Outcome Done) → Accepts Accepted o → Next (settled k l.time r q o)
+    settled_holds : (q : Request) (o : Outcome Done) → Accepts Accepted o → Next (settled k l.time r q o)
     unfolding settled Accepts
-    settled-holds q (refuse e) a = sends k false h
-    settled-holds q (accept reply d) a = noticed-holds l.time d.mwhy _ _ (noticed-holds l.time d.dwhy _ _ (sends d.kept false a))
+    settled_holds q (refuse e) a = sends k false h
+    settled_holds q (accept reply d) a = noticed_holds l.time d.mwhy _ _ (noticed_holds l.time d.dwhy _ _ (sends d.kept false a))
 
-    judged-holds : (q : Request) → Accepts Accepted (verdict k l r q) → Next (judged k l r q)
+    judged_holds : (q : Request) → Accepts Accepted (verdict k l r q) → Next (judged k l r q)
     unfolding judged
-    judged-holds q a = by_test Next (is_close q) _ _ (λ _. shuts k h) (λ _. settled-holds q _ a)
+    judged_holds q a = by_test Next (is_close q) _ _ (λ _. shuts k h) (λ _. settled_holds q _ a)
 
-    pub call-stored : (length k.variables ≡ store_length → Accepts Accepted (verdict k l r (request_in r))) → Next (answered k l r)
-    call-stored a = by-stored-call Next k l r (λ _. h) (shuts k h) (λ e. judged-holds (request_in r) (a e))
+    pub call_stored : (length k.variables ≡ store_length → Accepts Accepted (verdict k l r (request_in r))) → Next (answered k l r)
+    call_stored a = by_stored_call Next k l r (λ _. h) (shuts k h) (λ e. judged_holds (request_in r) (a e))
 
-    pub call-judged : Accepts Accepted (verdict k l r (request_in r)) → Next (answered k l r)
-    call-judged a = call-stored (λ _. a)
+    pub call_judged : Accepts Accepted (verdict k l r (request_in r)) → Next (answered k l r)
+    call_judged a = call_stored (λ _. a)
 
     -- the login test aside
-    pub call-holds : Accepts Accepted (outcome k l r (request_in r)) → Next (answered k l r)
+    pub call_holds : Accepts Accepted (outcome k l r (request_in r)) → Next (answered k l r)
     unfolding verdict
-    call-holds a = call-judged (judged-by Accepted _ _ (λ _. a))
+    call_holds a = call_judged (judged_by Accepted _ _ (λ _. a))
 
 -- ---- what holds of what is passed on holds after a command if every accepted request keeps it
 module _ (Q : Kept → Type 0) (k : Kept) (room : ℕ) (c : List ℕ) (h : Q k) where
-  replied-holds : (o : Outcome Done) → Accepts (λ _ d. Q d.kept) o → Q (replied k o).next
+  replied_holds : (o : Outcome Done) → Accepts (λ _ d. Q d.kept) o → Q (replied k o).next
   unfolding replied Accepts
-  replied-holds (refuse e) a = h
-  replied-holds (accept reply d) a = a
+  replied_holds (refuse e) a = h
+  replied_holds (accept reply d) a = a
 
-  pub command-judged : Accepts (λ _ d. Q d.kept) (said k c) → Q (commanded k room c).next
+  pub command_judged : Accepts (λ _ d. Q d.kept) (said k c) → Q (commanded k room c).next
   unfolding commanded
-  command-judged a = by_guard (λ (x : Answered). Q x.next) k.session room _ _ (λ _. h) (λ _. replied-holds (said k c) a)
+  command_judged a = by_guard (λ (x : Answered). Q x.next) k.session room _ _ (λ _. h) (λ _. replied_holds (said k c) a)
 
   -- the login test aside
-  pub command-holds : Accepts (λ _ d. Q d.kept) (outcome k bare (in_record c) (rmt_request (rmt_command c))) → Q (commanded k room c).next
+  pub command_holds : Accepts (λ _ d. Q d.kept) (outcome k bare (in_record c) (rmt_request (rmt_command c))) → Q (commanded k room c).next
   unfolding verdict
-  command-holds a = command-judged (judged-by (λ _ d. Q d.kept) _ _ (λ _. a))
+  command_holds a = command_judged (judged_by (λ _ d. Q d.kept) _ _ (λ _. a))
 
 -- ---- what a command leaves
 module _ (k : Kept) (c : List ℕ) where
@@ -138,32 +138,32 @@ module _ (k : Kept) (c : List ℕ) where
   all_left : CommandLeaves k k
   all_left = record { closed = refl; mark = refl; login = refl; counter = refl; source = refl; mover = refl; changer = refl; variables = refl }
 
-  tape-leaves : (q : TapeRequest) → Accepts Leaves (outcome k bare (in_record c) (Request.Tape q))
+  tape_leaves : (q : TapeRequest) → Accepts Leaves (outcome k bare (in_record c) (Request.Tape q))
   unfolding outcome tape_step Leaves
-  tape-leaves q =
+  tape_leaves q =
       carried Leaves (with_tape k) _ (carried (λ reply p. Leaves reply (with_tape k p)) (with_loaded (tape_part k)) _
       (accepts_any (λ reply p. Leaves reply (with_tape k (with_loaded (tape_part k) p)))
       (λ _ _. record { closed = refl; mark = refl; login = refl; counter = refl; source = refl; mover = refl; changer = refl; variables = refl }) _))
 
   -- what does not read is refused
-  bad-says : (P : Reply → Done → Type 0) → Accepts P (outcome k bare (in_record c) Request.Bad)
+  bad_says : (P : Reply → Done → Type 0) → Accepts P (outcome k bare (in_record c) Request.Bad)
   unfolding outcome Accepts
-  bad-says P = tt
+  bad_says P = tt
 
   -- what holds of every tape request holds of a command
-  pub by-tape : (P : Reply → Done → Type 0) → ((q : TapeRequest) → Accepts P (outcome k bare (in_record c) (Request.Tape q)))
+  pub by_tape : (P : Reply → Done → Type 0) → ((q : TapeRequest) → Accepts P (outcome k bare (in_record c) (Request.Tape q)))
       → (q : Command) → Accepts P (outcome k bare (in_record c) (rmt_request q))
   unfolding rmt_request
-  by-tape P h (Command.Open name mode) = h _
-  by-tape P h Command.Close = h _
-  by-tape P h (Command.Read count) = h _
-  by-tape P h (Command.Write bytes) = h _
-  by-tape P h (Command.Operate op count) = h _
-  by-tape P h Command.Bad = bad-says P
+  by_tape P h (Command.Open name mode) = h _
+  by_tape P h Command.Close = h _
+  by_tape P h (Command.Read count) = h _
+  by_tape P h (Command.Write bytes) = h _
+  by_tape P h (Command.Operate op count) = h _
+  by_tape P h Command.Bad = bad_says P
 
 pub command_left : (k : Kept) (room : ℕ) (c : List ℕ) → CommandLeaves k (commanded k room c).next
 unfolding Leaves
-command_left k room c = command-holds (CommandLeaves k) k room c (all_left k c) (by-tape k c (Leaves k c) (tape-leaves k c) (rmt_command c))
+command_left k room c = command_holds (CommandLeaves k) k room c (all_left k c) (by_tape k c (Leaves k c) (tape_leaves k c) (rmt_command c))
 
 -- ---- the relation, as facts
 pub record Fair (s : Session) : Type 0 where
@@ -225,13 +225,13 @@ module _ (k : Kept) (l : Lent) (r : List ℕ) (h : Valid k) where
   unfolding Stays
   aside put f o = carried Stays put o (accepts_any (λ reply p. Stays reply (put p)) (λ _ p. f p) o)
 
-  outcome-keeps : (q : Request) → Accepts Stays (outcome k l r q)
+  outcome_keeps : (q : Request) → Accepts Stays (outcome k l r q)
   unfolding outcome Stays Valid
-  outcome-keeps Request.Unknown = refusal-says Stays _
-  outcome-keeps Request.Bad = refusal-says Stays _
-  outcome-keeps (Request.Connect q) = aside (with_login k _) (λ _. same_ends k.session _ refl refl refl refl h) _
-  outcome-keeps (Request.Config q) = aside (with_login k _) (λ _. same_ends k.session _ refl refl refl refl h) _
-  outcome-keeps (Request.Scsi q) =
+  outcome_keeps Request.Unknown = refusal_says Stays _
+  outcome_keeps Request.Bad = refusal_says Stays _
+  outcome_keeps (Request.Connect q) = aside (with_login k _) (λ _. same_ends k.session _ refl refl refl refl h) _
+  outcome_keeps (Request.Config q) = aside (with_login k _) (λ _. same_ends k.session _ refl refl refl refl h) _
+  outcome_keeps (Request.Scsi q) =
       let f = kept_facts k.session h in
       let c = k.session.changer in
       let drives : Reply → Changer → Type 0 = λ _ next. drive_wrong (in_drive next.slots) k.session.tape ≡ false in
@@ -239,8 +239,8 @@ module _ (k : Kept) (l : Lent) (r : List ℕ) (h : Valid k) where
       carried Stays (with_changer k _) _
       (accepts_map (λ r p. drives r p × names r p) (λ reply p. Stays reply (with_changer k (scsi_shown q (body_of r) c.slots) p))
       (λ _ p n. facts_kept _ (record { source = f.source; mover = f.mover; drive = n.0; names = n.1; joined = f.joined })) _
-      (accepts_both drives names _ (scsi-drive k.session.tape c q (body_of r) f.drive) (stays_none_twice k.session.tape.opened c q (body_of r) f.names)))
-  outcome-keeps (Request.Tape q) =
+      (accepts_both drives names _ (scsi_drive k.session.tape c q (body_of r) f.drive) (stays_none_twice k.session.tape.opened c q (body_of r) f.names)))
+  outcome_keeps (Request.Tape q) =
       let f = kept_facts k.session h in
       let drive = in_drive k.session.changer.slots in
       let drives : Reply → TapePart → Type 0 = λ _ next. drive_wrong drive next.tape ≡ false in
@@ -249,13 +249,13 @@ module _ (k : Kept) (l : Lent) (r : List ℕ) (h : Valid k) where
       (accepts_map (λ r p. parts r p × drives r p) (λ reply p. Stays reply (with_tape k p))
       (λ _ p n. facts_kept _ (record { source = f.source; mover = n.0.good f.mover; drive = n.1; names = f.names; joined = rw n.0.sides f.joined })) _
       (accepts_both parts drives _ (tape_keeps drive (tape_part k) q (body_of r)) (tape_drives drive (tape_part k) q (body_of r) f.drive)))
-  outcome-keeps (Request.Data q) =
+  outcome_keeps (Request.Data q) =
       let f = kept_facts k.session h in
       carried Stays (with_data k q _ _) _
       (accepts_map (λ _ next. Keeps data_wrong data_side k.session.source next) (λ reply p. Stays reply (with_data k q (body_of r) l.addresses p))
       (λ _ p n. facts_kept _ (record { source = n.good f.source; mover = f.mover; drive = f.drive; names = f.names; joined = rw n.sides f.joined })) _
       (data_keeps k.session.source q _ _ _))
-  outcome-keeps (Request.Mover q) =
+  outcome_keeps (Request.Mover q) =
       let f = kept_facts k.session h in
       let parts : Reply → TapePart → Type 0 = λ _ next. Keeps part_wrong part_side (tape_part k) next in
       let drives : Reply → TapePart → Type 0 = λ _ next. drive_wrong (in_drive k.session.changer.slots) next.tape ≡ false in
@@ -263,21 +263,21 @@ module _ (k : Kept) (l : Lent) (r : List ℕ) (h : Valid k) where
       (accepts_map (λ r p. parts r p × drives r p) (λ reply p. Stays reply (with_part k l.addresses p))
       (λ _ p n. facts_kept _ (record { source = f.source; mover = n.0.good f.mover; drive = n.1; names = f.names; joined = rw n.0.sides f.joined })) _
       (accepts_both parts drives _ (mover_part_keeps (tape_part k) q l.addresses) (mover_drives k q l.addresses f.drive)))
-  outcome-keeps (Request.Joint q) =
+  outcome_keeps (Request.Joint q) =
       let f = kept_facts k.session h in
       carried Stays (with_ends k) _
       (accepts_map (λ _ next. JointKeeps k.session.tape next) (λ reply p. Stays reply (with_ends k p))
       (λ _ p n. facts_kept _ (record { source = n.source; mover = n.mover; drive = f.drive; names = f.names; joined = n.joined })) _
-      (joint-keeps k.session.source k.session.mover k.session.tape f.source f.mover f.joined q _))
+      (joint_keeps k.session.source k.session.mover k.session.tape f.source f.mover f.joined q _))
 
 pub kept : (k : Kept) (l : Lent) (r : List ℕ) → keeps k.session ≡ true → keeps (answered k l r).next.session ≡ true
 unfolding Valid Stays
-kept k l r h = call-holds Valid valid_sends valid_shuts k l r h (outcome-keeps k l r h (request_in r))
+kept k l r h = call_holds Valid valid_sends valid_shuts k l r h (outcome_keeps k l r h (request_in r))
 
 opened : (slots : List ℕ) → names_none_twice slots ≡ true → keeps (opened_session slots) ≡ true
 unfolding data_wrong address_wrong data_partnered mover_partnered data_joined mover_joined drive_wrong same_flag choose
 opened slots h =
-    facts_kept (opened_session slots) (record { source = refl; mover = kept-mover (rest_mover first_size) closed_tape (rest_kept first_size closed_tape (omega arith)); drive = refl; names = h; joined = refl })
+    facts_kept (opened_session slots) (record { source = refl; mover = kept_mover (rest_mover first_size) closed_tape (rest_kept first_size closed_tape (omega arith)); drive = refl; names = h; joined = refl })
 
 -- what opening gives: nothing, with a code, and a closed session with no cartridge; or a session with the slot list
 pub by_opening : (P : Answered → Type 0) (slots : List ℕ) (time room : ℕ) → ((code : ℕ) → (code ≡ 0 → ⊥) → P (silent code (held unopened_session [] [])))
@@ -305,25 +305,25 @@ unfolding mtio_step Same choose
 mtio_faulty l op p times e = by_test (Same l) (ltb 6 op) _ _ (λ _. refl) (λ _. rw e refl)
 
 module _ (l : List ℕ) (h : is_sound l ≡ true) where
-  write-sound : (p : ℕ) (b : List ℕ) → is_sound (write_step l p b).image ≡ true
+  write_sound : (p : ℕ) (b : List ℕ) → is_sound (write_step l p b).image ≡ true
   unfolding Same
-  write-sound p b = sound_by l p _ h (faulty l p) refl (write_faulty l p b) (λ at. (((cartridge.promises).sound l p at).write b).ok)
+  write_sound p b = sound_by l p _ h (faulty l p) refl (write_faulty l p b) (λ at. (((cartridge.promises).sound l p at).write b).ok)
 
-  mtio-sound : (op p times : ℕ) → is_sound (mtio_step l op p times).image ≡ true
+  mtio_sound : (op p times : ℕ) → is_sound (mtio_step l op p times).image ≡ true
   unfolding Same
-  mtio-sound op p times = sound_by l p _ h (faulty l p) refl (mtio_faulty l op p times) (λ at. (((cartridge.promises).sound l p at).mtio op times).ok)
+  mtio_sound op p times = sound_by l p _ h (faulty l p) refl (mtio_faulty l op p times) (λ at. (((cartridge.promises).sound l p at).mtio op times).ok)
 
   Loads : Reply → Loaded → Type 0
   Loads _ s = is_sound s.image ≡ true
 
-  device-sound : (drive mover : ℕ) (t : Tape) (q : TapeRequest) (body : List ℕ) → Accepts Loads (device_step drive mover t l q body)
+  device_sound : (drive mover : ℕ) (t : Tape) (q : TapeRequest) (body : List ℕ) → Accepts Loads (device_step drive mover t l q body)
   unfolding device_step tape_open tape_close tape_state tape_mtio tape_write tape_read Loads
-  device-sound drive mover t (TapeRequest.Open name mode) body = accepts Loads _ _ _ (λ _. h)
-  device-sound drive mover t TapeRequest.Close body = accepts Loads _ _ _ (λ _. h)
-  device-sound drive mover t TapeRequest.State body = accepts Loads _ _ _ (λ _. h)
-  device-sound drive mover t (TapeRequest.Mtio op times) body = accepts Loads _ _ _ (λ _. mtio-sound op t.position times)
-  device-sound drive mover t (TapeRequest.Write bytes) body = accepts Loads _ _ _ (λ _. write-sound t.position (bytes_at body bytes))
-  device-sound drive mover t (TapeRequest.Read times) body = accepts Loads _ _ _ (λ _. h)
+  device_sound drive mover t (TapeRequest.Open name mode) body = accepts Loads _ _ _ (λ _. h)
+  device_sound drive mover t TapeRequest.Close body = accepts Loads _ _ _ (λ _. h)
+  device_sound drive mover t TapeRequest.State body = accepts Loads _ _ _ (λ _. h)
+  device_sound drive mover t (TapeRequest.Mtio op times) body = accepts Loads _ _ _ (λ _. mtio_sound op t.position times)
+  device_sound drive mover t (TapeRequest.Write bytes) body = accepts Loads _ _ _ (λ _. write_sound t.position (bytes_at body bytes))
+  device_sound drive mover t (TapeRequest.Read times) body = accepts Loads _ _ _ (λ _. h)
 
 module _ (k : Kept) (l : Lent) (r : List ℕ) (h : is_sound k.image ≡ true) where
   Sounds : Reply → Done → Type 0
@@ -333,33 +333,33 @@ module _ (k : Kept) (l : Lent) (r : List ℕ) (h : is_sound k.image ≡ true) wh
   unfolding Sounds
   unread put f o = carried Sounds put o (accepts_any (λ reply p. Sounds reply (put p)) (λ _ p. f p) o)
 
-  outcome-sound : (q : Request) → Accepts Sounds (outcome k l r q)
+  outcome_sound : (q : Request) → Accepts Sounds (outcome k l r q)
   unfolding outcome Sounds tape_step mover_part_step Loads
-  outcome-sound Request.Unknown = refusal-says Sounds _
-  outcome-sound Request.Bad = refusal-says Sounds _
-  outcome-sound (Request.Connect q) = unread (with_login k _) (λ _. h) _
-  outcome-sound (Request.Config q) = unread (with_login k _) (λ _. h) _
-  outcome-sound (Request.Scsi q) = unread (with_changer k _) (λ _. h) _
-  outcome-sound (Request.Tape q) =
+  outcome_sound Request.Unknown = refusal_says Sounds _
+  outcome_sound Request.Bad = refusal_says Sounds _
+  outcome_sound (Request.Connect q) = unread (with_login k _) (λ _. h) _
+  outcome_sound (Request.Config q) = unread (with_login k _) (λ _. h) _
+  outcome_sound (Request.Scsi q) = unread (with_changer k _) (λ _. h) _
+  outcome_sound (Request.Tape q) =
       carried Sounds (with_tape k) _ (carried (λ reply p. Sounds reply (with_tape k p)) (with_loaded (tape_part k)) _
-      (device-sound k.image h _ k.session.mover.state k.session.tape q _))
-  outcome-sound (Request.Data q) = unread (with_data k q _ _) (λ _. h) _
-  outcome-sound (Request.Mover q) =
+      (device_sound k.image h _ k.session.mover.state k.session.tape q _))
+  outcome_sound (Request.Data q) = unread (with_data k q _ _) (λ _. h) _
+  outcome_sound (Request.Mover q) =
       carried Sounds (with_part k _) _ (carried (λ reply p. Sounds reply (with_part k l.addresses p)) (with_mover (tape_part k)) _
       (accepts_any (λ reply p. Sounds reply (with_part k l.addresses (with_mover (tape_part k) p))) (λ _ _. h) _))
-  outcome-sound (Request.Joint q) = unread (with_ends k) (λ _. h) _
+  outcome_sound (Request.Joint q) = unread (with_ends k) (λ _. h) _
 
 sound : (k : Kept) (l : Lent) (r : List ℕ) → is_sound k.image ≡ true → is_sound (answered k l r).next.image ≡ true
 unfolding Sounds
-sound k l r h = call-holds (λ (x : Kept). is_sound x.image ≡ true) (λ x _ e. e) (λ x e. e) k l r h (outcome-sound k l r h (request_in r))
+sound k l r h = call_holds (λ (x : Kept). is_sound x.image ≡ true) (λ x _ e. e) (λ x e. e) k l r h (outcome_sound k l r h (request_in r))
 
 pub command_kept : (k : Kept) (room : ℕ) (c : List ℕ) → keeps k.session ≡ true → keeps (commanded k room c).next.session ≡ true
 unfolding Stays Valid
-command_kept k room c h = command-holds (λ (x : Kept). keeps x.session ≡ true) k room c h (outcome-keeps k bare (in_record c) h (rmt_request (rmt_command c)))
+command_kept k room c h = command_holds (λ (x : Kept). keeps x.session ≡ true) k room c h (outcome_keeps k bare (in_record c) h (rmt_request (rmt_command c)))
 
 pub command_sound : (k : Kept) (room : ℕ) (c : List ℕ) → is_sound k.image ≡ true → is_sound (commanded k room c).next.image ≡ true
 unfolding Sounds
-command_sound k room c h = command-holds (λ (x : Kept). is_sound x.image ≡ true) k room c h (outcome-sound k bare (in_record c) h (rmt_request (rmt_command c)))
+command_sound k room c h = command_holds (λ (x : Kept). is_sound x.image ≡ true) k room c h (outcome_sound k bare (in_record c) h (rmt_request (rmt_command c)))
 
 -- ---- the store of the environment: an accepted start or stop keeps its length, and leaves it laid out so
 Follows : List ℕ → List ℕ → Type 0
@@ -371,13 +371,13 @@ unfolding data_step data_state data_start data_environment data_stop data_listen
 data_follows d DataRequest.State body list v h = accepts (λ _ _. Follows v v) _ _ _ (λ _. (refl, λ e. e))
 data_follows d (DataRequest.Backup name ps) body list v h =
     accepts (λ _ _. Follows v (storing (pairs_of body ps) v)) _ _ _
-    (λ g. (storing-length (pairs_of body ps) v (yes (g 2)) h, λ _. (start-leaves (pairs_of body ps) v (yes (g 2))).laid))
+    (λ g. (storing_length (pairs_of body ps) v (yes (g 2)) h, λ _. (start_leaves (pairs_of body ps) v (yes (g 2))).laid))
 data_follows d (DataRequest.Recover name ps) body list v h =
     accepts (λ _ _. Follows v (storing (pairs_of body ps) v)) _ _ _
-    (λ g. (storing-length (pairs_of body ps) v (yes (g 2)) h, λ _. (start-leaves (pairs_of body ps) v (yes (g 2))).laid))
+    (λ g. (storing_length (pairs_of body ps) v (yes (g 2)) h, λ _. (start_leaves (pairs_of body ps) v (yes (g 2))).laid))
 data_follows d DataRequest.Environment body list v h = accepts (λ _ _. Follows v v) _ _ _ (λ _. (refl, λ e. e))
 data_follows d DataRequest.Stop body list v h =
-    let s = stop-leaves v (omega arith) in
+    let s = stop_leaves v (omega arith) in
     accepts (λ _ _. Follows v (emptied v)) _ _ _ (λ _. (s.long, λ _. s.laid))
 data_follows d (DataRequest.Listen address) body list v h = accepts (λ _ _. Follows v v) _ _ _ (λ _. (refl, λ e. e))
 
@@ -389,23 +389,23 @@ module _ (k : Kept) (l : Lent) (r : List ℕ) where
   unfolding Followed Follows
   unstored put f o = carried Followed put o (accepts_any (λ reply p. Followed reply (put p)) (λ _ p. rw (← f p) (refl, λ e. e)) o)
 
-  outcome-follows : length k.variables ≡ store_length → (q : Request) → Accepts Followed (outcome k l r q)
+  outcome_follows : length k.variables ≡ store_length → (q : Request) → Accepts Followed (outcome k l r q)
   unfolding outcome Followed tape_step mover_part_step
-  outcome-follows h Request.Unknown = refusal-says Followed _
-  outcome-follows h Request.Bad = refusal-says Followed _
-  outcome-follows h (Request.Connect q) = unstored (with_login k _) (λ _. refl) _
-  outcome-follows h (Request.Config q) = unstored (with_login k _) (λ _. refl) _
-  outcome-follows h (Request.Scsi q) = unstored (with_changer k _) (λ _. refl) _
-  outcome-follows h (Request.Tape q) = unstored (with_tape k) (λ _. refl) _
-  outcome-follows h (Request.Data q) = carried Followed (with_data k q _ _) _ (data_follows k.session.source q _ _ k.variables h)
-  outcome-follows h (Request.Mover q) = unstored (with_part k _) (λ _. refl) _
-  outcome-follows h (Request.Joint q) = unstored (with_ends k) (λ _. refl) _
+  outcome_follows h Request.Unknown = refusal_says Followed _
+  outcome_follows h Request.Bad = refusal_says Followed _
+  outcome_follows h (Request.Connect q) = unstored (with_login k _) (λ _. refl) _
+  outcome_follows h (Request.Config q) = unstored (with_login k _) (λ _. refl) _
+  outcome_follows h (Request.Scsi q) = unstored (with_changer k _) (λ _. refl) _
+  outcome_follows h (Request.Tape q) = unstored (with_tape k) (λ _. refl) _
+  outcome_follows h (Request.Data q) = carried Followed (with_data k q _ _) _ (data_follows k.session.source q _ _ k.variables h)
+  outcome_follows h (Request.Mover q) = unstored (with_part k _) (λ _. refl) _
+  outcome_follows h (Request.Joint q) = unstored (with_ends k) (λ _. refl) _
 
   follows : Follows k.variables (answered k l r).next.variables
   unfolding verdict Followed Follows
   follows =
-      call-stored (λ (x : Kept). Follows k.variables x.variables) (λ x _ e. e) (λ x e. e) k l r (refl, λ e. e)
-      (λ h. judged-by Followed _ _ (λ _. outcome-follows h (request_in r)))
+      call_stored (λ (x : Kept). Follows k.variables x.variables) (λ x _ e. e) (λ x e. e) k l r (refl, λ e. e)
+      (λ h. judged_by Followed _ _ (λ _. outcome_follows h (request_in r)))
 
 pub lengths : (k : Kept) (l : Lent) (r : List ℕ) → length (answered k l r).next.variables ≡ length k.variables
 unfolding Follows
@@ -416,46 +416,25 @@ unfolding Follows
 laid k l r = (follows k l r).1
 
 -- ---- calls one after the other
-module _ (k : Kept) (l : Lent) where
-  taken-lengths : (i : Item) → length (taken k l i).next.variables ≡ length k.variables
-  unfolding taken
-  taken-lengths (Requested a) = lengths k (with_list a l) a.request
-  taken-lengths (Commanded c) = ap (λ (v : List ℕ). length v) (command_left k l.room c).variables
-
-  taken-laid : (i : Item) → is_laid k.variables ≡ true → is_laid (taken k l i).next.variables ≡ true
-  unfolding taken
-  taken-laid (Requested a) h = laid k (with_list a l) a.request h
-  taken-laid (Commanded c) h = rw (command_left k l.room c).variables h
-
-  taken-kept : (i : Item) → keeps k.session ≡ true → keeps (taken k l i).next.session ≡ true
-  unfolding taken
-  taken-kept (Requested a) h = kept k (with_list a l) a.request h
-  taken-kept (Commanded c) h = command_kept k l.room c h
-
-  taken-sound : (i : Item) → is_sound k.image ≡ true → is_sound (taken k l i).next.image ≡ true
-  unfolding taken
-  taken-sound (Requested a) h = sound k (with_list a l) a.request h
-  taken-sound (Commanded c) h = command_sound k l.room c h
-
-runs_lengths : (k : Kept) (ts : List Turn) → length (run k ts).last.variables ≡ length k.variables
+runs_lengths : (k : Kept) (cs : List Call) → length (run k cs).last.variables ≡ length k.variables
 unfolding run
 runs_lengths k [] = refl
-runs_lengths k (t ∷ ts) = runs_lengths _ ts ∙ taken-lengths k t.lent t.item
+runs_lengths k (c ∷ cs) = runs_lengths _ cs ∙ lengths k c.lent c.ask.request
 
-runs_laid : (k : Kept) (ts : List Turn) → is_laid k.variables ≡ true → is_laid (run k ts).last.variables ≡ true
+runs_laid : (k : Kept) (cs : List Call) → is_laid k.variables ≡ true → is_laid (run k cs).last.variables ≡ true
 unfolding run
 runs_laid k [] h = h
-runs_laid k (t ∷ ts) h = runs_laid _ ts (taken-laid k t.lent t.item h)
+runs_laid k (c ∷ cs) h = runs_laid _ cs (laid k c.lent c.ask.request h)
 
-runs : (k : Kept) (ts : List Turn) → keeps k.session ≡ true → keeps (run k ts).last.session ≡ true
+runs : (k : Kept) (cs : List Call) → keeps k.session ≡ true → keeps (run k cs).last.session ≡ true
 unfolding run
 runs k [] h = h
-runs k (t ∷ ts) h = runs _ ts (taken-kept k t.lent t.item h)
+runs k (c ∷ cs) h = runs _ cs (kept k c.lent c.ask.request h)
 
-runs_sound : (k : Kept) (ts : List Turn) → is_sound k.image ≡ true → is_sound (run k ts).last.image ≡ true
+runs_sound : (k : Kept) (cs : List Call) → is_sound k.image ≡ true → is_sound (run k cs).last.image ≡ true
 unfolding run
 runs_sound k [] h = h
-runs_sound k (t ∷ ts) h = runs_sound _ ts (taken-sound k t.lent t.item h)
+runs_sound k (c ∷ cs) h = runs_sound _ cs (sound k c.lent c.ask.request h)
 
 -- ---- the codes of calls, and what a call leaves that does nothing
 Taken : Answered → Type 0
@@ -518,7 +497,7 @@ module _ (k : Kept) (l : Lent) (r : List ℕ) where
   broken : least_room ≤ l.room → length k.variables ≡ store_length → keeps k.session ≡ true → k.session.closed ≡ false → well_framed r ≡ false
       → answered k l r ≡ closing k
   unfolding answered choose
-  broken w e g o f = goes_on k.session (room_of k l) _ _ (record { roomy = lent-well k l w e; valid = g; opened = o }) ∙ rw f
+  broken w e g o f = goes_on k.session (room_of k l) _ _ (record { roomy = lent_well k l w e; valid = g; opened = o }) ∙ rw f
 
   ignored : well_framed r ≡ true → (kind_of r ≡ 0 → ⊥) → Unmoved k (answered k l r)
   unfolding answered requested choose
@@ -544,50 +523,50 @@ module _ (k : Kept) (l : Lent) (r : List ℕ) where
   pub heard : Heard k l r → answered k l r ≡ judged k l r (request_in r)
   unfolding answered requested choose
   heard h =
-      goes_on k.session (room_of k l) _ _ (record { roomy = lent-well k l h.roomy h.stored; valid = h.valid; opened = h.opened }) ∙ rw (h.framed, eq-eqb (kind_of r) 0 h.request)
+      goes_on k.session (room_of k l) _ _ (record { roomy = lent_well k l h.roomy h.stored; valid = h.valid; opened = h.opened }) ∙ rw (h.framed, eq-eqb (kind_of r) 0 h.request)
 
   -- a close is accepted: it needs no login
-  open-to-all : (b : Bool) → choose b false false ≡ false
+  open_to_all : (b : Bool) → choose b false false ≡ false
   unfolding choose
-  open-to-all true = refl
-  open-to-all false = refl
+  open_to_all true = refl
+  open_to_all false = refl
 
-  close-accepted : (q : Request) (e : ℕ) → verdict k l r q ≡ refuse e → is_close q ≡ false
+  close_accepted : (q : Request) (e : ℕ) → verdict k l r q ≡ refuse e → is_close q ≡ false
   unfolding is_close verdict is_locked needs_login outcome connect_step onto judge choose
-  close-accepted Request.Unknown e v = refl
-  close-accepted Request.Bad e v = refl
-  close-accepted (Request.Connect (ConnectRequest.Open version)) e v = refl
-  close-accepted (Request.Connect (ConnectRequest.Md5Auth id digest)) e v = refl
-  close-accepted (Request.Connect ConnectRequest.OtherAuth) e v = refl
-  close-accepted (Request.Connect ConnectRequest.Close) e v =
-      absurd (let w = rw (open-to-all k.session.login.authorized) at v in let z : ◌≡◌ {A = ℕ} 0 1 = cc in omega arith)
-  close-accepted (Request.Config q) e v = refl
-  close-accepted (Request.Scsi q) e v = refl
-  close-accepted (Request.Tape q) e v = refl
-  close-accepted (Request.Data q) e v = refl
-  close-accepted (Request.Mover q) e v = refl
-  close-accepted (Request.Joint q) e v = refl
+  close_accepted Request.Unknown e v = refl
+  close_accepted Request.Bad e v = refl
+  close_accepted (Request.Connect (ConnectRequest.Open version)) e v = refl
+  close_accepted (Request.Connect (ConnectRequest.Md5Auth id digest)) e v = refl
+  close_accepted (Request.Connect ConnectRequest.OtherAuth) e v = refl
+  close_accepted (Request.Connect ConnectRequest.Close) e v =
+      absurd (let w = rw (open_to_all k.session.login.authorized) at v in let z : ◌≡◌ {A = ℕ} 0 1 = cc in omega arith)
+  close_accepted (Request.Config q) e v = refl
+  close_accepted (Request.Scsi q) e v = refl
+  close_accepted (Request.Tape q) e v = refl
+  close_accepted (Request.Data q) e v = refl
+  close_accepted (Request.Mover q) e v = refl
+  close_accepted (Request.Joint q) e v = refl
 
   requests : (e : ℕ) → Heard k l r → verdict k l r (request_in r) ≡ refuse e → answered k l r ≡ replying r l.time (refusing (request_in r) r e) [] k
   unfolding judged settled choose
-  requests e h v = heard h ∙ rw (judged, close-accepted (request_in r) e v, v)
+  requests e h v = heard h ∙ rw (judged, close_accepted (request_in r) e v, v)
 
   -- the same of a request that is known
   known : (q : Request) (e : ℕ) → request_in r ≡ q → Heard k l r → verdict k l r q ≡ refuse e → answered k l r ≡ replying r l.time (refusing q r e) [] k
   known q e f h v = rw f at (requests e h (ap (verdict k l r) f ∙ v))
 
   -- what needs no login is judged by its service
-  pub verdict-free : (q : Request) → needs_login q ≡ false → verdict k l r q ≡ outcome k l r q
+  pub verdict_free : (q : Request) → needs_login q ≡ false → verdict k l r q ≡ outcome k l r q
   unfolding verdict is_locked judge choose
-  verdict-free q f = rw (verdict, is_locked, f, open-to-all k.session.login.authorized)
+  verdict_free q f = rw (verdict, is_locked, f, open_to_all k.session.login.authorized)
 
   unhandled : Heard k l r → message_in r ≡ Message.Unknown → answered k l r ≡ replying r l.time (Reply.Header 1) [] k
   unfolding decoded needs_login outcome refusing is_unread choose
-  unhandled h e = known Request.Unknown 1 (rw e) h (verdict-free Request.Unknown refl)
+  unhandled h e = known Request.Unknown 1 (rw e) h (verdict_free Request.Unknown refl)
 
   undecoded : Heard k l r → request_in r ≡ Request.Bad → answered k l r ≡ replying r l.time (Reply.Header 18) [] k
   unfolding needs_login outcome refusing is_unread choose
-  undecoded h b = known Request.Bad 18 b h (verdict-free Request.Bad refl)
+  undecoded h b = known Request.Bad 18 b h (verdict_free Request.Bad refl)
 
   pub undigested : (id digest : Text) → Heard k l r → request_in r ≡ Request.Connect (ConnectRequest.Md5Auth id digest)
       → right_digest k.session.login l.accounts (bytes_at (body_of r) id) (bytes_at (body_of r) digest) ≡ false
@@ -595,11 +574,11 @@ module _ (k : Kept) (l : Lent) (r : List ℕ) where
   unfolding needs_login outcome connect_step client_auth judge onto refusing is_unread choose
   undigested id digest h b w =
       let q = Request.Connect (ConnectRequest.Md5Auth id digest) in
-      known q 4 b h (verdict-free q refl ∙ rw w)
+      known q 4 b h (verdict_free q refl ∙ rw w)
 
   pub untyped : Heard k l r → request_in r ≡ Request.Connect ConnectRequest.OtherAuth → answered k l r ≡ replying r l.time (refused_in r 9) [] k
   unfolding needs_login outcome connect_step onto refusing is_unread choose
-  untyped h b = known (Request.Connect ConnectRequest.OtherAuth) 9 b h (verdict-free (Request.Connect ConnectRequest.OtherAuth) refl)
+  untyped h b = known (Request.Connect ConnectRequest.OtherAuth) 9 b h (verdict_free (Request.Connect ConnectRequest.OtherAuth) refl)
 
 -- ---- how a request is judged, by what its code found
 -- what needs a login is neither a close nor unread
@@ -621,15 +600,15 @@ locks true n h = absurd (let z : ◌≡◌ {A = ℕ} 0 1 = cc in omega arith)
 locks false n h = h
 
 module _ (k : Kept) (l : Lent) (r : List ℕ) (q : Request) where
-  pub judged-locked : is_locked k.session.login q ≡ true → judged k l r q ≡ replying r l.time (refused_in r 4) [] k
+  pub judged_locked : is_locked k.session.login q ≡ true → judged k l r q ≡ replying r l.time (refused_in r 4) [] k
   unfolding judged verdict is_locked judge settled refusing choose
-  judged-locked h =
+  judged_locked h =
       let p = login_plain q (locks k.session.login.authorized (needs_login q) h) in
       rw (judged, p.0, verdict, is_locked, h, refusing, p.1)
 
-  pub judged-free : is_locked k.session.login q ≡ false → judged k l r q ≡ choose (is_close q) (closing k) (settled k l.time r q (outcome k l r q))
+  pub judged_free : is_locked k.session.login q ≡ false → judged k l r q ≡ choose (is_close q) (closing k) (settled k l.time r q (outcome k l r q))
   unfolding judged verdict judge choose
-  judged-free h = rw (judged, verdict, h)
+  judged_free h = rw (judged, verdict, h)
 
 -- ---- opening
 unopened : (code : ℕ) (a : Answered) → a ≡ silent code (held unopened_session [] []) → Unopened code a
@@ -648,13 +627,13 @@ unfolding names_none_twice some_again is_again choose
 unopened_keeps = same_ends (opened_session (replicate 9 0)) unopened_session refl refl refl refl (opened (replicate 9 0) refl)
 
 module _ (slots : List ℕ) (time room : ℕ) where
-  short-is : room < least_room → opening slots time room ≡ silent 1001 (held unopened_session [] [])
+  short_is : room < least_room → opening slots time room ≡ silent 1001 (held unopened_session [] [])
   unfolding opening choose
-  short-is h = rw (opening, ltb_yes h)
+  short_is h = rw (opening, ltb_yes h)
 
-  twice-is : least_room ≤ room → names_none_twice slots ≡ false → opening slots time room ≡ silent 1002 (held unopened_session [] [])
+  twice_is : least_room ≤ room → names_none_twice slots ≡ false → opening slots time room ≡ silent 1002 (held unopened_session [] [])
   unfolding opening choose
-  twice-is h n = rw (opening, ltb_no h, n)
+  twice_is h n = rw (opening, ltb_no h, n)
 
   opens : least_room ≤ room → names_none_twice slots ≡ true → Opens slots time (opening slots time room)
   unfolding opening choose
@@ -671,11 +650,11 @@ module _ (slots : List ℕ) (time room : ℕ) where
         tape = ap (λ (x : Answered). x.next.session.tape.opened) e;
       }
 
-  opening-holds : OpeningHolds slots time room
-  opening-holds =
+  opening_holds : OpeningHolds slots time room
+  opening_holds =
       record {
-        short = λ h. unopened 1001 _ (short-is h);
-        twice = λ h n. unopened 1002 _ (twice-is h n);
+        short = λ h. unopened 1001 _ (short_is h);
+        twice = λ h n. unopened 1002 _ (twice_is h n);
         opens = opens;
         keeps_it = by_opening (λ (a : Answered). keeps a.next.session ≡ true) slots time room (λ _ _. unopened_keeps) (λ n. opened slots n);
       }
@@ -684,7 +663,7 @@ pub calls_keep : CallsKeep
 unfolding Refused
 calls_keep =
     record {
-      opening = opening-holds;
+      opening = opening_holds;
       opened = opened;
       kept = kept;
       never = never;
@@ -702,8 +681,8 @@ calls_keep =
         broken = broken;
         ignored = ignored;
         requests = requests;
-        accepted = number-right;
-        refusing = refusal-right;
+        accepted = number_right;
+        refusing = refusal_right;
         unhandled = unhandled;
         undecoded = undecoded;
         undigested = undigested;

@@ -31,7 +31,7 @@ use Rattle.rules.specs.Judge.{Outcome, accept, judge, Accepts}
 use Rattle.rules.specs.ScsiService.{scsi_open, scsi_clear, scsi_state, sense_length, checks, moves, reports, run_cdb, scsi_cdb, scsi_step, moves_medium}
 use Rattle.rules.specs.TapeService.{Loaded, moved_to, tape_open, tape_close, tape_state, after_mtio, tape_mtio, tape_write, tape_read, device_step, TapePart, with_loaded, tape_step}
 use Rattle.rules.specs.Relation.{drive_wrong}
-use Rattle.rules.proofs.JudgeLaws.{judged-by, accepts, carried}
+use Rattle.rules.proofs.JudgeLaws.{judged_by, accepts, carried}
 use Rattle.rules.proofs.Keeping.{clash}
 
 -- ---- an execute CDB, by what it comes to
@@ -73,7 +73,7 @@ by_slots P tape c ScsiRequest.Close body h f = accepts (λ _ next. P next.slots)
 by_slots P tape c ScsiRequest.State body h f = accepts (λ _ next. P next.slots) _ _ _ (λ _. h)
 by_slots P tape c ScsiRequest.Reset body h f = accepts (λ _ next. P next.slots) _ _ _ (λ _. h)
 by_slots P tape c (ScsiRequest.Cdb cdb room) body h f =
-    judged-by (λ _ next. P next.slots) _ _
+    judged_by (λ _ next. P next.slots) _ _
     (λ _. by_run (Accepts (λ _ next. P next.slots)) tape c (bytes_at body cdb) room h h (λ _. h) (λ from to e m. f (bytes_at body cdb) from to e m) (λ _ _ _. h))
 
 pub slots_stay : (tape : Bool) (c : Changer) (q : ScsiRequest) (body : List ℕ) → moves_medium q body ≡ false
@@ -98,18 +98,18 @@ stays_in_drive c q body =
 
 -- a tape that is open has its cartridge still
 module _ (t : Tape) (c : Changer) (q : ScsiRequest) (body : List ℕ) (h : drive_wrong (in_drive c.slots) t ≡ false) where
-  drive-by : (b : Bool) → t.opened ≡ b → Accepts (λ _ next. drive_wrong (in_drive next.slots) t ≡ false) (scsi_step b c q body)
+  drive_by : (b : Bool) → t.opened ≡ b → Accepts (λ _ next. drive_wrong (in_drive next.slots) t ≡ false) (scsi_step b c q body)
   unfolding drive_wrong choose
-  drive-by true o =
+  drive_by true o =
       by_slots (λ l. drive_wrong (in_drive l) t ≡ false) true c q body h
       (λ cdb from to e m.
       let same : in_drive (moved from to c.slots) ≡ in_drive c.slots =
       ap in_drive (sym (after_moved cdb c.slots true from to m)) ∙ drive_after cdb c.slots in
       rw same h)
-  drive-by false o = by_slots (λ l. drive_wrong (in_drive l) t ≡ false) false c q body h (λ cdb from to e m. rw o refl)
+  drive_by false o = by_slots (λ l. drive_wrong (in_drive l) t ≡ false) false c q body h (λ cdb from to e m. rw o refl)
 
-  pub scsi-drive : Accepts (λ _ next. drive_wrong (in_drive next.slots) t ≡ false) (scsi_step t.opened c q body)
-  scsi-drive = drive-by t.opened refl
+  pub scsi_drive : Accepts (λ _ next. drive_wrong (in_drive next.slots) t ≡ false) (scsi_step t.opened c q body)
+  scsi_drive = drive_by t.opened refl
 
 -- only a move hangs on whether the tape is open
 run_blind : (a b : Bool) (c : Changer) (cdb : List ℕ) (room : ℕ) → eqb (get_or cdb 0 0) 0xA5 ≡ false → run_cdb a c cdb room ≡ run_cdb b c cdb room
@@ -129,21 +129,21 @@ module _ (drive : ℕ) (t : Tape) (h : drive_wrong drive t ≡ false) where
   Drives : Reply → Loaded → Type 0
   Drives _ s = drive_wrong drive s.tape ≡ false
 
-  mtio-drives : (op position : ℕ) → drive_wrong drive (after_mtio op position t) ≡ false
+  mtio_drives : (op position : ℕ) → drive_wrong drive (after_mtio op position t) ≡ false
   unfolding after_mtio drive_wrong choose
-  mtio-drives op position = by_test (λ (n : Tape). drive_wrong drive n ≡ false) (eqb op 6) closed_tape (moved_to position t) (λ _. refl) (λ _. h)
+  mtio_drives op position = by_test (λ (n : Tape). drive_wrong drive n ≡ false) (eqb op 6) closed_tape (moved_to position t) (λ _. refl) (λ _. h)
 
-  device-drives : (mover : ℕ) (l : List ℕ) (q : TapeRequest) (body : List ℕ) → Accepts Drives (device_step drive mover t l q body)
+  device_drives : (mover : ℕ) (l : List ℕ) (q : TapeRequest) (body : List ℕ) → Accepts Drives (device_step drive mover t l q body)
   unfolding device_step tape_open tape_close tape_state tape_mtio tape_write tape_read Drives drive_wrong choose
-  device-drives mover l (TapeRequest.Open name mode) body = accepts Drives _ _ _ (λ g. g 3)
-  device-drives mover l TapeRequest.Close body = accepts Drives _ _ _ (λ _. refl)
-  device-drives mover l TapeRequest.State body = accepts Drives _ _ _ (λ _. h)
-  device-drives mover l (TapeRequest.Mtio op times) body = accepts Drives _ _ _ (λ _. mtio-drives op _)
-  device-drives mover l (TapeRequest.Write bytes) body = accepts Drives _ _ _ (λ _. h)
-  device-drives mover l (TapeRequest.Read times) body = accepts Drives _ _ _ (λ _. h)
+  device_drives mover l (TapeRequest.Open name mode) body = accepts Drives _ _ _ (λ g. g 3)
+  device_drives mover l TapeRequest.Close body = accepts Drives _ _ _ (λ _. refl)
+  device_drives mover l TapeRequest.State body = accepts Drives _ _ _ (λ _. h)
+  device_drives mover l (TapeRequest.Mtio op times) body = accepts Drives _ _ _ (λ _. mtio_drives op _)
+  device_drives mover l (TapeRequest.Write bytes) body = accepts Drives _ _ _ (λ _. h)
+  device_drives mover l (TapeRequest.Read times) body = accepts Drives _ _ _ (λ _. h)
 
 pub tape_drives : (drive : ℕ) (p : TapePart) (q : TapeRequest) (body : List ℕ) → drive_wrong drive p.tape ≡ false
     → Accepts (λ _ next. drive_wrong drive next.tape ≡ false) (tape_step drive p q body)
 unfolding tape_step Drives
 tape_drives drive p q body h =
-    carried (λ _ next. drive_wrong drive next.tape ≡ false) (with_loaded p) _ (device-drives drive p.tape h p.mover.state p.image q body)
+    carried (λ _ next. drive_wrong drive next.tape ≡ false) (with_loaded p) _ (device_drives drive p.tape h p.mover.state p.image q body)

@@ -93,9 +93,9 @@ module _ (tape : Bool) (c : Changer) (cdb : Text) (room : ℕ) (body : List ℕ)
   unfolding run_cdb checks choose
   other code o w x y z = run_is o ∙ rw (run_cdb, o.first, eqb_no w, eqb_no x, eqb_no y, eqb_no z, checks, o.opened)
 
-  shut-off : c.opened ≡ false → step ≡ refuse 6
+  shut_off : c.opened ≡ false → step ≡ refuse 6
   unfolding scsi_step scsi_cdb judge choose
-  shut-off h = rw h
+  shut_off h = rw h
 
   no_bytes : c.opened ≡ true → length bytes ≡ 0 → step ≡ refuse 9
   unfolding scsi_step scsi_cdb judge choose
@@ -107,8 +107,8 @@ module _ (tape : Bool) (c : Changer) (cdb : Text) (room : ℕ) (body : List ℕ)
       let s : length bytes ≡ 0 → ⊥ = λ z. omega arith in
       rw (h, eqb_no s, ltb_yes l)
 
-  pub cdb-rules : CdbRules tape c cdb room body
-  cdb-rules =
+  pub cdb_rules : CdbRules tape c cdb room body
+  cdb_rules =
       record {
         moves = moving;
         unmoved = unmoved;
@@ -118,7 +118,7 @@ module _ (tape : Bool) (c : Changer) (cdb : Text) (room : ℕ) (body : List ℕ)
         ready = ready;
         sensed = sensed;
         others = other;
-        closed = shut-off;
+        closed = shut_off;
         none = no_bytes;
         long = too_long;
       }
@@ -153,10 +153,10 @@ module _ (tape : Bool) (c : Changer) (body : List ℕ) where
   unfolding scsi_step scsi_open judge choose
   other_name name n = rw (unnamed (bytes_at body name) n)
 
-  open-already : (name : Text) → bytes_at body name ≡ changer_name → c.opened ≡ true
+  open_already : (name : Text) → bytes_at body name ≡ changer_name → c.opened ≡ true
       → scsi_step tape c (ScsiRequest.Open name) body ≡ refuse 3
   unfolding scsi_step scsi_open judge choose
-  open-already name n h = rw (named (bytes_at body name) n, h)
+  open_already name n h = rw (named (bytes_at body name) n, h)
 
   unopened : c.opened ≡ false
       → (scsi_step tape c ScsiRequest.Close body ≡ refuse 6)
@@ -164,20 +164,20 @@ module _ (tape : Bool) (c : Changer) (body : List ℕ) where
   unfolding scsi_step scsi_clear scsi_state judge choose
   unopened h = (rw h, (rw h, rw h))
 
-  state-told : c.opened ≡ true → scsi_step tape c ScsiRequest.State body ≡ accept Reply.ScsiState c
+  state_told : c.opened ≡ true → scsi_step tape c ScsiRequest.State body ≡ accept Reply.ScsiState c
   unfolding scsi_step scsi_state judge choose
-  state-told h = rw h
+  state_told h = rw h
 
-  pub device-rules : DeviceRules tape c body
-  device-rules =
+  pub device_rules : DeviceRules tape c body
+  device_rules =
       record {
         opens = opens;
         closes = closes;
         resets = resets;
         name_wrong = other_name;
-        again = open-already;
+        again = open_already;
         closed = unopened;
-        state = state-told;
+        state = state_told;
       }
 
 -- ---- what is no MOVE MEDIUM
@@ -267,8 +267,8 @@ module _ (drive : ℕ) (p : TapePart) (name : Text) (mode : ℕ) (body : List �
   unfolding tape_step device_step tape_open judge onto choose
   opened h n o d s = rw (ltb_no h, tape_named (bytes_at body name) n, o, eqb_no d, s)
 
-  pub open-rules : OpenRules drive p name mode body
-  open-rules = record { mode_wrong = mode_wrong; name_wrong = name_wrong; again = again; empty = empty; unsound = unsound; opens = opened }
+  pub open_rules : OpenRules drive p name mode body
+  open_rules = record { mode_wrong = mode_wrong; name_wrong = name_wrong; again = again; empty = empty; unsound = unsound; opens = opened }
 
 -- ---- MTIO 6
 free : (state : ℕ) → (state ≡ 1 → ⊥) → (state ≡ 2 → ⊥) → holds_tape state ≡ false
@@ -276,23 +276,23 @@ unfolding holds_tape choose
 free state a b = rw (holds_tape, eqb_no a, eqb_no b)
 
 module _ (l : List ℕ) (p times : ℕ) where
-  off-faulty : faulty l p ≡ true
+  off_faulty : faulty l p ≡ true
       → mtio_step l 6 p times ≡ record { gives = record { error = 7; position = p; residue = 0 }; image = l }
   unfolding mtio_step choose
-  off-faulty h = rw (mtio_step, h)
+  off_faulty h = rw (mtio_step, h)
 
-  off-rewinds : faulty l p ≡ false
+  off_rewinds : faulty l p ≡ false
       → mtio_step l 6 p times ≡ record { gives = record { error = 0; position = 0; residue = 0 }; image = l }
   unfolding mtio_step choose
-  off-rewinds h = rw (mtio_step, h)
+  off_rewinds h = rw (mtio_step, h)
 
-  fault-unsound : is_sound l ≡ false → faulty l p ≡ true
+  fault_unsound : is_sound l ≡ false → faulty l p ≡ true
   unfolding faulty choose
-  fault-unsound h = rw (faulty, h)
+  fault_unsound h = rw (faulty, h)
 
-  fault-beyond : count l < p → faulty l p ≡ true
+  fault_beyond : count l < p → faulty l p ≡ true
   unfolding faulty
-  fault-beyond h = by_test (λ (b : Bool). b ≡ true) (is_sound l) _ _ (λ _. ltb_yes h) (λ _. refl)
+  fault_beyond h = by_test (λ (b : Bool). b ≡ true) (is_sound l) _ _ (λ _. ltb_yes h) (λ _. refl)
 
   no_fault : is_sound l ≡ true → p ≤ count l → faulty l p ≡ false
   unfolding faulty choose
@@ -302,27 +302,27 @@ module _ (drive : ℕ) (p : TapePart) (times : ℕ) (body : List ℕ) where
   abbrev offs : Outcome TapePart
   offs = tape_step drive p (TapeRequest.Mtio 6 times) body
 
-  off-closed : p.tape.opened ≡ false → offs ≡ refuse 6
+  off_closed : p.tape.opened ≡ false → offs ≡ refuse 6
   unfolding tape_step device_step tape_mtio judge onto choose
-  off-closed h = rw h
+  off_closed h = rw h
 
-  off-held : p.tape.opened ≡ true → Holding p.mover → offs ≡ refuse 19
+  off_held : p.tape.opened ≡ true → Holding p.mover → offs ≡ refuse 19
   unfolding tape_step device_step tape_mtio holds_tape judge onto choose
-  off-held h (listens e) = rw (h, e)
-  off-held h (runs e) = rw (h, e)
+  off_held h (listens e) = rw (h, e)
+  off_held h (runs e) = rw (h, e)
 
-  off-fault : Free p → faulty p.image p.tape.position ≡ true → offs ≡ refuse 7
+  off_fault : Free p → faulty p.image p.tape.position ≡ true → offs ≡ refuse 7
   unfolding tape_step device_step tape_mtio protects is_refusal judge onto choose
-  off-fault f h = rw (f.opened, free p.mover.state f.not_listening f.not_active, off-faulty p.image p.tape.position times h)
+  off_fault f h = rw (f.opened, free p.mover.state f.not_listening f.not_active, off_faulty p.image p.tape.position times h)
 
-  off-done : Free p → is_sound p.image ≡ true → p.tape.position ≤ count p.image
+  off_done : Free p → is_sound p.image ≡ true → p.tape.position ≤ count p.image
       → offs ≡ accept (Reply.Mtio 0 0) (part_of p.mover false false 0 p.image)
   unfolding tape_step device_step tape_mtio protects is_refusal after_mtio judge onto choose
-  off-done f s k =
+  off_done f s k =
       rw (
         f.opened,
         free p.mover.state f.not_listening f.not_active,
-        off-rewinds p.image p.tape.position times (no_fault p.image p.tape.position times s k),
+        off_rewinds p.image p.tape.position times (no_fault p.image p.tape.position times s k),
       )
 
   as_close : Free p
@@ -330,14 +330,14 @@ module _ (drive : ℕ) (p : TapePart) (times : ℕ) (body : List ℕ) where
   unfolding tape_step device_step tape_close judge onto choose
   as_close f = rw (f.opened, free p.mover.state f.not_listening f.not_active)
 
-  pub off-rules : OffRules drive p times body
-  off-rules =
+  pub off_rules : OffRules drive p times body
+  off_rules =
       record {
-        closed = off-closed;
-        held = off-held;
-        unsound = λ f h. off-fault f (fault-unsound p.image p.tape.position times h);
-        beyond = λ f h. off-fault f (fault-beyond p.image p.tape.position times h);
-        off = off-done;
+        closed = off_closed;
+        held = off_held;
+        unsound = λ f h. off_fault f (fault_unsound p.image p.tape.position times h);
+        beyond = λ f h. off_fault f (fault_beyond p.image p.tape.position times h);
+        off = off_done;
         as_close = as_close;
       }
 
@@ -387,8 +387,8 @@ unasked a b p (TapeRequest.Read times) body n = refl
 pub changer_rules : ChangerRules
 changer_rules =
     record {
-      cdb = cdb-rules;
-      device = device-rules;
+      cdb = cdb_rules;
+      device = device_rules;
       slots = record {
         stay = λ tape c q body n. slots_stay tape c q body (not_moves q body n);
         blind = λ a b c q body n. scsi_blind a b c q body (not_moves q body n);
@@ -396,5 +396,5 @@ changer_rules =
         in_drive_lem = stays_in_drive;
       };
       shelf = record { twice = twice; unloaded = unloaded; only = only_so };
-      drive = record { opening = open-rules; off = off-rules; mtio = mtio; loaded = loaded; alike = alike; unasked = unasked };
+      drive = record { opening = open_rules; off = off_rules; mtio = mtio; loaded = loaded; alike = alike; unasked = unasked };
     }

@@ -32,7 +32,7 @@ use Rattle.wire_replies.specs.declared.Notice.{Notice}
 use Rattle.wire_replies.specs.Replies.{body_bytes, shape_of, reply_bytes, notice_bytes}
 use Rattle.wire_replies.specs.Numbers.{body_in}
 use Rattle.wire_replies.proofs.Laws.{opaques_texts}
-use Rattle.wire_replies.proofs.Numbers.{body-sent, numbers_told}
+use Rattle.wire_replies.proofs.Numbers.{body_sent, numbers_told}
 use Rattle.rules_parts.specs.declared.types.Data.{Data}
 use Rattle.rules_parts.specs.Names.{least_room}
 use Rattle.rules_parts.specs.Parts.{after_message}
@@ -48,8 +48,8 @@ use Rattle.rules.specs.Answer.{Kept, Lent, held, Answered, Done, silent, replyin
 use Rattle.rules.specs.Answer.{tape_part, with_data, with_part, with_tape, with_changer, with_login, with_ends}
 use Rattle.rules.specs.Calls.{Heard}
 use Rattle.rules.specs.Leaving.{Stored, unstored, started, stopped, Stores, EnvironmentAsked, SameTold}
-use Rattle.rules.proofs.JudgeLaws.{judged-by, accepts, accepts_any, refusal-says, carried}
-use Rattle.rules.proofs.Calls.{call-judged, heard}
+use Rattle.rules.proofs.JudgeLaws.{judged_by, accepts, accepts_any, refusal_says, carried}
+use Rattle.rules.proofs.Calls.{call_judged, heard}
 
 -- ---- starts
 unnamed : (l : List ℕ) → (l ≡ dump_bytes → ⊥) → same_bytes l dump ≡ false
@@ -61,22 +61,22 @@ unfolding dump
 named l e = rw e (is_same dump_bytes)
 
 module _ (d : Data) (operation : ℕ) (name : List ℕ) (fitting : Bool) where
-  abbrev judgedStart : Outcome Data
-  judgedStart = data_start d operation (same_bytes name dump) fitting
+  abbrev judged_start : Outcome Data
+  judged_start = data_start d operation (same_bytes name dump) fitting
 
-  start-busy : (d.state ≡ 4 → ⊥) → judgedStart ≡ refuse 19
+  start_busy : (d.state ≡ 4 → ⊥) → judged_start ≡ refuse 19
   unfolding data_start judge choose
-  start-busy n = rw (eqb_no n)
+  start_busy n = rw (eqb_no n)
 
-  start-unknown : d.state ≡ 4 → (name ≡ dump_bytes → ⊥) → judgedStart ≡ refuse 9
+  start_unknown : d.state ≡ 4 → (name ≡ dump_bytes → ⊥) → judged_start ≡ refuse 9
   unfolding data_start judge choose
-  start-unknown s n = rw (eqb_yes s, unnamed name n)
+  start_unknown s n = rw (eqb_yes s, unnamed name n)
 
-  start-large : d.state ≡ 4 → name ≡ dump_bytes → fitting ≡ false → judgedStart ≡ refuse 22
+  start_large : d.state ≡ 4 → name ≡ dump_bytes → fitting ≡ false → judged_start ≡ refuse 22
   unfolding data_start judge choose
-  start-large s n f = rw (eqb_yes s, named name n, f)
+  start_large s n f = rw (eqb_yes s, named name n, f)
 
-  start_fits : d.state ≡ 4 → name ≡ dump_bytes → fitting ≡ true → is_accepted judgedStart ≡ true
+  start_fits : d.state ≡ 4 → name ≡ dump_bytes → fitting ≡ true → is_accepted judged_start ≡ true
   unfolding data_start judge is_accepted choose
   start_fits s n f = rw (eqb_yes s, named name n, f)
 
@@ -87,9 +87,9 @@ starts _ method place (backup _ _) d body list variables =
     let name = bytes_at body method in
     let f = fits (pairs_of body place) in
     record {
-      busy = start-busy d 1 name f;
-      unknown = start-unknown d 1 name f;
-      large = start-large d 1 name f;
+      busy = start_busy d 1 name f;
+      unknown = start_unknown d 1 name f;
+      large = start_large d 1 name f;
       fitting = start_fits d 1 name f;
       keeps_pairs = refl;
     }
@@ -97,9 +97,9 @@ starts _ method place (recover _ _) d body list variables =
     let name = bytes_at body method in
     let f = fits (pairs_of body place) in
     record {
-      busy = start-busy d 2 name f;
-      unknown = start-unknown d 2 name f;
-      large = start-large d 2 name f;
+      busy = start_busy d 2 name f;
+      unknown = start_unknown d 2 name f;
+      large = start_large d 2 name f;
       fitting = start_fits d 2 name f;
       keeps_pairs = refl;
     }
@@ -164,47 +164,47 @@ module _ (k : Kept) (l : Lent) (r : List ℕ) where
   unfolding StoredBy
   left q put f o = carried (StoredBy q) put o (accepts_any (λ reply p. StoredBy q reply (put p)) (λ _ p. unstored (f p)) o)
 
-  data-stores : (q : DataRequest) → k.session.login.authorized ≡ true
+  data_stores : (q : DataRequest) → k.session.login.authorized ≡ true
       → Accepts (λ _ _. Stored k (Request.Data q) (body_of r) (variables_after q (body_of r) k.variables))
       (data_step k.session.source q (body_of r) l.addresses k.variables)
   unfolding data_step data_state data_start data_environment data_stop data_listen variables_after dump
-  data-stores DataRequest.State a = accepts _ _ _ _ (λ _. unstored refl)
-  data-stores (DataRequest.Backup name ps) a =
+  data_stores DataRequest.State a = accepts _ _ _ _ (λ _. unstored refl)
+  data_stores (DataRequest.Backup name ps) a =
       accepts _ _ _ _
       (λ g. started (DataRequest.Backup name ps) name ps (backup name ps) refl a (is (g 0)) (same_is _ _ (yes (g 1))) (yes (g 2)) refl)
-  data-stores (DataRequest.Recover name ps) a =
+  data_stores (DataRequest.Recover name ps) a =
       accepts _ _ _ _
       (λ g. started (DataRequest.Recover name ps) name ps (recover name ps) refl a (is (g 0)) (same_is _ _ (yes (g 1))) (yes (g 2)) refl)
-  data-stores DataRequest.Environment a = accepts _ _ _ _ (λ _. unstored refl)
-  data-stores DataRequest.Stop a = accepts _ _ _ _ (λ g. stopped refl a (is (g 0)) refl)
-  data-stores (DataRequest.Listen address) a = accepts _ _ _ _ (λ _. unstored refl)
+  data_stores DataRequest.Environment a = accepts _ _ _ _ (λ _. unstored refl)
+  data_stores DataRequest.Stop a = accepts _ _ _ _ (λ g. stopped refl a (is (g 0)) refl)
+  data_stores (DataRequest.Listen address) a = accepts _ _ _ _ (λ _. unstored refl)
 
-  outcome-stores : (q : Request) → is_locked k.session.login q ≡ false → Accepts (StoredBy q) (outcome k l r q)
+  outcome_stores : (q : Request) → is_locked k.session.login q ≡ false → Accepts (StoredBy q) (outcome k l r q)
   unfolding is_locked needs_login outcome tape_step mover_part_step StoredBy
-  outcome-stores Request.Unknown h = refusal-says (StoredBy Request.Unknown) _
-  outcome-stores Request.Bad h = refusal-says (StoredBy Request.Bad) _
-  outcome-stores (Request.Connect q) h = left (Request.Connect q) (with_login k _) (λ _. refl) _
-  outcome-stores (Request.Config q) h = left (Request.Config q) (with_login k _) (λ _. refl) _
-  outcome-stores (Request.Scsi q) h = left (Request.Scsi q) (with_changer k _) (λ _. refl) _
-  outcome-stores (Request.Tape q) h = left (Request.Tape q) (with_tape k) (λ _. refl) _
-  outcome-stores (Request.Data q) h = carried (StoredBy (Request.Data q)) (with_data k q _ _) _ (data-stores q (logged _ h))
-  outcome-stores (Request.Mover q) h = left (Request.Mover q) (with_part k _) (λ _. refl) _
-  outcome-stores (Request.Joint q) h = left (Request.Joint q) (with_ends k) (λ _. refl) _
+  outcome_stores Request.Unknown h = refusal_says (StoredBy Request.Unknown) _
+  outcome_stores Request.Bad h = refusal_says (StoredBy Request.Bad) _
+  outcome_stores (Request.Connect q) h = left (Request.Connect q) (with_login k _) (λ _. refl) _
+  outcome_stores (Request.Config q) h = left (Request.Config q) (with_login k _) (λ _. refl) _
+  outcome_stores (Request.Scsi q) h = left (Request.Scsi q) (with_changer k _) (λ _. refl) _
+  outcome_stores (Request.Tape q) h = left (Request.Tape q) (with_tape k) (λ _. refl) _
+  outcome_stores (Request.Data q) h = carried (StoredBy (Request.Data q)) (with_data k q _ _) _ (data_stores q (logged _ h))
+  outcome_stores (Request.Mover q) h = left (Request.Mover q) (with_part k _) (λ _. refl) _
+  outcome_stores (Request.Joint q) h = left (Request.Joint q) (with_ends k) (λ _. refl) _
 
   pub stored : Stored k (request_in r) (body_of r) (answered k l r).next.variables
   unfolding verdict StoredBy
   stored =
-      call-judged (λ (x : Kept). Stored k (request_in r) (body_of r) x.variables) (λ x _ h. h) (λ x h. h) k l r (unstored refl)
-      (judged-by (StoredBy (request_in r)) _ _ (λ g. outcome-stores (request_in r) (g 0)))
+      call_judged (λ (x : Kept). Stored k (request_in r) (body_of r) x.variables) (λ x _ h. h) (λ x h. h) k l r (unstored refl)
+      (judged_by (StoredBy (request_in r)) _ _ (λ g. outcome_stores (request_in r) (g 0)))
 
 -- ---- an accepted request of the data interface: what it leaves, and what is sent
 module _ (k : Kept) (l : Lent) (r : List ℕ) (q : DataRequest) where
   abbrev stepped : Outcome Data
   stepped = data_step k.session.source q (body_of r) l.addresses k.variables
 
-  pub verdict-known : k.session.login.authorized ≡ true → verdict k l r (Request.Data q) ≡ outcome k l r (Request.Data q)
+  pub verdict_known : k.session.login.authorized ≡ true → verdict k l r (Request.Data q) ≡ outcome k l r (Request.Data q)
   unfolding verdict is_locked judge needs_login choose
-  verdict-known h = rw (verdict, is_locked, h)
+  verdict_known h = rw (verdict, is_locked, h)
 
   pub record Next (reply : Reply) (d : Data) : Type 0 where
     pub variables : (answered k l r).next.variables ≡ variables_after q (body_of r) k.variables
@@ -217,14 +217,14 @@ module _ (k : Kept) (l : Lent) (r : List ℕ) (q : DataRequest) where
   unfolding judged is_close outcome settled onto noticed choose
   next_is h e z reply d x =
       let a : answered k l r ≡ settled k l.time r (Request.Data q) (onto (with_data k q (body_of r) l.addresses) (accept reply d)) =
-      heard k l r h ∙ rw (e, judged, verdict-known z, x) in
+      heard k l r h ∙ rw (e, judged, verdict_known z, x) in
       record { variables = rw a refl; source = rw a refl; sent = rw a refl }
 
   pub refused_is : Heard k l r → request_in r ≡ Request.Data q → k.session.login.authorized ≡ true → (e : ℕ) → stepped ≡ refuse e
       → (answered k l r).reply ≡ reply_bytes k.session.sequence l.time (message_word r) (sequence_of r) (refused_in r e) []
   unfolding judged is_close outcome settled onto refusing is_unread choose
   refused_is h f z e x =
-      let a : answered k l r ≡ settled k l.time r (Request.Data q) (refuse e) = heard k l r h ∙ rw (f, judged, verdict-known z, x) in
+      let a : answered k l r ≡ settled k l.time r (Request.Data q) (refuse e) = heard k l r h ∙ rw (f, judged, verdict_known z, x) in
       rw a refl
 
 accepted_is : {A : Type 0} (o : Outcome A) → is_accepted o ≡ true → {B : Type 0} → ((reply : Reply) (d : A) → o ≡ accept reply d → B) → B
@@ -261,7 +261,7 @@ pub environment_body : (s t m c : ℕ) (store : List ℕ)
 unfolding reply_bytes shape_of body_bytes be32s be32
 environment_body s t m c store =
     let ps = environment_of store in
-    body-sent s t m c _ _ ∙ ap (λ (x : List ℕ). be32 0 ++ (be32 (length ps) ++ x)) (append-nil _ ∙ opaques_texts ps)
+    body_sent s t m c _ _ ∙ ap (λ (x : List ℕ). be32 0 ++ (be32 (length ps) ++ x)) (append-nil _ ∙ opaques_texts ps)
 
 refused_body : (s t c e : ℕ) (r : List ℕ) → message_word r ≡ 0x404 → body_in (reply_bytes s t (message_word r) c (refused_in r e) []) ≡ be32 e ++ be32 0
 unfolding row_of look choose be32
@@ -310,9 +310,9 @@ module _ (k : Kept) (other : List ℕ) where
     dwhy : d.dwhy ≡ e.dwhy
     mwhy : d.mwhy ≡ e.mwhy
 
-  replies-same : (r : List ℕ) (time : ℕ) (reply : Reply) (d e : Done) → SameDone d e
+  replies_same : (r : List ℕ) (time : ℕ) (reply : Reply) (d e : Done) → SameDone d e
       → SameTold (replying r time reply d.shown d.kept) (replying r time reply e.shown e.kept)
-  replies-same r time reply d e u =
+  replies_same r time reply d e u =
       record {
         code = refl;
         reply = λ i. reply_bytes (u.session i).sequence time (message_word r) (sequence_of r) reply (u.shown i);
@@ -329,7 +329,7 @@ module _ (k : Kept) (other : List ℕ) where
   settled_same time r q put put' f false (accept reply p) =
       let u = f p in
       rw (← u.dwhy, ← u.mwhy)
-      (noticed_same time (put p).mwhy _ _ _ (noticed_same time (put p).dwhy _ _ _ (replies-same r time reply (put p) (put' p) u)))
+      (noticed_same time (put p).mwhy _ _ _ (noticed_same time (put p).dwhy _ _ _ (replies_same r time reply (put p) (put' p) u)))
 
   shows_alike : (q : DataRequest) (list : List ℕ) → (q ≡ DataRequest.Environment → ⊥) → data_shown q list k.variables ≡ data_shown q list other
   unfolding data_shown
@@ -344,54 +344,54 @@ module _ (k : Kept) (other : List ℕ) where
     Alike : Request → Type 0
     Alike q = SameTold (settled k l.time r q (verdict k l r q)) (settled there l.time r q (verdict there l r q))
 
-    data-same : (q : DataRequest) → (q ≡ DataRequest.Environment → ⊥) → Alike (Request.Data q)
+    data_same : (q : DataRequest) → (q ≡ DataRequest.Environment → ⊥) → Alike (Request.Data q)
     unfolding Alike verdict outcome
-    data-same q n =
+    data_same q n =
         rw (others k.session.source q (body_of r) l.addresses k.variables other n)
         (settled_same l.time r (Request.Data q) (with_data k q (body_of r) l.addresses) (with_data there q (body_of r) l.addresses)
         (λ p. record { session = refl; image = refl; shown = shows_alike q l.addresses n; dwhy = refl; mwhy = refl }) _ _)
 
-    request-same : (q : Request) → (q ≡ Request.Data DataRequest.Environment → ⊥) → Alike q
+    request_same : (q : Request) → (q ≡ Request.Data DataRequest.Environment → ⊥) → Alike q
     unfolding Alike verdict outcome onto
-    request-same Request.Unknown n =
+    request_same Request.Unknown n =
         settled_same l.time r Request.Unknown (with_login k []) (with_login there []) (λ p. record { session = refl; image = refl; shown = refl; dwhy = refl; mwhy = refl }) _ (refuse 1)
-    request-same Request.Bad n =
+    request_same Request.Bad n =
         settled_same l.time r Request.Bad (with_login k []) (with_login there []) (λ p. record { session = refl; image = refl; shown = refl; dwhy = refl; mwhy = refl }) _ (refuse 18)
-    request-same (Request.Connect q) n =
+    request_same (Request.Connect q) n =
         settled_same l.time r (Request.Connect q) (with_login k []) (with_login there []) (λ p. record { session = refl; image = refl; shown = refl; dwhy = refl; mwhy = refl }) _
         (connect_step k.session.first k.session.login l.accounts q (body_of r))
-    request-same (Request.Config q) n =
+    request_same (Request.Config q) n =
         settled_same l.time r (Request.Config q) (with_login k l.challenge) (with_login there l.challenge) (λ p. record { session = refl; image = refl; shown = refl; dwhy = refl; mwhy = refl }) _
         (config_step k.session.login l.challenge q)
-    request-same (Request.Scsi q) n =
+    request_same (Request.Scsi q) n =
         settled_same l.time r (Request.Scsi q) (with_changer k _) (with_changer there _) (λ p. record { session = refl; image = refl; shown = refl; dwhy = refl; mwhy = refl }) _
         (scsi_step k.session.tape.opened k.session.changer q (body_of r))
-    request-same (Request.Tape q) n =
+    request_same (Request.Tape q) n =
         settled_same l.time r (Request.Tape q) (with_tape k) (with_tape there) (λ p. record { session = refl; image = refl; shown = refl; dwhy = refl; mwhy = refl }) _
         (tape_step (in_drive k.session.changer.slots) (tape_part k) q (body_of r))
-    request-same (Request.Mover q) n =
+    request_same (Request.Mover q) n =
         settled_same l.time r (Request.Mover q) (with_part k l.addresses) (with_part there l.addresses) (λ p. record { session = refl; image = refl; shown = refl; dwhy = refl; mwhy = refl }) _
         (mover_part_step (tape_part k) q l.addresses)
-    request-same (Request.Joint q) n =
+    request_same (Request.Joint q) n =
         settled_same l.time r (Request.Joint q) (with_ends k) (with_ends there) (λ p. record { session = refl; image = refl; shown = refl; dwhy = refl; mwhy = refl }) _
         (joint_step k.session.source k.session.mover k.session.tape q l.made)
-    request-same (Request.Data q) n = data-same q (λ e. n (ap Request.Data e))
+    request_same (Request.Data q) n = data_same q (λ e. n (ap Request.Data e))
 
-    judged-same : (q : Request) → (q ≡ Request.Data DataRequest.Environment → ⊥) → SameTold (judged k l r q) (judged there l r q)
+    judged_same : (q : Request) → (q ≡ Request.Data DataRequest.Environment → ⊥) → SameTold (judged k l r q) (judged there l r q)
     unfolding judged Alike
-    judged-same q n =
-        by_both SameTold (is_close q) _ _ _ _ (λ _. record { code = refl; reply = refl; notices = refl; session = refl; image = refl }) (λ _. request-same q n)
+    judged_same q n =
+        by_both SameTold (is_close q) _ _ _ _ (λ _. record { code = refl; reply = refl; notices = refl; session = refl; image = refl }) (λ _. request_same q n)
 
-    silent-same : (code : ℕ) → SameTold (silent code k) (silent code there)
-    silent-same code = record { code = refl; reply = refl; notices = refl; session = refl; image = refl }
+    silent_same : (code : ℕ) → SameTold (silent code k) (silent code there)
+    silent_same code = record { code = refl; reply = refl; notices = refl; session = refl; image = refl }
 
     pub unseen : length other ≡ length k.variables → (request_in r ≡ Request.Data DataRequest.Environment → ⊥) → SameTold (answered k l r) (answered there l r)
     unfolding answered guarded room_of requested
     unseen e n =
         rw e
-        (by_both SameTold (ltb (choose (eqb (length k.variables) store_length) l.room 0) least_room) _ _ _ _ (λ _. silent-same _)
-        (λ _. by_both SameTold (not (keeps k.session)) _ _ _ _ (λ _. silent-same _)
-        (λ _. by_both SameTold k.session.closed _ _ _ _ (λ _. silent-same _)
+        (by_both SameTold (ltb (choose (eqb (length k.variables) store_length) l.room 0) least_room) _ _ _ _ (λ _. silent_same _)
+        (λ _. by_both SameTold (not (keeps k.session)) _ _ _ _ (λ _. silent_same _)
+        (λ _. by_both SameTold k.session.closed _ _ _ _ (λ _. silent_same _)
         (λ _. by_both SameTold (well_framed r) _ _ _ _
-        (λ _. by_both SameTold (not (eqb (kind_of r) 0)) _ _ _ _ (λ _. silent-same _) (λ _. judged-same (request_in r) n))
+        (λ _. by_both SameTold (not (eqb (kind_of r) 0)) _ _ _ _ (λ _. silent_same _) (λ _. judged_same (request_in r) n))
         (λ _. record { code = refl; reply = refl; notices = refl; session = refl; image = refl })))))

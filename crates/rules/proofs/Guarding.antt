@@ -36,13 +36,13 @@ goes_on s room idle x g = rw (guarded, le-ltb room least_room g.roomy, g.valid, 
 
 -- ---- the room of a request call: it has the output's where the store is as long as it must be, and else none
 module _ (k : Kept) (l : Lent) where
-  pub room-stored : length k.variables ≡ store_length → room_of k l ≡ l.room
+  pub room_stored : length k.variables ≡ store_length → room_of k l ≡ l.room
   unfolding room_of choose
-  room-stored h = rw (room_of, eq-eqb (length k.variables) store_length h)
+  room_stored h = rw (room_of, eq-eqb (length k.variables) store_length h)
 
-  pub room-unstored : eqb (length k.variables) store_length ≡ false → room_of k l ≡ 0
+  pub room_unstored : eqb (length k.variables) store_length ≡ false → room_of k l ≡ 0
   unfolding room_of choose
-  room-unstored h = rw (room_of, h)
+  room_unstored h = rw (room_of, h)
 
   pub stored : least_room ≤ room_of k l → length k.variables ≡ store_length
   unfolding room_of
@@ -51,10 +51,10 @@ module _ (k : Kept) (l : Lent) where
       (λ e _. eqb-true (length k.variables) store_length e) (λ _ h. absurd (omega arith))
 
   pub roomy : least_room ≤ room_of k l → least_room ≤ l.room
-  roomy h = rw (room-stored (stored h)) at h
+  roomy h = rw (room_stored (stored h)) at h
 
-  pub lent-well : least_room ≤ l.room → length k.variables ≡ store_length → least_room ≤ room_of k l
-  lent-well h e = rw (room-stored e) h
+  pub lent_well : least_room ≤ l.room → length k.variables ≡ store_length → least_room ≤ room_of k l
+  lent_well h e = rw (room_stored e) h
 
 -- ---- from what the code of the guard found
 stopped : {A : Type 0} (a b c : Bool) (code : ℕ) (idle : ℕ → A) (x : A) → Stop code ≡ choose a (Stop 1001) (choose (not b) (Stop 1002) (choose c (Stop 0) Go))

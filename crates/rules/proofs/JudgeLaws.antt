@@ -28,20 +28,20 @@ before e ts g (suc k) = g k
 -- ---- what holds of an accepted answer
 module _ {A : Type 0} (P : Reply → A → Type 0) where
   -- it is to be shown only where no test applies
-  pub judged-by : (ts : List Test) (o : Outcome A) → (Clear ts → Accepts P o) → Accepts P (judge ts o)
+  pub judged_by : (ts : List Test) (o : Outcome A) → (Clear ts → Accepts P o) → Accepts P (judge ts o)
   unfolding judge Accepts choose
-  judged-by [] o h = h (λ k. refl)
-  judged-by (test true e ∷ ts) o h = tt
-  judged-by (test false e ∷ ts) o h = judged-by ts o (λ g. h (before e ts g))
+  judged_by [] o h = h (λ k. refl)
+  judged_by (test true e ∷ ts) o h = tt
+  judged_by (test false e ∷ ts) o h = judged_by ts o (λ g. h (before e ts g))
 
   pub accepts : (ts : List Test) (r : Reply) (next : A) → (Clear ts → P r next) → Accepts P (judge ts (accept r next))
   unfolding Accepts
-  accepts ts r next h = judged-by ts (accept r next) h
+  accepts ts r next h = judged_by ts (accept r next) h
 
   -- of a refusal there is nothing to show
-  pub refusal-says : (e : ℕ) → Accepts P (refuse e)
+  pub refusal_says : (e : ℕ) → Accepts P (refuse e)
   unfolding Accepts
-  refusal-says e = tt
+  refusal_says e = tt
 
   pub carried : {B : Type 0} (f : B → A) (o : Outcome B) → Accepts (λ r p. P r (f p)) o → Accepts P (onto f o)
   unfolding onto Accepts
@@ -62,21 +62,21 @@ both_right true b h = (refl, h)
 both_right false b h = absurd (let z : ◌≡◌ {A = ℕ} 0 1 = cc in omega arith)
 
 module _ {A : Type 0} (right : ℕ → Bool) (o : Outcome A) (h : Refuses (λ e. right e ≡ true) o) where
-  pub refuses-behind : (ts : List Test) → numbers_right right ts ≡ true → Refuses (λ e. right e ≡ true) (judge ts o)
+  pub refuses_behind : (ts : List Test) → numbers_right right ts ≡ true → Refuses (λ e. right e ≡ true) (judge ts o)
   unfolding judge Refuses choose
-  refuses-behind [] n = h
-  refuses-behind (test true e ∷ ts) n = (both_right (right e) (numbers_right right ts) n).0
-  refuses-behind (test false e ∷ ts) n = refuses-behind ts (both_right (right e) (numbers_right right ts) n).1
+  refuses_behind [] n = h
+  refuses_behind (test true e ∷ ts) n = (both_right (right e) (numbers_right right ts) n).0
+  refuses_behind (test false e ∷ ts) n = refuses_behind ts (both_right (right e) (numbers_right right ts) n).1
 
 pub accepts_all : {A : Type 0} (right : ℕ → Bool) (ts : List Test) (r : Reply) (p : A) → numbers_right right ts ≡ true → Refuses (λ e. right e ≡ true) (judge ts (accept r p))
 unfolding Refuses
-accepts_all right ts r p n = refuses-behind right (accept r p) tt ts n
+accepts_all right ts r p n = refuses_behind right (accept r p) tt ts n
 
 -- one test more before others
 pub refuses_after : {A : Type 0} (right : ℕ → Bool) (b : Bool) (e : ℕ) (ts : List Test) (o : Outcome A) → right e ≡ true → Refuses (λ e. right e ≡ true) (judge ts o)
     → Refuses (λ e. right e ≡ true) (judge (test b e ∷ ts) o)
 unfolding judge
-refuses_after right b e ts o n h = refuses-behind right (judge ts o) h (test b e ∷ []) (rw n)
+refuses_after right b e ts o n h = refuses_behind right (judge ts o) h (test b e ∷ []) (rw n)
 
 pub refuses_onto : {A B : Type 0} (P : ℕ → Type 0) (f : A → B) (o : Outcome A) → Refuses P o → Refuses P (onto f o)
 unfolding onto Refuses

@@ -36,7 +36,7 @@ use Rattle.rules.specs.Promises.{Keeps, JointKeeps, data_side, part_wrong, part_
 use Rattle.rules.proofs.JudgeLaws.{Clear, accepts, carried}
 use Rattle.rules_parts.proofs.Ending.{past_top}
 use Rattle.rules_parts.proofs.Addressing.{local_right, tcp_right, right_busy, source_none, mover_none, source_same, mover_same}
-use Rattle.rules.proofs.Kept.{mover-kept, kept-mover, legal_by, writes}
+use Rattle.rules.proofs.Kept.{mover_kept, kept_mover, legal_by, writes}
 
 module _ {A : Type 0} (wrong side : A → Bool) (p : A) where
   pub stays : Keeps wrong side p p
@@ -85,7 +85,7 @@ PartKeeps p next = Keeps part_wrong part_side p next
 -- by the facts
 by_facts : (p next : TapePart) → (MoverKept p.mover p.tape → MoverKept next.mover next.tape) → mover_partnered next.mover ≡ mover_partnered p.mover
     → PartKeeps p next
-by_facts p next f s = record { good = λ h. kept-mover next.mover next.tape (f (mover-kept p.mover p.tape h)); sides = s }
+by_facts p next f s = record { good = λ h. kept_mover next.mover next.tape (f (mover_kept p.mover p.tape h)); sides = s }
 
 pub clash : {A : Type 0} (b : Bool) → b ≡ false → b ≡ true → A
 clash b h e = absurd (let z : ◌≡◌ {A = ℕ} 0 1 = cc in omega arith)
@@ -269,9 +269,9 @@ module _ (state : ℕ) (h : busy state ≡ false) where
   unfolding busy choose
   not_active e = clash true (not_busy state 2 h e) refl
 
-  busy-free : holds_tape state ≡ true → ⊥
+  busy_free : holds_tape state ≡ true → ⊥
   unfolding holds_tape
-  busy-free e =
+  busy_free e =
       let z : holds_tape state ≡ false = none_holds state not_listening not_active in
       clash (holds_tape state) z e
 
@@ -284,43 +284,43 @@ module _ (m : Mover) (t : Tape) (l : List ℕ) where
   MoverKeeps _ n = PartKeeps (there m) (there n)
 
   -- a request of the mover that is judged by tests
-  mover-judged : (ts : List Test) (r : Reply) (next : Mover)
+  mover_judged : (ts : List Test) (r : Reply) (next : Mover)
       → (Clear ts → MoverKept m t → MoverKept next t)
       → (Clear ts → mover_partnered next ≡ mover_partnered m)
       → Accepts MoverKeeps (judge ts (accept r next))
   unfolding there MoverKeeps
-  mover-judged ts r next f s = accepts MoverKeeps ts r next (λ g. by_facts (there m) (there next) (f g) (s g))
+  mover_judged ts r next f s = accepts MoverKeeps ts r next (λ g. by_facts (there m) (there next) (f g) (s g))
 
   -- neither is joined
   apart : (next : Mover) (k : ℕ) → m.state ≡ k → mover_joined k ≡ false → mover_joined next.state ≡ false → mover_partnered next ≡ mover_partnered m
   apart next k e j f = mover_none next f ∙ sym (mover_none m (ap mover_joined e ∙ j))
 
-  mover-keeps : (q : MoverRequest) (list : List ℕ) → Accepts MoverKeeps (mover_step m t q list)
+  mover_keeps : (q : MoverRequest) (list : List ℕ) → Accepts MoverKeeps (mover_step m t q list)
   unfolding mover_step mover_state mover_listen mover_continue mover_stop set_window mover_read set_size mover_joined choose
-  mover-keeps MoverRequest.State list = mover-judged _ _ m (λ _ k. k) (λ _. refl)
-  mover-keeps (MoverRequest.Listen mode address) list =
-      mover-judged _ _ (mover_listens mode address m)
+  mover_keeps MoverRequest.State list = mover_judged _ _ m (λ _ k. k) (λ _. refl)
+  mover_keeps (MoverRequest.Listen mode address) list =
+      mover_judged _ _ (mover_listens mode address m)
       (λ g. listen_kept m t mode address _ (g 6) (is (g 1)) (yes (g 0)) (g 2) (isnt (g 4)) (g 5))
       (λ g. apart (mover_listens mode address m) 0 (is (g 1)) refl refl)
-  mover-keeps MoverRequest.Continue list =
-      mover-judged _ _ (mover_runs m.mode m.address t.position m)
+  mover_keeps MoverRequest.Continue list =
+      mover_judged _ _ (mover_runs m.mode m.address t.position m)
       (λ g k. runs_kept m t m.mode m.address (right_busy m.address _ k.types) (yes (g 0)) (writes m.mode t.writable (g 2)) (isnt (g 3))
       (λ e. k.resumes e (is (g 1)) (isnt (g 3))) k)
       (λ g. let e : m.state ≡ 3 = is (g 1) in mover_same m (mover_runs m.mode m.address t.position m) refl (ap mover_joined (sym e)))
-  mover-keeps MoverRequest.Stop list =
-      mover-judged _ _ (rest_mover m.size) (λ _ k. rest_kept m.size t k.sizes) (λ g. apart (rest_mover m.size) 4 (is (g 0)) refl refl)
-  mover-keeps (MoverRequest.Window offset length) list =
-      mover-judged _ _ (mover_window offset length m)
+  mover_keeps MoverRequest.Stop list =
+      mover_judged _ _ (rest_mover m.size) (λ _ k. rest_kept m.size t k.sizes) (λ g. apart (rest_mover m.size) 4 (is (g 0)) refl refl)
+  mover_keeps (MoverRequest.Window offset length) list =
+      mover_judged _ _ (mover_window offset length m)
       (λ g. let n : m.size ≡ 0 → ⊥ = isnt (g 1) in
       let s : 1 ≤ m.size = omega arith in
-      window_kept m t offset length (g 0) (busy-free m.state (g 0))
+      window_kept m t offset length (g 0) (busy_free m.state (g 0))
       (legal_by m.size offset length s (is (g 3)) (g 4)) (g 5))
       (λ _. mover_same m (mover_window offset length m) refl refl)
-  mover-keeps (MoverRequest.Read offset length) list =
-      mover-judged _ _ (mover_seeks offset length m) (λ g. seek_kept m t offset length (past_top offset length (g 3)))
+  mover_keeps (MoverRequest.Read offset length) list =
+      mover_judged _ _ (mover_seeks offset length m) (λ g. seek_kept m t offset length (past_top offset length (g 3)))
       (λ _. mover_same m (mover_seeks offset length m) refl refl)
-  mover-keeps (MoverRequest.Size size) list =
-      mover-judged _ _ (mover_size size m)
+  mover_keeps (MoverRequest.Size size) list =
+      mover_judged _ _ (mover_size size m)
       (λ g. size_kept m t size (is (g 0)) (idle_free m.state (is (g 0))) (ltb-false 32768 size (g 2)))
       (λ _. mover_same m (mover_size size m) refl refl)
 
@@ -330,36 +330,36 @@ module _ (p : TapePart) where
   Reloads _ s = PartKeeps p (with_loaded p s)
 
   -- a request of the tape after which the mover is as it was
-  loaded-keeps : (s : Loaded) → (holds_tape p.mover.state ≡ true → ⊥) → PartKeeps p (with_loaded p s)
-  loaded-keeps s free = by_facts p (with_loaded p s) (tape_free p.mover p.tape s.tape free) refl
+  loaded_keeps : (s : Loaded) → (holds_tape p.mover.state ≡ true → ⊥) → PartKeeps p (with_loaded p s)
+  loaded_keeps s free = by_facts p (with_loaded p s) (tape_free p.mover p.tape s.tape free) refl
 
   -- while the mover holds the tape it is open
   open_free : p.tape.opened ≡ false → MoverKept p.mover p.tape → holds_tape p.mover.state ≡ true → ⊥
   open_free h k e = clash p.tape.opened h (k.hold e).opened
 
-  opens-keeps : (s : Loaded) → p.tape.opened ≡ false → PartKeeps p (with_loaded p s)
-  opens-keeps s h = by_facts p (with_loaded p s) (λ k. tape_free p.mover p.tape s.tape (open_free h k) k) refl
+  opens_keeps : (s : Loaded) → p.tape.opened ≡ false → PartKeeps p (with_loaded p s)
+  opens_keeps s h = by_facts p (with_loaded p s) (λ k. tape_free p.mover p.tape s.tape (open_free h k) k) refl
 
-  busy-tape : holds_tape p.mover.state ≡ false → holds_tape p.mover.state ≡ true → ⊥
-  busy-tape h e = clash (holds_tape p.mover.state) h e
+  busy_tape : holds_tape p.mover.state ≡ false → holds_tape p.mover.state ≡ true → ⊥
+  busy_tape h e = clash (holds_tape p.mover.state) h e
 
-  device-keeps : (drive : ℕ) (q : TapeRequest) (body : List ℕ) → Accepts Reloads (device_step drive p.mover.state p.tape p.image q body)
+  device_keeps : (drive : ℕ) (q : TapeRequest) (body : List ℕ) → Accepts Reloads (device_step drive p.mover.state p.tape p.image q body)
   unfolding device_step tape_open tape_close tape_state tape_mtio tape_write tape_read Reloads
-  device-keeps drive (TapeRequest.Open name mode) body = accepts Reloads _ _ _ (λ g. opens-keeps _ (g 2))
-  device-keeps drive TapeRequest.Close body = accepts Reloads _ _ _ (λ g. loaded-keeps _ (busy-tape (g 1)))
-  device-keeps drive TapeRequest.State body = accepts Reloads _ _ _ (λ _. stays part_wrong part_side p)
-  device-keeps drive (TapeRequest.Mtio op times) body = accepts Reloads _ _ _ (λ g. loaded-keeps _ (busy-tape (g 1)))
-  device-keeps drive (TapeRequest.Write bytes) body = accepts Reloads _ _ _ (λ g. loaded-keeps _ (busy-tape (g 1)))
-  device-keeps drive (TapeRequest.Read times) body = accepts Reloads _ _ _ (λ g. loaded-keeps _ (busy-tape (g 1)))
+  device_keeps drive (TapeRequest.Open name mode) body = accepts Reloads _ _ _ (λ g. opens_keeps _ (g 2))
+  device_keeps drive TapeRequest.Close body = accepts Reloads _ _ _ (λ g. loaded_keeps _ (busy_tape (g 1)))
+  device_keeps drive TapeRequest.State body = accepts Reloads _ _ _ (λ _. stays part_wrong part_side p)
+  device_keeps drive (TapeRequest.Mtio op times) body = accepts Reloads _ _ _ (λ g. loaded_keeps _ (busy_tape (g 1)))
+  device_keeps drive (TapeRequest.Write bytes) body = accepts Reloads _ _ _ (λ g. loaded_keeps _ (busy_tape (g 1)))
+  device_keeps drive (TapeRequest.Read times) body = accepts Reloads _ _ _ (λ g. loaded_keeps _ (busy_tape (g 1)))
 
 -- ---- the two interfaces of the service
 pub tape_keeps : (drive : ℕ) (p : TapePart) (q : TapeRequest) (body : List ℕ) → Accepts (λ _ next. PartKeeps p next) (tape_step drive p q body)
 unfolding tape_step Reloads
-tape_keeps drive p q body = carried (λ _ next. PartKeeps p next) (with_loaded p) _ (device-keeps p drive q body)
+tape_keeps drive p q body = carried (λ _ next. PartKeeps p next) (with_loaded p) _ (device_keeps p drive q body)
 
 pub mover_part_keeps : (p : TapePart) (q : MoverRequest) (list : List ℕ) → Accepts (λ _ next. PartKeeps p next) (mover_part_step p q list)
 unfolding mover_part_step there MoverKeeps
-mover_part_keeps p q list = carried (λ _ next. PartKeeps p next) (with_mover p) _ (mover-keeps p.mover p.tape p.image q list)
+mover_part_keeps p q list = carried (λ _ next. PartKeeps p next) (with_mover p) _ (mover_keeps p.mover p.tape p.image q list)
 
 -- ---- the joint requests
 pub not_joined : (a b : Bool) → same_flag a b ≡ true → a ≡ false → b ≡ false
@@ -398,7 +398,7 @@ module _ (d : Data) (m : Mover) (t : Tape) (hd : data_wrong d ≡ false) (hm : m
   EndsKeep _ next = JointKeeps t next
 
   facts : MoverKept m t
-  facts = mover-kept m t hm
+  facts = mover_kept m t hm
 
   -- both ends joined by LOCAL
   connects : (mode : ℕ) → t.opened ≡ true → (mode ≡ 0 → t.writable ≡ true) → (m.length ≡ 0 → ⊥) → (mode ≡ 0 → m.offset ≡ m.moved)
@@ -407,87 +407,87 @@ module _ (d : Data) (m : Mover) (t : Tape) (hd : data_wrong d ≡ false) (hm : m
   connects mode o w n z =
       record {
         source = refl;
-        mover = kept-mover (mover_runs mode 0 t.position m) t (runs_kept m t mode 0 (local_right false) o w n z facts);
+        mover = kept_mover (mover_runs mode 0 t.position m) t (runs_kept m t mode 0 (local_right false) o w n z facts);
         joined = refl;
       }
 
   -- one end joined by TCP, while it was in IDLE: the other is not joined by LOCAL either
-  source-joins : d.state ≡ 0 → JointKeeps t (source_joined d m)
+  source_joins : d.state ≡ 0 → JointKeeps t (source_joined d m)
   unfolding data_wrong address_wrong data_partnered data_joined same_flag choose
-  source-joins s =
+  source_joins s =
       record {
         source = refl;
         mover = hm;
         joined = ap not (not_joined (data_partnered d) (mover_partnered m) hj (source_none d (ap data_joined s)));
       }
 
-  mover-joins : (mode : ℕ) → m.state ≡ 0 → t.opened ≡ true → (mode ≡ 0 → t.writable ≡ true) → (m.length ≡ 0 → ⊥) → (mode ≡ 0 → m.offset ≡ m.moved)
+  mover_joins_lem : (mode : ℕ) → m.state ≡ 0 → t.opened ≡ true → (mode ≡ 0 → t.writable ≡ true) → (m.length ≡ 0 → ⊥) → (mode ≡ 0 → m.offset ≡ m.moved)
       → JointKeeps t (mover_joins d m mode t.position)
   unfolding mover_partnered mover_joined choose
-  mover-joins mode s o w n z =
+  mover_joins_lem mode s o w n z =
       record {
         source = hd;
-        mover = kept-mover (mover_runs mode 1 t.position m) t (runs_kept m t mode 1 (tcp_right false) o w n z facts);
+        mover = kept_mover (mover_runs mode 1 t.position m) t (runs_kept m t mode 1 (tcp_right false) o w n z facts);
         joined = flag_none (data_partnered d) (not_joined_back (data_partnered d) (mover_partnered m) hj (mover_none m (ap mover_joined s)));
       }
 
   -- an end that halts is not joined, and its type stays
-  halted-source : (why : ℕ) → data_wrong (data_halts why d) ≡ false
+  halted_source : (why : ℕ) → data_wrong (data_halts why d) ≡ false
   unfolding data_wrong
-  halted-source why = none refl (data_type d hd)
+  halted_source why = none refl (data_type d hd)
 
-  source-unjoined : (why : ℕ) → data_partnered (data_halts why d) ≡ false
+  source_unjoined : (why : ℕ) → data_partnered (data_halts why d) ≡ false
   unfolding data_joined choose
-  source-unjoined why = source_none (data_halts why d) refl
+  source_unjoined why = source_none (data_halts why d) refl
 
-  mover-unjoined : (why : ℕ) → mover_partnered (mover_halts why m) ≡ false
+  mover_unjoined : (why : ℕ) → mover_partnered (mover_halts why m) ≡ false
   unfolding mover_joined choose
-  mover-unjoined why = mover_none (mover_halts why m) refl
+  mover_unjoined why = mover_none (mover_halts why m) refl
 
   -- both ends halted
   pub halt : (dwhy mwhy : ℕ) → JointKeeps t (halted dwhy mwhy d m)
   unfolding same_flag
   halt dwhy mwhy =
       record {
-        source = halted-source dwhy;
-        mover = kept-mover (mover_halts mwhy m) t (halts_kept m t mwhy facts);
-        joined = rw (source-unjoined dwhy, mover-unjoined mwhy);
+        source = halted_source dwhy;
+        mover = kept_mover (mover_halts mwhy m) t (halts_kept m t mwhy facts);
+        joined = rw (source_unjoined dwhy, mover_unjoined mwhy);
       }
 
   -- one end halted that had no partner
-  pub halt-data : (why : ℕ) → data_partnered d ≡ false → JointKeeps t (source_alone why d m)
+  pub halt_data : (why : ℕ) → data_partnered d ≡ false → JointKeeps t (source_alone why d m)
   unfolding same_flag
-  halt-data why h =
+  halt_data why h =
       record {
-        source = halted-source why;
+        source = halted_source why;
         mover = hm;
-        joined = rw (source-unjoined why, not_joined (data_partnered d) (mover_partnered m) hj h);
+        joined = rw (source_unjoined why, not_joined (data_partnered d) (mover_partnered m) hj h);
       }
 
-  pub halt-mover : (why : ℕ) → mover_partnered m ≡ false → JointKeeps t (mover_alone why d m)
-  halt-mover why h =
+  pub halt_mover : (why : ℕ) → mover_partnered m ≡ false → JointKeeps t (mover_alone why d m)
+  halt_mover why h =
       record {
         source = hd;
-        mover = kept-mover (mover_halts why m) t (halts_kept m t why facts);
-        joined = rw (mover-unjoined why) (flag_none (data_partnered d) (not_joined_back (data_partnered d) (mover_partnered m) hj h));
+        mover = kept_mover (mover_halts why m) t (halts_kept m t why facts);
+        joined = rw (mover_unjoined why) (flag_none (data_partnered d) (not_joined_back (data_partnered d) (mover_partnered m) hj h));
       }
 
-  pub joint-keeps : (q : JointRequest) (made : Bool) → Accepts EndsKeep (joint_step d m t q made)
+  pub joint_keeps : (q : JointRequest) (made : Bool) → Accepts EndsKeep (joint_step d m t q made)
   unfolding joint_step data_abort data_connect mover_abort mover_close mover_connect data_aborted mover_aborted mover_closed
-  joint-keeps JointRequest.DataAbort made =
-      accepts EndsKeep _ _ _ (λ _. by_test (JointKeeps t) (data_partnered d) _ _ (λ _. halt 2 1) (λ h. halt-data 2 h))
-  joint-keeps (JointRequest.DataConnect address count) made =
+  joint_keeps JointRequest.DataAbort made =
+      accepts EndsKeep _ _ _ (λ _. by_test (JointKeeps t) (data_partnered d) _ _ (λ _. halt 2 1) (λ h. halt_data 2 h))
+  joint_keeps (JointRequest.DataConnect address count) made =
       accepts EndsKeep _ _ _
-      (λ g. by_test (JointKeeps t) (eqb address 1) _ _ (λ _. source-joins (is (g 0)))
+      (λ g. by_test (JointKeeps t) (eqb address 1) _ _ (λ _. source_joins (is (g 0)))
       (λ e. let s : m.state ≡ 1 = mover_awaits_lem m (met address _ made (g 2) e) in let h = facts.hold (listen_holds m.state s) in
       connects m.mode h.opened h.writes h.window (λ e. facts.listens e s ∙ sym (facts.start (omega arith)))))
-  joint-keeps JointRequest.MoverAbort made =
-      accepts EndsKeep _ _ _ (λ _. by_test (JointKeeps t) (mover_partnered m) _ _ (λ _. halt 4 2) (λ h. halt-mover 2 h))
-  joint-keeps JointRequest.MoverClose made =
-      accepts EndsKeep _ _ _ (λ _. by_test (JointKeeps t) (mover_partnered m) _ _ (λ _. halt 4 1) (λ h. halt-mover 1 h))
-  joint-keeps (JointRequest.MoverConnect mode address count) made =
+  joint_keeps JointRequest.MoverAbort made =
+      accepts EndsKeep _ _ _ (λ _. by_test (JointKeeps t) (mover_partnered m) _ _ (λ _. halt 4 2) (λ h. halt_mover 2 h))
+  joint_keeps JointRequest.MoverClose made =
+      accepts EndsKeep _ _ _ (λ _. by_test (JointKeeps t) (mover_partnered m) _ _ (λ _. halt 4 1) (λ h. halt_mover 1 h))
+  joint_keeps (JointRequest.MoverConnect mode address count) made =
       accepts EndsKeep _ _ _
       (λ g. let s : m.state ≡ 0 = is (g 1) in
       let w = writes mode t.writable (g 2) in
       let z : mode ≡ 0 → m.offset ≡ m.moved = λ e. offset_zero mode m.offset (g 5) e ∙ sym (facts.start (omega arith)) in
-      by_test (JointKeeps t) (eqb address 1) _ _ (λ _. mover-joins mode s (yes (g 0)) w (isnt (g 4)) z) (λ _. connects mode (yes (g 0)) w (isnt (g 4)) z))
+      by_test (JointKeeps t) (eqb address 1) _ _ (λ _. mover_joins_lem mode s (yes (g 0)) w (isnt (g 4)) z) (λ _. connects mode (yes (g 0)) w (isnt (g 4)) z))

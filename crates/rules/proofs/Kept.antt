@@ -12,12 +12,12 @@ use Rattle.rules_parts.specs.declared.types.Tape.{Tape}
 use Rattle.rules_parts.specs.Names.{top}
 use Rattle.rules_parts.specs.Parts.{holds_tape, unwritable, window_end, length_wrong}
 use Rattle.rules.specs.Relation.{numbers_wrong, window_wrong, start_wrong, hold_wrong, strays, resume_wrong, place_wrong, origin_wrong, mover_wrong, Legal, Held, InWindow, MoverKept}
-use Rattle.rules_parts.proofs.Ending.{past_top, no_past, LengthRight, length-right, right-length}
+use Rattle.rules_parts.proofs.Ending.{past_top, no_past, LengthRight, length_right, right_length}
 
 -- ---- a window in force is a legal one
 pub legal_by : (size offset length : ℕ) → 1 ≤ size → offset % size ≡ 0 → length_wrong size offset length ≡ false → Legal size offset length
 legal_by size offset length s o h =
-    let r = length-right size offset length h in
+    let r = length_right size offset length h in
     record { some = s; offsets = o; lengths = r.whole; starts = r.starts; fits = r.fits }
 
 module _ (size offset length : ℕ) where
@@ -31,14 +31,14 @@ module _ (size offset length : ℕ) where
       let s : 1 ≤ size = omega arith in
       legal_by size offset length s (is c.0) c.1
 
-  not-wrong : Legal size offset length → choose (eqb size 0) true (choose (not (eqb (offset % size) 0)) true (length_wrong size offset length)) ≡ false
-  not-wrong l =
+  not_wrong : Legal size offset length → choose (eqb size 0) true (choose (not (eqb (offset % size) 0)) true (length_wrong size offset length)) ≡ false
+  not_wrong l =
       let n : size ≡ 0 → ⊥ = λ z. (let s = l.some in omega arith) in
-      none (ne_eqb size 0 n) (none (eq_not l.offsets) (right-length size offset length (record { whole = l.lengths; starts = l.starts; fits = l.fits })))
+      none (ne_eqb size 0 n) (none (eq_not l.offsets) (right_length size offset length (record { whole = l.lengths; starts = l.starts; fits = l.fits })))
 
-  no-window-wrong : ((length ≡ 0 → ⊥) → Legal size offset length) → window_wrong size offset length ≡ false
+  no_window_wrong : ((length ≡ 0 → ⊥) → Legal size offset length) → window_wrong size offset length ≡ false
   unfolding window_wrong
-  no-window-wrong f = if_not (eqb length 0) (λ e. not-wrong (f (isnt e)))
+  no_window_wrong f = if_not (eqb length 0) (λ e. not_wrong (f (isnt e)))
 
 -- ---- within the window
 module _ (size offset length moved : ℕ) where
@@ -76,9 +76,9 @@ module _ (m : Mover) (t : Tape) where
       let b = none_of _ a.1 in
       record { window = isnt a.0; opened = yes b.0; writes = writes m.mode t.writable b.1 }
 
-  no-hold-wrong : (holds_tape m.state ≡ true → Held m t) → hold_wrong m t ≡ false
+  no_hold_wrong : (holds_tape m.state ≡ true → Held m t) → hold_wrong m t ≡ false
   unfolding hold_wrong
-  no-hold-wrong f =
+  no_hold_wrong f =
       if_so (holds_tape m.state)
       (λ e. let g = f e in none (ne_eqb m.length 0 g.window) (none (yes_not g.opened) (no_unwritable m.mode t.writable g.writes)))
 
@@ -90,27 +90,27 @@ module _ (m : Mover) where
   unfolding place_wrong
   at_zero h e = unless (not (eqb m.mode 0)) _ h (eq_not e)
 
-  place-listens : place_wrong m ≡ false → m.mode ≡ 0 → m.state ≡ 1 → m.offset ≡ 0
-  place-listens h e s = is (when (eqb m.state 1) _ (at_zero h e) (eq-eqb m.state 1 s))
+  place_listens : place_wrong m ≡ false → m.mode ≡ 0 → m.state ≡ 1 → m.offset ≡ 0
+  place_listens h e s = is (when (eqb m.state 1) _ (at_zero h e) (eq-eqb m.state 1 s))
 
-  place-runs : place_wrong m ≡ false → m.mode ≡ 0 → m.state ≡ 2 → InWindow m.size m.offset m.length m.moved
-  place-runs h e s =
+  place_runs : place_wrong m ≡ false → m.mode ≡ 0 → m.state ≡ 2 → InWindow m.size m.offset m.length m.moved
+  place_runs h e s =
       let n : m.state ≡ 1 → ⊥ = λ z. omega arith in
       within m.size m.offset m.length m.moved (when (eqb m.state 2) _ (unless (eqb m.state 1) _ (at_zero h e) (ne_eqb m.state 1 n)) (eq-eqb m.state 2 s))
 
-  place-resumes : place_wrong m ≡ false → m.mode ≡ 0 → m.state ≡ 3 → (m.length ≡ 0 → ⊥) → m.offset ≡ m.moved
+  place_resumes : place_wrong m ≡ false → m.mode ≡ 0 → m.state ≡ 3 → (m.length ≡ 0 → ⊥) → m.offset ≡ m.moved
   unfolding resume_wrong
-  place-resumes h e s k =
+  place_resumes h e s k =
       let n : m.state ≡ 1 → ⊥ = λ z. omega arith in
       let o : m.state ≡ 2 → ⊥ = λ z. omega arith in
       let a = unless (eqb m.state 2) _ (unless (eqb m.state 1) _ (at_zero h e) (ne_eqb m.state 1 n)) (ne_eqb m.state 2 o) in
       is (unless (eqb m.length 0) _ (when (eqb m.state 3) _ a (eq-eqb m.state 3 s)) (ne_eqb m.length 0 k))
 
-  no-place-wrong : (m.mode ≡ 0 → m.state ≡ 1 → m.offset ≡ 0)
+  no_place_wrong : (m.mode ≡ 0 → m.state ≡ 1 → m.offset ≡ 0)
       → (m.mode ≡ 0 → m.state ≡ 2 → InWindow m.size m.offset m.length m.moved)
       → (m.mode ≡ 0 → m.state ≡ 3 → (m.length ≡ 0 → ⊥) → m.offset ≡ m.moved) → place_wrong m ≡ false
   unfolding place_wrong resume_wrong
-  no-place-wrong f g h =
+  no_place_wrong f g h =
       if_not (not (eqb m.mode 0)) (λ e.
       let z = is e in
       by_test (λ (b : Bool). b ≡ false) (eqb m.state 1) _ _ (λ s. eq_not (f z (eqb-true m.state 1 s)))
@@ -119,9 +119,9 @@ module _ (m : Mover) where
 
 -- ---- the whole
 module _ (m : Mover) (t : Tape) where
-  pub mover-kept : mover_wrong m t ≡ false → MoverKept m t
+  pub mover_kept : mover_wrong m t ≡ false → MoverKept m t
   unfolding mover_wrong numbers_wrong start_wrong origin_wrong
-  mover-kept h =
+  mover_kept h =
       let a = none_of _ h in
       let b = none_of _ a.1 in
       let c = none_of _ b.1 in
@@ -138,18 +138,18 @@ module _ (m : Mover) (t : Tape) where
         window = legal m.size m.offset m.length b.0;
         start = λ s. is (unless (ltb 1 m.state) _ c.0 (le-ltb 1 m.state s));
         hold = held m t d.0;
-        listens = place-listens m e.0;
-        runs = place-runs m e.0;
-        resumes = place-resumes m e.0;
+        listens = place_listens m e.0;
+        runs = place_runs m e.0;
+        resumes = place_resumes m e.0;
         origins = λ s. ltb-false t.position m.origin (when (eqb m.state 2) _ e.1 (eq-eqb m.state 2 s));
       }
 
-  pub kept-mover : MoverKept m t → mover_wrong m t ≡ false
+  pub kept_mover : MoverKept m t → mover_wrong m t ≡ false
   unfolding mover_wrong numbers_wrong start_wrong origin_wrong
-  kept-mover k =
+  kept_mover k =
       none (none (le-ltb 4 m.state k.states) (none (le-ltb 32768 m.size k.sizes) (none k.types (no_past m.seek m.left k.seeks))))
-      (none (no-window-wrong m.size m.offset m.length k.window)
+      (none (no_window_wrong m.size m.offset m.length k.window)
       (none (if_not (ltb 1 m.state) (λ s. eq_not (k.start (ltb-false 1 m.state s))))
-      (none (no-hold-wrong m t k.hold)
-      (none (no-place-wrong m k.listens k.runs k.resumes)
+      (none (no_hold_wrong m t k.hold)
+      (none (no_place_wrong m k.listens k.runs k.resumes)
       (if_so (eqb m.state 2) (λ s. le-ltb t.position m.origin (k.origins (eqb-true m.state 2 s))))))))

@@ -53,13 +53,13 @@ use Rattle.rules.specs.Calls.{Heard, is_run, is_done, is_number}
 use Rattle.rules.specs.Leaving.{Leaving, AtMark, mark_read, mark_spaced, AtEnd, end_read, end_written, end_spaced, OtherFields}
 use Rattle.rules.specs.Leaving.{no_body, zero_words, residue_word, InHeader, unknown_message, bad_body, before_login, Replied, Closes}
 use Rattle.rules.specs.Leaving.{MayWrite, Touched, untouched, wrote, marked, CallsLeave}
-use Rattle.rules.proofs.Login.{login_holds, control, info, attributes_asked, withdrawn-asked}
+use Rattle.rules.proofs.Login.{login_holds, control, info, attributes_asked, withdrawn_asked}
 use Rattle.rules.proofs.Shelving.{shelving_holds}
 use Rattle.rules.proofs.Environment.{stored, stores, environment_asked, unseen}
-use Rattle.rules.proofs.JudgeLaws.{judged-by, accepts, accepts_any, accepts_map, accepts_both, refusal-says, carried}
-use Rattle.rules.proofs.Numbers.{number-right, refusal-right, refusal_facts, off_to_start, after_moved}
+use Rattle.rules.proofs.JudgeLaws.{judged_by, accepts, accepts_any, accepts_map, accepts_both, refusal_says, carried}
+use Rattle.rules.proofs.Numbers.{number_right, refusal_right, refusal_facts, off_to_start, after_moved}
 use Rattle.rules.proofs.Services.{one_of}
-use Rattle.rules.proofs.Calls.{heard, call-judged, call-holds, verdict-free}
+use Rattle.rules.proofs.Calls.{heard, call_judged, call_holds, verdict_free}
 
 -- ---- numbers
 both : (a b : Bool) → choose a b false ≡ true → (a ≡ true) × (b ≡ true)
@@ -196,8 +196,8 @@ module _ (k : Kept) where
     pub at_mark : number_of reply ≡ 12 → Moved (AtMark k.image k.session.tape.position q) k d.kept
     pub at_end : number_of reply ≡ 13 → Moved (AtEnd k.image k.session.tape.position q) k d.kept
 
-  zero-good : (q : Request) (reply : Reply) (d : Done) → d.kept.session.sequence ≡ k.session.sequence → number_of reply ≡ 0 → Good q reply d
-  zero-good q reply d c z =
+  zero_good : (q : Request) (reply : Reply) (d : Done) → d.kept.session.sequence ≡ k.session.sequence → number_of reply ≡ 0 → Good q reply d
+  zero_good q reply d c z =
       record {
         fair = λ f. f.0 z;
         small = omega arith;
@@ -210,10 +210,10 @@ module _ (k : Kept) where
       }
 
   -- MTIO, write and read
-  tape-kept : (p : ℕ) (image : List ℕ) → image ≡ k.image
+  tape_kept : (p : ℕ) (image : List ℕ) → image ≡ k.image
       → (with_tape k (with_loaded (tape_part k) (record { tape = moved_to p k.session.tape; image = image }))).kept
       ≡ (let s = k.session in held (with_parts s s.login s.source s.mover (moved_to p s.tape) s.changer) k.image k.variables)
-  tape-kept p image e = ap (λ (x : List ℕ). (with_tape k (with_loaded (tape_part k) (record { tape = moved_to p k.session.tape; image = x }))).kept) e
+  tape_kept p image e = ap (λ (x : List ℕ). (with_tape k (with_loaded (tape_part k) (record { tape = moved_to p k.session.tape; image = x }))).kept) e
 
   abbrev from : ℕ
   from = k.session.tape.position
@@ -222,20 +222,20 @@ module _ (k : Kept) where
   tape = k.image
 
   -- 6 has no outcome but 0, so that after another the tape is open
-  not-off : (op times : ℕ) → is_refusal (mtio_step tape op from times).gives.error ≡ false → ((mtio_step tape op from times).gives.error ≡ 0 → ⊥) → op ≡ 6 → ⊥
-  not-off op times h n z = n (ap (λ (s : Step Spaced). s.gives.error) (off_to_start tape op from times z h))
+  not_off : (op times : ℕ) → is_refusal (mtio_step tape op from times).gives.error ≡ false → ((mtio_step tape op from times).gives.error ≡ 0 → ⊥) → op ≡ 6 → ⊥
+  not_off op times h n z = n (ap (λ (s : Step Spaced). s.gives.error) (off_to_start tape op from times z h))
 
-  mtio-kept : (op p : ℕ) (image : List ℕ) → (op ≡ 6 → ⊥) → image ≡ k.image
+  mtio_kept : (op p : ℕ) (image : List ℕ) → (op ≡ 6 → ⊥) → image ≡ k.image
       → (with_tape k (with_loaded (tape_part k) (record { tape = after_mtio op p k.session.tape; image = image }))).kept
       ≡ (let s = k.session in held (with_parts s s.login s.source s.mover (moved_to p s.tape) s.changer) k.image k.variables)
-  mtio-kept op p image n e =
-      ap (λ (x : Tape). (with_tape k (with_loaded (tape_part k) (record { tape = x; image = image }))).kept) (after_moved op p k.session.tape n) ∙ tape-kept p image e
+  mtio_kept op p image n e =
+      ap (λ (x : Tape). (with_tape k (with_loaded (tape_part k) (record { tape = x; image = image }))).kept) (after_moved op p k.session.tape n) ∙ tape_kept p image e
 
-  mtio-good : (op times : ℕ) → (let s = mtio_step tape op from times in is_refusal s.gives.error ≡ false
+  mtio_good : (op times : ℕ) → (let s = mtio_step tape op from times in is_refusal s.gives.error ≡ false
       → Good (Request.Tape (TapeRequest.Mtio op times)) (Reply.Mtio s.gives.error s.gives.residue)
       (with_tape k (with_loaded (tape_part k) (record { tape = after_mtio op s.gives.position k.session.tape; image = s.image }))))
   unfolding number_of header_error
-  mtio-good op times h =
+  mtio_good op times h =
       let s = mtio_step tape op from times in
       let o = (cartridge.promises).outcomes tape from in
       let leave = ((cartridge.promises).leave tape from).mtio op times in
@@ -249,22 +249,22 @@ module _ (k : Kept) where
         at_mark = λ e.
             record {
               position = s.gives.position;
-              is = mtio-kept op s.gives.position s.image (not-off op times h (λ z. omega arith)) (leave (λ z. omega arith));
+              is = mtio_kept op s.gives.position s.image (not_off op times h (λ z. omega arith)) (leave (λ z. omega arith));
               holds = mark_spaced op times _ (o.mtio_mark op times e);
             };
         at_end = λ e.
             record {
               position = s.gives.position;
-              is = mtio-kept op s.gives.position s.image (not-off op times h (λ z. omega arith)) (leave (λ z. omega arith));
+              is = mtio_kept op s.gives.position s.image (not_off op times h (λ z. omega arith)) (leave (λ z. omega arith));
               holds = end_spaced op times _ (o.mtio_end op times e);
             };
       }
 
-  write-good : (bytes : Text) (body : List ℕ) → (let s = write_step tape from (bytes_at body bytes) in is_refusal s.gives.error ≡ false
+  write_good : (bytes : Text) (body : List ℕ) → (let s = write_step tape from (bytes_at body bytes) in is_refusal s.gives.error ≡ false
       → Good (Request.Tape (TapeRequest.Write bytes)) (Reply.Wrote s.gives.error s.gives.count)
       (with_tape k (with_loaded (tape_part k) (record { tape = moved_to s.gives.position k.session.tape; image = s.image }))))
   unfolding number_of header_error Unwritten
-  write-good bytes body h =
+  write_good bytes body h =
       let s = write_step tape from (bytes_at body bytes) in
       let o = (cartridge.promises).outcomes tape from in
       let leave = ((cartridge.promises).leave tape from).write (bytes_at body bytes) in
@@ -279,16 +279,16 @@ module _ (k : Kept) where
         at_end = λ e.
             record {
               position = s.gives.position;
-              is = tape-kept _ _ (leave (λ z. omega arith));
+              is = tape_kept _ _ (leave (λ z. omega arith));
               holds = end_written bytes _ (o.write_end (bytes_at body bytes) e);
             };
       }
 
-  read-good : (times : ℕ) → (let s = read_part tape from times in is_refusal s.error ≡ false
+  read_good : (times : ℕ) → (let s = read_part tape from times in is_refusal s.error ≡ false
       → Good (Request.Tape (TapeRequest.Read times)) (Reply.Read s.error s.start s.len)
       (with_tape k (with_loaded (tape_part k) (record { tape = moved_to s.position k.session.tape; image = tape }))))
   unfolding number_of header_error Unread
-  read-good times h =
+  read_good times h =
       let s = read_part tape from times in
       let o = (cartridge.promises).outcomes tape from in
       record {
@@ -310,113 +310,113 @@ module _ (k : Kept) (l : Lent) (r : List ℕ) where
   unfolding Counted
   counted put f o = carried Counted put o (accepts_any (λ reply p. Counted reply (put p)) (λ _ p. f p) o)
 
-  outcome-counted : (q : Request) → Accepts Counted (outcome k l r q)
+  outcome_counted : (q : Request) → Accepts Counted (outcome k l r q)
   unfolding outcome Counted
-  outcome-counted Request.Unknown = refusal-says Counted _
-  outcome-counted Request.Bad = refusal-says Counted _
-  outcome-counted (Request.Connect q) = counted (with_login k _) (λ _. refl) _
-  outcome-counted (Request.Config q) = counted (with_login k _) (λ _. refl) _
-  outcome-counted (Request.Scsi q) = counted (with_changer k _) (λ _. refl) _
-  outcome-counted (Request.Tape q) = counted (with_tape k) (λ _. refl) _
-  outcome-counted (Request.Data q) = counted (with_data k q _ _) (λ _. refl) _
-  outcome-counted (Request.Mover q) = counted (with_part k _) (λ _. refl) _
-  outcome-counted (Request.Joint q) = counted (with_ends k) (λ _. refl) _
+  outcome_counted Request.Unknown = refusal_says Counted _
+  outcome_counted Request.Bad = refusal_says Counted _
+  outcome_counted (Request.Connect q) = counted (with_login k _) (λ _. refl) _
+  outcome_counted (Request.Config q) = counted (with_login k _) (λ _. refl) _
+  outcome_counted (Request.Scsi q) = counted (with_changer k _) (λ _. refl) _
+  outcome_counted (Request.Tape q) = counted (with_tape k) (λ _. refl) _
+  outcome_counted (Request.Data q) = counted (with_data k q _ _) (λ _. refl) _
+  outcome_counted (Request.Mover q) = counted (with_part k _) (λ _. refl) _
+  outcome_counted (Request.Joint q) = counted (with_ends k) (λ _. refl) _
 
   -- a request whose accepted replies have the number 0
-  plain-good : (q : Request) → ((e : ℕ) → is_done q e ≡ true → e ≡ 0) → Accepts (Good k q) (verdict k l r q)
+  plain_good : (q : Request) → ((e : ℕ) → is_done q e ≡ true → e ≡ 0) → Accepts (Good k q) (verdict k l r q)
   unfolding Counted verdict
-  plain-good q f =
-      accepts_map (λ reply d. (is_done q (number_of reply) ≡ true) × Counted reply d) (Good k q) (λ reply d h. zero-good k q reply d h.1 (f _ h.0)) _
-      (accepts_both (λ reply _. is_done q (number_of reply) ≡ true) Counted _ (number-right k l r q) (judged-by Counted _ _ (λ _. outcome-counted q)))
+  plain_good q f =
+      accepts_map (λ reply d. (is_done q (number_of reply) ≡ true) × Counted reply d) (Good k q) (λ reply d h. zero_good k q reply d h.1 (f _ h.0)) _
+      (accepts_both (λ reply _. is_done q (number_of reply) ≡ true) Counted _ (number_right k l r q) (judged_by Counted _ _ (λ _. outcome_counted q)))
 
   zeroed : (e : ℕ) → eqb e 0 ≡ true → e ≡ 0
   zeroed e h = eqb-true e 0 h
 
-  pub verdict-good : (q : Request) → Accepts (Good k q) (verdict k l r q)
+  pub verdict_good : (q : Request) → Accepts (Good k q) (verdict k l r q)
   unfolding is_done is_run verdict outcome tape_step device_step tape_mtio tape_write tape_read
-  verdict-good Request.Unknown = plain-good Request.Unknown (λ e h. absurd (let z : ◌≡◌ {A = ℕ} 0 1 = cc in omega arith))
-  verdict-good Request.Bad = plain-good Request.Bad (λ e h. absurd (let z : ◌≡◌ {A = ℕ} 0 1 = cc in omega arith))
-  verdict-good (Request.Connect q) = plain-good (Request.Connect q) zeroed
-  verdict-good (Request.Config q) = plain-good (Request.Config q) zeroed
-  verdict-good (Request.Scsi q) = plain-good (Request.Scsi q) zeroed
-  verdict-good (Request.Tape (TapeRequest.Open name mode)) = plain-good (Request.Tape (TapeRequest.Open name mode)) zeroed
-  verdict-good (Request.Tape TapeRequest.Close) = plain-good (Request.Tape TapeRequest.Close) zeroed
-  verdict-good (Request.Tape TapeRequest.State) = plain-good (Request.Tape TapeRequest.State) zeroed
-  verdict-good (Request.Tape (TapeRequest.Mtio op times)) =
+  verdict_good Request.Unknown = plain_good Request.Unknown (λ e h. absurd (let z : ◌≡◌ {A = ℕ} 0 1 = cc in omega arith))
+  verdict_good Request.Bad = plain_good Request.Bad (λ e h. absurd (let z : ◌≡◌ {A = ℕ} 0 1 = cc in omega arith))
+  verdict_good (Request.Connect q) = plain_good (Request.Connect q) zeroed
+  verdict_good (Request.Config q) = plain_good (Request.Config q) zeroed
+  verdict_good (Request.Scsi q) = plain_good (Request.Scsi q) zeroed
+  verdict_good (Request.Tape (TapeRequest.Open name mode)) = plain_good (Request.Tape (TapeRequest.Open name mode)) zeroed
+  verdict_good (Request.Tape TapeRequest.Close) = plain_good (Request.Tape TapeRequest.Close) zeroed
+  verdict_good (Request.Tape TapeRequest.State) = plain_good (Request.Tape TapeRequest.State) zeroed
+  verdict_good (Request.Tape (TapeRequest.Mtio op times)) =
       let P = Good k (Request.Tape (TapeRequest.Mtio op times)) in
-      judged-by P _ _ (λ _. carried P (with_tape k) _ (carried (λ reply p. P reply (with_tape k p)) (with_loaded (tape_part k)) _
-      (accepts (λ reply p. P reply (with_tape k (with_loaded (tape_part k) p))) _ _ _ (λ g. mtio-good k op times (g 3)))))
-  verdict-good (Request.Tape (TapeRequest.Write bytes)) =
+      judged_by P _ _ (λ _. carried P (with_tape k) _ (carried (λ reply p. P reply (with_tape k p)) (with_loaded (tape_part k)) _
+      (accepts (λ reply p. P reply (with_tape k (with_loaded (tape_part k) p))) _ _ _ (λ g. mtio_good k op times (g 3)))))
+  verdict_good (Request.Tape (TapeRequest.Write bytes)) =
       let P = Good k (Request.Tape (TapeRequest.Write bytes)) in
-      judged-by P _ _ (λ _. carried P (with_tape k) _ (carried (λ reply p. P reply (with_tape k p)) (with_loaded (tape_part k)) _
-      (accepts (λ reply p. P reply (with_tape k (with_loaded (tape_part k) p))) _ _ _ (λ g. write-good k bytes (body_of r) (g 3)))))
-  verdict-good (Request.Tape (TapeRequest.Read times)) =
+      judged_by P _ _ (λ _. carried P (with_tape k) _ (carried (λ reply p. P reply (with_tape k p)) (with_loaded (tape_part k)) _
+      (accepts (λ reply p. P reply (with_tape k (with_loaded (tape_part k) p))) _ _ _ (λ g. write_good k bytes (body_of r) (g 3)))))
+  verdict_good (Request.Tape (TapeRequest.Read times)) =
       let P = Good k (Request.Tape (TapeRequest.Read times)) in
-      judged-by P _ _ (λ _. carried P (with_tape k) _ (carried (λ reply p. P reply (with_tape k p)) (with_loaded (tape_part k)) _
-      (accepts (λ reply p. P reply (with_tape k (with_loaded (tape_part k) p))) _ _ _ (λ g. read-good k times (g 3)))))
-  verdict-good (Request.Data q) = plain-good (Request.Data q) zeroed
-  verdict-good (Request.Mover q) = plain-good (Request.Mover q) zeroed
-  verdict-good (Request.Joint q) = plain-good (Request.Joint q) zeroed
+      judged_by P _ _ (λ _. carried P (with_tape k) _ (carried (λ reply p. P reply (with_tape k p)) (with_loaded (tape_part k)) _
+      (accepts (λ reply p. P reply (with_tape k (with_loaded (tape_part k) p))) _ _ _ (λ g. read_good k times (g 3)))))
+  verdict_good (Request.Data q) = plain_good (Request.Data q) zeroed
+  verdict_good (Request.Mover q) = plain_good (Request.Mover q) zeroed
+  verdict_good (Request.Joint q) = plain_good (Request.Joint q) zeroed
 
   -- ---- the number before login
-  abbrev toldBy : Outcome Done → ℕ
-  toldBy (refuse e) = e
-  toldBy (accept reply d) = number_of reply
+  abbrev told_by : Outcome Done → ℕ
+  told_by (refuse e) = e
+  told_by (accept reply d) = number_of reply
 
   opens : (fresh four : Bool)
-      → toldBy (onto (with_login k []) (judge (test (not fresh) illegal_state ∷ test (not four) illegal_arguments ∷ []) (accept Reply.Plain k.session.login)))
+      → told_by (onto (with_login k []) (judge (test (not fresh) illegal_state ∷ test (not four) illegal_arguments ∷ []) (accept Reply.Plain k.session.login)))
       ≡ choose fresh (choose four 0 illegal_arguments) illegal_state
   unfolding onto judge number_of choose
   opens true true = refl
   opens true false = refl
   opens false four = refl
 
-  proves : (right : Bool) → toldBy (onto (with_login k []) (client_auth k.session.login right)) ≡ choose right 0 not_authorized
+  proves : (right : Bool) → told_by (onto (with_login k []) (client_auth k.session.login right)) ≡ choose right 0 not_authorized
   unfolding client_auth onto judge number_of choose
   proves true = refl
   proves false = refl
 
-  stranger-verdict : (q : Request) → k.session.login.authorized ≡ false → verdict k l r q ≡ choose (needs_login q) (refuse not_authorized) (outcome k l r q)
+  stranger_verdict : (q : Request) → k.session.login.authorized ≡ false → verdict k l r q ≡ choose (needs_login q) (refuse not_authorized) (outcome k l r q)
   unfolding verdict is_locked judge choose
-  stranger-verdict q h = rw (verdict, is_locked, h)
+  stranger_verdict q h = rw (verdict, is_locked, h)
 
-  types-told : (c : List ℕ) (m : Bool)
-      → toldBy (onto (with_login k c) (choose m (accept Reply.Challenge (challenged_by c k.session.login)) (refuse illegal_arguments)))
+  types_told : (c : List ℕ) (m : Bool)
+      → told_by (onto (with_login k c) (choose m (accept Reply.Challenge (challenged_by c k.session.login)) (refuse illegal_arguments)))
       ≡ choose m 0 illegal_arguments
   unfolding onto number_of choose
-  types-told c true = refl
-  types-told c false = refl
+  types_told c true = refl
+  types_told c false = refl
 
-  attributes-told : (c : List ℕ) (type : ℕ) → toldBy (onto (with_login k c) (auth_attributes k.session.login c type)) ≡ choose (eqb type md5_auth) 0 illegal_arguments
+  attributes_told : (c : List ℕ) (type : ℕ) → told_by (onto (with_login k c) (auth_attributes k.session.login c type)) ≡ choose (eqb type md5_auth) 0 illegal_arguments
   unfolding auth_attributes
-  attributes-told c type = types-told c (eqb type md5_auth)
+  attributes_told c type = types_told c (eqb type md5_auth)
 
-  unlocked-tells : (q : Request) → toldBy (choose (needs_login q) (refuse not_authorized) (outcome k l r q)) ≡ before_login k l r q
+  unlocked_tells : (q : Request) → told_by (choose (needs_login q) (refuse not_authorized) (outcome k l r q)) ≡ before_login k l r q
   unfolding needs_login outcome connect_step connect_open config_step onto before_login number_of choose
-  unlocked-tells Request.Unknown = refl
-  unlocked-tells Request.Bad = refl
-  unlocked-tells (Request.Connect (ConnectRequest.Open version)) = opens k.session.first (eqb version 4)
-  unlocked-tells (Request.Connect (ConnectRequest.Md5Auth id digest)) = proves _
-  unlocked-tells (Request.Connect ConnectRequest.OtherAuth) = refl
-  unlocked-tells (Request.Connect ConnectRequest.Close) = refl
-  unlocked-tells (Request.Config ConfigRequest.ConnectionType) = refl
-  unlocked-tells (Request.Config (ConfigRequest.AuthAttributes type)) = attributes-told l.challenge type
-  unlocked-tells (Request.Config ConfigRequest.ServerInfo) = refl
-  unlocked-tells (Request.Scsi q) = refl
-  unlocked-tells (Request.Tape q) = refl
-  unlocked-tells (Request.Data q) = refl
-  unlocked-tells (Request.Mover q) = refl
-  unlocked-tells (Request.Joint q) = refl
+  unlocked_tells Request.Unknown = refl
+  unlocked_tells Request.Bad = refl
+  unlocked_tells (Request.Connect (ConnectRequest.Open version)) = opens k.session.first (eqb version 4)
+  unlocked_tells (Request.Connect (ConnectRequest.Md5Auth id digest)) = proves _
+  unlocked_tells (Request.Connect ConnectRequest.OtherAuth) = refl
+  unlocked_tells (Request.Connect ConnectRequest.Close) = refl
+  unlocked_tells (Request.Config ConfigRequest.ConnectionType) = refl
+  unlocked_tells (Request.Config (ConfigRequest.AuthAttributes type)) = attributes_told l.challenge type
+  unlocked_tells (Request.Config ConfigRequest.ServerInfo) = refl
+  unlocked_tells (Request.Scsi q) = refl
+  unlocked_tells (Request.Tape q) = refl
+  unlocked_tells (Request.Data q) = refl
+  unlocked_tells (Request.Mover q) = refl
+  unlocked_tells (Request.Joint q) = refl
 
-  stranger-tells : (q : Request) → k.session.login.authorized ≡ false → toldBy (verdict k l r q) ≡ before_login k l r q
-  stranger-tells q h = ap toldBy (stranger-verdict q h) ∙ unlocked-tells q
+  stranger_tells : (q : Request) → k.session.login.authorized ≡ false → told_by (verdict k l r q) ≡ before_login k l r q
+  stranger_tells q h = ap told_by (stranger_verdict q h) ∙ unlocked_tells q
 
   -- ---- a request's reply
   abbrev Tells : Request → ℕ → Type 0
   Tells q e = k.session.login.authorized ≡ false → e ≡ before_login k l r q
 
-  refusal-leaves : Leaving (λ p. p ≡ k.session.tape.position) k (held (after_message k.session false) k.image k.variables)
-  refusal-leaves =
+  refusal_leaves : Leaving (λ p. p ≡ k.session.tape.position) k (held (after_message k.session false) k.image k.variables)
+  refusal_leaves =
       record {
         closed = refl;
         login = refl;
@@ -433,9 +433,9 @@ module _ (k : Kept) (l : Lent) (r : List ℕ) where
       }
 
   -- a refusal in the header, and one in the body
-  header-replied : (q : Request) (e : ℕ) → is_number e ≡ true → Tells q e → InHeader q e → Replied k l r q (replying r l.time (Reply.Header e) [] k)
+  header_replied : (q : Request) (e : ℕ) → is_number e ≡ true → Tells q e → InHeader q e → Replied k l r q (replying r l.time (Reply.Header e) [] k)
   unfolding number_of header_error
-  header-replied q e n t i =
+  header_replied q e n t i =
       let f = refusal_facts e (number_facts e n).1 in
       record {
         reply = Reply.Header e;
@@ -445,15 +445,15 @@ module _ (k : Kept) (l : Lent) (r : List ℕ) where
         header = λ _. i;
         fields = λ _. no_body ((numbers.numbers_told).headed _ _ _ _ e []);
         quiet = λ _. refl;
-        refused = λ _. refusal-leaves;
+        refused = λ _. refusal_leaves;
         at_mark = λ z. absurd (f.1 z);
         at_end = λ z. absurd (f.2 z);
         stranger = t;
       }
 
-  body-replied : (q : Request) (b e a : ℕ) → is_number e ≡ true → Tells q e → Replied k l r q (replying r l.time (Reply.Refused b e a) [] k)
+  body_replied : (q : Request) (b e a : ℕ) → is_number e ≡ true → Tells q e → Replied k l r q (replying r l.time (Reply.Refused b e a) [] k)
   unfolding number_of header_error
-  body-replied q b e a n t =
+  body_replied q b e a n t =
       let f = refusal_facts e (number_facts e n).1 in
       record {
         reply = Reply.Refused b e a;
@@ -463,50 +463,50 @@ module _ (k : Kept) (l : Lent) (r : List ℕ) where
         header = λ n. absurd (n refl);
         fields = λ _. zero_words b a ((numbers.numbers_told).refused _ _ _ _ b e a []);
         quiet = λ _. refl;
-        refused = λ _. refusal-leaves;
+        refused = λ _. refusal_leaves;
         at_mark = λ z. absurd (f.1 z);
         at_end = λ z. absurd (f.2 z);
         stranger = t;
       }
 
   -- 1 and 18 whatever the login
-  unknown-is : (e : ℕ) → verdict k l r Request.Unknown ≡ refuse e → InHeader Request.Unknown e
+  unknown_is : (e : ℕ) → verdict k l r Request.Unknown ≡ refuse e → InHeader Request.Unknown e
   unfolding needs_login outcome
-  unknown-is e v = let w = sym (verdict-free k l r Request.Unknown refl) ∙ v in let z : 1 ≡ e = cc in rw (← z) unknown_message
+  unknown_is e v = let w = sym (verdict_free k l r Request.Unknown refl) ∙ v in let z : 1 ≡ e = cc in rw (← z) unknown_message
 
-  bad-is : (e : ℕ) → verdict k l r Request.Bad ≡ refuse e → InHeader Request.Bad e
+  bad_is : (e : ℕ) → verdict k l r Request.Bad ≡ refuse e → InHeader Request.Bad e
   unfolding needs_login outcome
-  bad-is e v = let w = sym (verdict-free k l r Request.Bad refl) ∙ v in let z : 18 ≡ e = cc in rw (← z) bad_body
+  bad_is e v = let w = sym (verdict_free k l r Request.Bad refl) ∙ v in let z : 18 ≡ e = cc in rw (← z) bad_body
 
-  refused-replied : (q : Request) (e : ℕ) → verdict k l r q ≡ refuse e → is_number e ≡ true → Tells q e → Replied k l r q (replying r l.time (refusing q r e) [] k)
+  refused_replied : (q : Request) (e : ℕ) → verdict k l r q ≡ refuse e → is_number e ≡ true → Tells q e → Replied k l r q (replying r l.time (refusing q r e) [] k)
   unfolding refusing is_unread choose
-  refused-replied Request.Unknown e v f t = header-replied Request.Unknown e f t (unknown-is e v)
-  refused-replied Request.Bad e v f t = header-replied Request.Bad e f t (bad-is e v)
-  refused-replied (Request.Connect q) e v f t = body-replied (Request.Connect q) _ e _ f t
-  refused-replied (Request.Config q) e v f t = body-replied (Request.Config q) _ e _ f t
-  refused-replied (Request.Scsi q) e v f t = body-replied (Request.Scsi q) _ e _ f t
-  refused-replied (Request.Tape q) e v f t = body-replied (Request.Tape q) _ e _ f t
-  refused-replied (Request.Data q) e v f t = body-replied (Request.Data q) _ e _ f t
-  refused-replied (Request.Mover q) e v f t = body-replied (Request.Mover q) _ e _ f t
-  refused-replied (Request.Joint q) e v f t = body-replied (Request.Joint q) _ e _ f t
+  refused_replied Request.Unknown e v f t = header_replied Request.Unknown e f t (unknown_is e v)
+  refused_replied Request.Bad e v f t = header_replied Request.Bad e f t (bad_is e v)
+  refused_replied (Request.Connect q) e v f t = body_replied (Request.Connect q) _ e _ f t
+  refused_replied (Request.Config q) e v f t = body_replied (Request.Config q) _ e _ f t
+  refused_replied (Request.Scsi q) e v f t = body_replied (Request.Scsi q) _ e _ f t
+  refused_replied (Request.Tape q) e v f t = body_replied (Request.Tape q) _ e _ f t
+  refused_replied (Request.Data q) e v f t = body_replied (Request.Data q) _ e _ f t
+  refused_replied (Request.Mover q) e v f t = body_replied (Request.Mover q) _ e _ f t
+  refused_replied (Request.Joint q) e v f t = body_replied (Request.Joint q) _ e _ f t
 
   -- notices leave the reply, and without reasons there are none
-  pub noticed-reply : (time why : ℕ) (n : Notice) (a : Answered) → (noticed time why n a).reply ≡ a.reply
+  pub noticed_reply : (time why : ℕ) (n : Notice) (a : Answered) → (noticed time why n a).reply ≡ a.reply
   unfolding noticed
-  noticed-reply time why n a = by_test (λ (x : Answered). x.reply ≡ a.reply) (eqb why 0) _ _ (λ _. refl) (λ _. refl)
+  noticed_reply time why n a = by_test (λ (x : Answered). x.reply ≡ a.reply) (eqb why 0) _ _ (λ _. refl) (λ _. refl)
 
   unnoticed : (time why : ℕ) (n : Notice) (a : Answered) → why ≡ 0 → noticed time why n a ≡ a
   unfolding noticed choose
   unnoticed time why n a z = rw z
 
-  accepted-replied : (q : Request) (reply : Reply) (d : Done) → Good k q reply d → Tells q (number_of reply)
+  accepted_replied : (q : Request) (reply : Reply) (d : Done) → Good k q reply d → Tells q (number_of reply)
       → Replied k l r q (halting l.time d.dwhy d.mwhy (replying r l.time reply d.shown d.kept))
-  accepted-replied q reply d g t =
+  accepted_replied q reply d g t =
       let a = replying r l.time reply d.shown d.kept in
       let h = halting l.time d.dwhy d.mwhy a in
       let first = noticed l.time d.dwhy (Notice.DataHalted d.dwhy) a in
       let same : h.reply ≡ a.reply =
-      noticed-reply l.time d.mwhy (Notice.MoverHalted d.mwhy) first ∙ noticed-reply l.time d.dwhy (Notice.DataHalted d.dwhy) a in
+      noticed_reply l.time d.mwhy (Notice.MoverHalted d.mwhy) first ∙ noticed_reply l.time d.dwhy (Notice.DataHalted d.dwhy) a in
       let alone : (number_of reply ≡ 0 → ⊥) → h ≡ a =
       λ n. unnoticed l.time d.mwhy (Notice.MoverHalted d.mwhy) first (g.quiet n).1
       ∙ unnoticed l.time d.dwhy (Notice.DataHalted d.dwhy) a (g.quiet n).0 in
@@ -524,15 +524,15 @@ module _ (k : Kept) (l : Lent) (r : List ℕ) where
         stranger = t;
       }
 
-  settled-replied : (q : Request) (o : Outcome Done) → verdict k l r q ≡ o → Accepts (Good k q) o → Refuses (λ e. is_number e ≡ true) o → Tells q (toldBy o)
+  settled_replied : (q : Request) (o : Outcome Done) → verdict k l r q ≡ o → Accepts (Good k q) o → Refuses (λ e. is_number e ≡ true) o → Tells q (told_by o)
       → Replied k l r q (settled k l.time r q o)
   unfolding settled Accepts Refuses
-  settled-replied q (refuse e) v g f t = refused-replied q e v f t
-  settled-replied q (accept reply d) v g f t = accepted-replied q reply d g t
+  settled_replied q (refuse e) v g f t = refused_replied q e v f t
+  settled_replied q (accept reply d) v g f t = accepted_replied q reply d g t
 
-  judged-replied : (q : Request) → is_close q ≡ false → Replied k l r q (judged k l r q)
+  judged_replied : (q : Request) → is_close q ≡ false → Replied k l r q (judged k l r q)
   unfolding judged choose
-  judged-replied q c = rw (judged, c) (settled-replied q (verdict k l r q) refl (verdict-good q) (refusal-right k l r q) (stranger-tells q))
+  judged_replied q c = rw (judged, c) (settled_replied q (verdict k l r q) refl (verdict_good q) (refusal_right k l r q) (stranger_tells q))
 
   unclosed : (q : Request) → (q ≡ Request.Connect ConnectRequest.Close → ⊥) → is_close q ≡ false
   unfolding is_close
@@ -550,10 +550,10 @@ module _ (k : Kept) (l : Lent) (r : List ℕ) where
   unclosed (Request.Joint q) n = refl
 
   replied : Heard k l r → (request_in r ≡ Request.Connect ConnectRequest.Close → ⊥) → Replied k l r (request_in r) (answered k l r)
-  replied h n = rw (heard k l r h) (judged-replied (request_in r) (unclosed (request_in r) n))
+  replied h n = rw (heard k l r h) (judged_replied (request_in r) (unclosed (request_in r) n))
 
-  closing-closes : Closes k (closing k)
-  closing-closes =
+  closing_closes : Closes k (closing k)
+  closing_closes =
       record {
         reply = refl;
         notices = refl;
@@ -571,7 +571,7 @@ module _ (k : Kept) (l : Lent) (r : List ℕ) where
 
   closes : Heard k l r → request_in r ≡ Request.Connect ConnectRequest.Close → Closes k (answered k l r)
   unfolding judged is_close choose
-  closes h e = rw (heard k l r h, e) closing-closes
+  closes h e = rw (heard k l r h, e) closing_closes
 
 -- ---- what writes to the cartridge
 module _ (k : Kept) (l : Lent) (r : List ℕ) where
@@ -585,25 +585,25 @@ module _ (k : Kept) (l : Lent) (r : List ℕ) where
   unfolding TouchedBy
   left q put f o = carried (TouchedBy q) put o (accepts_any (λ reply p. TouchedBy q reply (put p)) (λ _ p. untouched (f p)) o)
 
-  mover-untouched : (q : Request) → Touched k q (body_of r) k.image
-  mover-untouched q = untouched refl
+  mover_untouched : (q : Request) → Touched k q (body_of r) k.image
+  mover_untouched q = untouched refl
 
   -- whoever passed the tests may write
-  held-not : (state : ℕ) → holds_tape state ≡ false → (state ≡ 1 → ⊥) × (state ≡ 2 → ⊥)
+  held_not : (state : ℕ) → holds_tape state ≡ false → (state ≡ 1 → ⊥) × (state ≡ 2 → ⊥)
   unfolding holds_tape choose
-  held-not state h =
+  held_not state h =
       (λ z. let w = rw z at h in absurd (let z : ◌≡◌ {A = ℕ} 0 1 = cc in omega arith), λ z. let w = rw z at h in absurd (let z : ◌≡◌ {A = ℕ} 0 1 = cc in omega arith))
 
   may_write : k.session.login.authorized ≡ true → k.session.tape.opened ≡ true → k.session.tape.writable ≡ true → holds_tape k.session.mover.state ≡ false
       → MayWrite k.session
-  may_write a o w h = let n = held-not k.session.mover.state h in record { known = a; opened = o; writable = w; not_listening = n.0; not_active = n.1 }
+  may_write a o w h = let n = held_not k.session.mover.state h in record { known = a; opened = o; writable = w; not_listening = n.0; not_active = n.1 }
 
   WriteTouches : Text → Step Wrote → Type 0
   WriteTouches bytes s = Touched k (Request.Tape (TapeRequest.Write bytes)) (body_of r) s.image
 
-  write-touches : (bytes : Text) → MayWrite k.session → WriteTouches bytes (write_step k.image at (bytes_at (body_of r) bytes))
+  write_touches : (bytes : Text) → MayWrite k.session → WriteTouches bytes (write_step k.image at (bytes_at (body_of r) bytes))
   unfolding write_step WriteTouches
-  write-touches bytes m =
+  write_touches bytes m =
       let P = WriteTouches bytes in
       let b = bytes_at (body_of r) bytes in
       by_test P (ltb longest_record (length b)) _ _ (λ _. untouched refl)
@@ -614,65 +614,65 @@ module _ (k : Kept) (l : Lent) (r : List ℕ) where
   MtioTouches : ℕ → ℕ → Step Spaced → Type 0
   MtioTouches op times s = Touched k (Request.Tape (TapeRequest.Mtio op times)) (body_of r) s.image
 
-  marks-touch : (op times : ℕ) → op ≡ 5 → MayWrite k.session → MtioTouches op times (mark_step k.image at times)
+  marks_touch : (op times : ℕ) → op ≡ 5 → MayWrite k.session → MtioTouches op times (mark_step k.image at times)
   unfolding mark_step MtioTouches
-  marks-touch op times e m =
+  marks_touch op times e m =
       by_test (MtioTouches op times) (ltb (capacity k.image) (at + times)) _ _ (λ _. untouched refl)
       (λ _. marked times (ap (λ (o : ℕ). Request.Tape (TapeRequest.Mtio o times)) e) m refl)
 
-  mtio-touches : (op times : ℕ) → (op ≡ 5 → MayWrite k.session) → MtioTouches op times (mtio_step k.image op at times)
+  mtio_touches : (op times : ℕ) → (op ≡ 5 → MayWrite k.session) → MtioTouches op times (mtio_step k.image op at times)
   unfolding mtio_step MtioTouches
-  mtio-touches op times m =
+  mtio_touches op times m =
       let P = MtioTouches op times in
       by_test P (ltb 6 op) _ _ (λ _. untouched refl)
       (λ _. by_test P (faulty k.image at) _ _ (λ _. untouched refl)
-      (λ _. by_test P (eqb op 5) _ _ (λ e. let z = eqb-true op 5 e in marks-touch op times z (m z))
+      (λ _. by_test P (eqb op 5) _ _ (λ e. let z = eqb-true op 5 e in marks_touch op times z (m z))
       (λ _. by_test P (rewinds op) _ _ (λ _. untouched refl) (λ _. untouched refl))))
 
   unprotected : (op : ℕ) (w : Bool) → op ≡ 5 → protects op w ≡ false → w ≡ true
   unfolding protects choose
   unprotected op w e h = let g = rw e at h in yes g
 
-  device-touches : (q : TapeRequest) → k.session.login.authorized ≡ true
+  device_touches : (q : TapeRequest) → k.session.login.authorized ≡ true
       → Accepts (λ reply p. TouchedBy (Request.Tape q) reply (with_tape k (with_loaded (tape_part k) p)))
       (device_step (in_drive k.session.changer.slots) k.session.mover.state k.session.tape k.image q (body_of r))
   unfolding device_step tape_open tape_close tape_state tape_mtio tape_write tape_read TouchedBy WriteTouches MtioTouches
-  device-touches (TapeRequest.Open name mode) a = accepts _ _ _ _ (λ _. untouched refl)
-  device-touches TapeRequest.Close a = accepts _ _ _ _ (λ _. untouched refl)
-  device-touches TapeRequest.State a = accepts _ _ _ _ (λ _. untouched refl)
-  device-touches (TapeRequest.Mtio op times) a =
-      accepts _ _ _ _ (λ g. mtio-touches op times (λ e. may_write a (yes (g 0)) (unprotected op _ e (g 2)) (g 1)))
-  device-touches (TapeRequest.Write bytes) a = accepts _ _ _ _ (λ g. write-touches bytes (may_write a (yes (g 0)) (yes (g 2)) (g 1)))
-  device-touches (TapeRequest.Read times) a = accepts _ _ _ _ (λ _. untouched refl)
+  device_touches (TapeRequest.Open name mode) a = accepts _ _ _ _ (λ _. untouched refl)
+  device_touches TapeRequest.Close a = accepts _ _ _ _ (λ _. untouched refl)
+  device_touches TapeRequest.State a = accepts _ _ _ _ (λ _. untouched refl)
+  device_touches (TapeRequest.Mtio op times) a =
+      accepts _ _ _ _ (λ g. mtio_touches op times (λ e. may_write a (yes (g 0)) (unprotected op _ e (g 2)) (g 1)))
+  device_touches (TapeRequest.Write bytes) a = accepts _ _ _ _ (λ g. write_touches bytes (may_write a (yes (g 0)) (yes (g 2)) (g 1)))
+  device_touches (TapeRequest.Read times) a = accepts _ _ _ _ (λ _. untouched refl)
 
   logged : (b : Bool) → choose b false true ≡ false → b ≡ true
   unfolding choose
   logged true h = refl
   logged false h = absurd (let z : ◌≡◌ {A = ℕ} 0 1 = cc in omega arith)
 
-  outcome-touches : (q : Request) → is_locked k.session.login q ≡ false → Accepts (TouchedBy q) (outcome k l r q)
+  outcome_touches : (q : Request) → is_locked k.session.login q ≡ false → Accepts (TouchedBy q) (outcome k l r q)
   unfolding is_locked needs_login outcome tape_step mover_part_step TouchedBy
-  outcome-touches Request.Unknown h = refusal-says (TouchedBy Request.Unknown) _
-  outcome-touches Request.Bad h = refusal-says (TouchedBy Request.Bad) _
-  outcome-touches (Request.Connect q) h = left (Request.Connect q) (with_login k _) (λ _. refl) _
-  outcome-touches (Request.Config q) h = left (Request.Config q) (with_login k _) (λ _. refl) _
-  outcome-touches (Request.Scsi q) h = left (Request.Scsi q) (with_changer k _) (λ _. refl) _
-  outcome-touches (Request.Tape q) h =
+  outcome_touches Request.Unknown h = refusal_says (TouchedBy Request.Unknown) _
+  outcome_touches Request.Bad h = refusal_says (TouchedBy Request.Bad) _
+  outcome_touches (Request.Connect q) h = left (Request.Connect q) (with_login k _) (λ _. refl) _
+  outcome_touches (Request.Config q) h = left (Request.Config q) (with_login k _) (λ _. refl) _
+  outcome_touches (Request.Scsi q) h = left (Request.Scsi q) (with_changer k _) (λ _. refl) _
+  outcome_touches (Request.Tape q) h =
       carried (TouchedBy (Request.Tape q)) (with_tape k) _
-      (carried (λ reply p. TouchedBy (Request.Tape q) reply (with_tape k p)) (with_loaded (tape_part k)) _ (device-touches q (logged _ h)))
-  outcome-touches (Request.Data q) h = left (Request.Data q) (with_data k q _ _) (λ _. refl) _
-  outcome-touches (Request.Mover q) h =
+      (carried (λ reply p. TouchedBy (Request.Tape q) reply (with_tape k p)) (with_loaded (tape_part k)) _ (device_touches q (logged _ h)))
+  outcome_touches (Request.Data q) h = left (Request.Data q) (with_data k q _ _) (λ _. refl) _
+  outcome_touches (Request.Mover q) h =
       carried (TouchedBy (Request.Mover q)) (with_part k _) _ (carried (λ reply p. TouchedBy (Request.Mover q) reply (with_part k l.addresses p)) (with_mover (tape_part k)) _
-      (accepts_any (λ reply p. TouchedBy (Request.Mover q) reply (with_part k l.addresses (with_mover (tape_part k) p))) (λ _ _. mover-untouched (Request.Mover q)) _))
-  outcome-touches (Request.Joint q) h = left (Request.Joint q) (with_ends k) (λ _. refl) _
+      (accepts_any (λ reply p. TouchedBy (Request.Mover q) reply (with_part k l.addresses (with_mover (tape_part k) p))) (λ _ _. mover_untouched (Request.Mover q)) _))
+  outcome_touches (Request.Joint q) h = left (Request.Joint q) (with_ends k) (λ _. refl) _
 
-  pub verdict-touches : (q : Request) → Accepts (λ _ d. Touched k q (body_of r) d.kept.image) (verdict k l r q)
+  pub verdict_touches : (q : Request) → Accepts (λ _ d. Touched k q (body_of r) d.kept.image) (verdict k l r q)
   unfolding verdict TouchedBy
-  verdict-touches q = judged-by (TouchedBy q) _ _ (λ g. outcome-touches q (g 0))
+  verdict_touches q = judged_by (TouchedBy q) _ _ (λ g. outcome_touches q (g 0))
 
   touched : Touched k (request_in r) (body_of r) (answered k l r).next.image
   touched =
-      call-judged (λ (x : Kept). Touched k (request_in r) (body_of r) x.image) (λ x _ h. h) (λ x h. h) k l r (untouched refl) (verdict-touches (request_in r))
+      call_judged (λ (x : Kept). Touched k (request_in r) (body_of r) x.image) (λ x _ h. h) (λ x h. h) k l r (untouched refl) (verdict_touches (request_in r))
 
 -- ---- who may write does
 held_free : (state : ℕ) → (state ≡ 1 → ⊥) → (state ≡ 2 → ⊥) → holds_tape state ≡ false
@@ -691,9 +691,9 @@ marks_do l p times f c = rw (mtio_step, f, mark_step, le-ltb (capacity l) (p + t
 
 module _ (k : Kept) (l : Lent) (r : List ℕ) (h : Heard k l r) (m : MayWrite k.session) where
   -- a tape request's verdict is its service's
-  verdict-tape : (q : TapeRequest) → verdict k l r (Request.Tape q) ≡ outcome k l r (Request.Tape q)
+  verdict_tape : (q : TapeRequest) → verdict k l r (Request.Tape q) ≡ outcome k l r (Request.Tape q)
   unfolding verdict is_locked judge needs_login choose
-  verdict-tape q = rw (verdict, is_locked, m.known)
+  verdict_tape q = rw (verdict, is_locked, m.known)
 
   writes : (bytes : Text) → request_in r ≡ Request.Tape (TapeRequest.Write bytes) → faulty k.image k.session.tape.position ≡ false
       → (length (bytes_at (body_of r) bytes) ≡ 0 → ⊥) → length (bytes_at (body_of r) bytes) ≤ longest_record
@@ -705,7 +705,7 @@ module _ (k : Kept) (l : Lent) (r : List ℕ) (h : Heard k l r) (m : MayWrite k.
         heard k l r h,
         q,
         judged,
-        verdict-tape (TapeRequest.Write bytes),
+        verdict_tape (TapeRequest.Write bytes),
         write_does k.image k.session.tape.position (bytes_at (body_of r) bytes) f n s w,
         m.opened,
         held_free k.session.mover.state m.not_listening m.not_active,
@@ -721,7 +721,7 @@ module _ (k : Kept) (l : Lent) (r : List ℕ) (h : Heard k l r) (m : MayWrite k.
         heard k l r h,
         q,
         judged,
-        verdict-tape (TapeRequest.Mtio 5 times),
+        verdict_tape (TapeRequest.Mtio 5 times),
         marks_do k.image k.session.tape.position times f c,
         m.opened,
         held_free k.session.mover.state m.not_listening m.not_active,
@@ -737,7 +737,7 @@ calls_leave =
       control = control;
       info = info;
       attributes = attributes_asked;
-      withdrawn = withdrawn-asked;
+      withdrawn = withdrawn_asked;
       touched = touched;
       writes = record { write = λ k l r bytes h q m. writes k l r h m bytes q; marks = λ k l r times h q m. marks k l r h m times q };
       stored = stored;

@@ -41,7 +41,7 @@ use Rattle.wire_replies.specs.declared.Reply.{Reply}
 use Rattle.wire_replies.specs.declared.Reply.TheVariants as Reply
 use Rattle.wire_replies.specs.Replies.{body_bytes, opaques, shape_of, reply_bytes}
 use Rattle.wire_replies.specs.Numbers.{body_in}
-use Rattle.wire_replies.proofs.Numbers.{body-sent, numbers_told}
+use Rattle.wire_replies.proofs.Numbers.{body_sent, numbers_told}
 use Rattle.rules_parts.specs.declared.types.Login.{Login}
 use Rattle.rules_parts.specs.Names.{least_room}
 use Rattle.rules_parts.specs.Parts.{logged_in, challenged_by}
@@ -51,14 +51,14 @@ use Rattle.rules.specs.Connection.{right_digest, connect_open, client_auth, conn
 use Rattle.rules.specs.TapeService.{tape_step, mover_part_step}
 use Rattle.rules.specs.Answer.{Kept, Lent, Answered, room_of, answered, requested, judged, is_close, settled, verdict, needs_login, is_locked, outcome, refusing, is_unread}
 use Rattle.rules.specs.Answer.{refused_in, replying, noticed, Done, tape_part, with_data, with_part, with_tape, with_changer, with_login, with_ends, request_in}
-use Rattle.rules.specs.Order.{Service, DataService, TapeService, ScsiService, JointService, ControlService, service_of, Call, run_calls}
+use Rattle.rules.specs.Order.{Service, DataService, TapeService, ScsiService, JointService, ControlService, service_of, Call, run}
 use Rattle.rules.specs.Calls.{Heard, opening}
 use Rattle.rules.specs.Login.{Newest, none, given, newest_of, is_heard, asks_challenge, gives, newer, newest, Among, here, later}
 use Rattle.rules.specs.Login.{LogsIn, Entered, enters_here, enters_later, authorized, LoginHolds, AttributesAsked, WithdrawnAsked}
 use Rattle.rules.specs.Login.{LoginAlone, OfControl, of_open, of_md5, of_other, of_config, ControlLeaves}
-use Rattle.rules.proofs.JudgeLaws.{judged-by, accepts_any, carried}
+use Rattle.rules.proofs.JudgeLaws.{judged_by, accepts_any, carried}
 use Rattle.rules.proofs.Guarding.{by_guard, stored, roomy}
-use Rattle.rules.proofs.Calls.{by_opening, heard, verdict-free, noticed-holds, undigested, untyped}
+use Rattle.rules.proofs.Calls.{by_opening, heard, verdict_free, noticed_holds, undigested, untyped}
 use Rattle.rules.proofs.Owning.{Owned, of_data, of_tape, of_mover, of_scsi, of_joint, of_control, unknown, bad, owned}
 
 clash : {A : Type 0} → false ≡ true → A
@@ -86,9 +86,9 @@ module _ (k : Kept) (c : Call) where
   abbrev r : List ℕ
   r = c.ask.request
 
-  pub heard-facts : is_heard k c ≡ true → Heard k l r
+  pub heard_facts : is_heard k c ≡ true → Heard k l r
   unfolding is_heard
-  heard-facts h =
+  heard_facts h =
       let a = both (leb least_room l.room) _ h in
       let b = both (eqb (length k.variables) store_length) _ a.1 in
       let d = both (keeps k.session) _ b.1 in
@@ -103,9 +103,9 @@ module _ (k : Kept) (c : Call) where
         request = eqb-true _ _ f.1;
       }
 
-  facts-heard : Heard k l r → is_heard k c ≡ true
+  facts_heard : Heard k l r → is_heard k c ≡ true
   unfolding is_heard choose
-  facts-heard h =
+  facts_heard h =
       rw (le-leb least_room l.room h.roomy, eq-eqb _ _ h.stored, h.valid, h.opened, h.framed, eq-eqb _ _ h.request)
 
   unheard : is_heard k c ≡ false → (answered k l r).next.session.login ≡ k.session.login
@@ -115,7 +115,7 @@ module _ (k : Kept) (c : Call) where
       by_guard P k.session (room_of k l) _ _ (λ _. refl)
       (λ g. by_test P (well_framed r) _ _
       (λ f. by_test P (not (eqb (kind_of r) 0)) _ _ (λ _. refl)
-      (λ e. clash (sym h ∙ facts-heard (record {
+      (λ e. clash (sym h ∙ facts_heard (record {
         roomy = roomy k l g.roomy;
         stored = stored k l g.roomy;
         valid = g.valid;
@@ -146,104 +146,104 @@ module _ (k : Kept) (l : Lent) (r : List ℕ) where
   after (Request.Mover q) = g
   after (Request.Joint q) = g
 
-  loginIn : Outcome Done → Login
-  loginIn (refuse e) = g
-  loginIn (accept reply d) = d.kept.session.login
+  login_in : Outcome Done → Login
+  login_in (refuse e) = g
+  login_in (accept reply d) = d.kept.session.login
 
-  settled-login : (q : Request) (o : Outcome Done) → (settled k l.time r q o).next.session.login ≡ loginIn o
-  unfolding settled loginIn
-  settled-login q (refuse e) = refl
-  settled-login q (accept reply d) =
+  settled_login : (q : Request) (o : Outcome Done) → (settled k l.time r q o).next.session.login ≡ login_in o
+  unfolding settled login_in
+  settled_login q (refuse e) = refl
+  settled_login q (accept reply d) =
       let Q : Kept → Type 0 = λ x. x.session.login ≡ d.kept.session.login in
-      noticed-holds Q (λ x _ h. h) (λ x h. h) l.time d.mwhy _ _ (noticed-holds Q (λ x _ h. h) (λ x h. h) l.time d.dwhy _ _ refl)
+      noticed_holds Q (λ x _ h. h) (λ x h. h) l.time d.mwhy _ _ (noticed_holds Q (λ x _ h. h) (λ x h. h) l.time d.dwhy _ _ refl)
 
-  same-judged : (ts : List Test) (o : Outcome Done) → loginIn o ≡ g → loginIn (judge ts o) ≡ g
-  unfolding judge loginIn choose
-  same-judged [] o h = h
-  same-judged (test true e ∷ ts) o h = refl
-  same-judged (test false e ∷ ts) o h = same-judged ts o h
+  same_judged : (ts : List Test) (o : Outcome Done) → login_in o ≡ g → login_in (judge ts o) ≡ g
+  unfolding judge login_in choose
+  same_judged [] o h = h
+  same_judged (test true e ∷ ts) o h = refl
+  same_judged (test false e ∷ ts) o h = same_judged ts o h
 
-  same-onto : {A : Type 0} (put : A → Done) → ((p : A) → (put p).kept.session.login ≡ g) → (o : Outcome A) → loginIn (onto put o) ≡ g
-  unfolding onto loginIn
-  same-onto put f (refuse e) = refl
-  same-onto put f (accept reply p) = f p
+  same_onto : {A : Type 0} (put : A → Done) → ((p : A) → (put p).kept.session.login ≡ g) → (o : Outcome A) → login_in (onto put o) ≡ g
+  unfolding onto login_in
+  same_onto put f (refuse e) = refl
+  same_onto put f (accept reply p) = f p
 
-  bare-login : (e : ℕ) → loginIn (refuse e) ≡ g
-  unfolding loginIn
-  bare-login e = refl
+  bare_login : (e : ℕ) → login_in (refuse e) ≡ g
+  unfolding login_in
+  bare_login e = refl
 
-  refused-login : {A : Type 0} (put : A → Done) (e : ℕ) → loginIn (onto put (refuse e)) ≡ g
-  unfolding onto loginIn
-  refused-login put e = refl
+  refused_login : {A : Type 0} (put : A → Done) (e : ℕ) → login_in (onto put (refuse e)) ≡ g
+  unfolding onto login_in
+  refused_login put e = refl
 
-  kept-login : (shown : List ℕ) (reply : Reply) → loginIn (onto (with_login k shown) (accept reply g)) ≡ g
-  unfolding onto loginIn
-  kept-login shown reply = refl
+  kept_login : (shown : List ℕ) (reply : Reply) → login_in (onto (with_login k shown) (accept reply g)) ≡ g
+  unfolding onto login_in
+  kept_login shown reply = refl
 
-  opened-login : (fresh four : Bool) → loginIn (onto (with_login k []) (judge (test (not fresh) 19 ∷ test (not four) 9 ∷ []) (accept Reply.Plain g))) ≡ g
-  unfolding onto judge loginIn choose
-  opened-login true true = refl
-  opened-login true false = refl
-  opened-login false four = refl
+  opened_login : (fresh four : Bool) → login_in (onto (with_login k []) (judge (test (not fresh) 19 ∷ test (not four) 9 ∷ []) (accept Reply.Plain g))) ≡ g
+  unfolding onto judge login_in choose
+  opened_login true true = refl
+  opened_login true false = refl
+  opened_login false four = refl
 
-  auth-login : (right : Bool) → loginIn (onto (with_login k []) (client_auth g right)) ≡ choose right (logged_in g) g
-  unfolding client_auth onto judge loginIn choose
-  auth-login true = refl
-  auth-login false = refl
+  auth_login : (right : Bool) → login_in (onto (with_login k []) (client_auth g right)) ≡ choose right (logged_in g) g
+  unfolding client_auth onto judge login_in choose
+  auth_login true = refl
+  auth_login false = refl
 
-  types-login : (m : Bool)
-      → loginIn (onto (with_login k l.challenge) (choose m (accept Reply.Challenge (challenged_by l.challenge g)) (refuse 9)))
+  types_login : (m : Bool)
+      → login_in (onto (with_login k l.challenge) (choose m (accept Reply.Challenge (challenged_by l.challenge g)) (refuse 9)))
       ≡ choose m (challenged_by l.challenge g) g
-  unfolding onto loginIn choose
-  types-login true = refl
-  types-login false = refl
+  unfolding onto login_in choose
+  types_login true = refl
+  types_login false = refl
 
-  attributes-login : (type : ℕ) → loginIn (onto (with_login k l.challenge) (auth_attributes g l.challenge type)) ≡ choose (eqb type md5_auth) (challenged_by l.challenge g) g
+  attributes_login : (type : ℕ) → login_in (onto (with_login k l.challenge) (auth_attributes g l.challenge type)) ≡ choose (eqb type md5_auth) (challenged_by l.challenge g) g
   unfolding auth_attributes
-  attributes-login type = types-login (eqb type md5_auth)
+  attributes_login type = types_login (eqb type md5_auth)
 
-  verdict-login : (q : Request) → loginIn (verdict k l r q) ≡ after q
+  verdict_login : (q : Request) → login_in (verdict k l r q) ≡ after q
   unfolding verdict outcome connect_step connect_open config_step tape_step mover_part_step needs_login after
-  verdict-login Request.Unknown = same-judged _ _ (bare-login 1)
-  verdict-login Request.Bad = same-judged _ _ (bare-login 18)
-  verdict-login (Request.Connect (ConnectRequest.Open version)) = same-judged _ _ (opened-login k.session.first (eqb version 4))
-  verdict-login (Request.Connect (ConnectRequest.Md5Auth id digest)) =
-      ap loginIn (verdict-free k l r (Request.Connect (ConnectRequest.Md5Auth id digest)) refl) ∙ auth-login _
-  verdict-login (Request.Connect ConnectRequest.OtherAuth) = same-judged _ _ (refused-login (with_login k []) 9)
-  verdict-login (Request.Connect ConnectRequest.Close) = same-judged _ _ (kept-login [] Reply.Plain)
-  verdict-login (Request.Config ConfigRequest.ConnectionType) = same-judged _ _ (kept-login l.challenge Reply.ConnectionTypes)
-  verdict-login (Request.Config (ConfigRequest.AuthAttributes type)) =
-      ap loginIn (verdict-free k l r (Request.Config (ConfigRequest.AuthAttributes type)) refl) ∙ attributes-login type
-  verdict-login (Request.Config ConfigRequest.ServerInfo) = same-judged _ _ (kept-login l.challenge (Reply.ServerInfo g.authorized))
-  verdict-login (Request.Scsi q) = same-judged _ _ (same-onto (with_changer k _) (λ _. refl) _)
-  verdict-login (Request.Tape q) = same-judged _ _ (same-onto (with_tape k) (λ _. refl) _)
-  verdict-login (Request.Data q) = same-judged _ _ (same-onto (with_data k q _ _) (λ _. refl) _)
-  verdict-login (Request.Mover q) = same-judged _ _ (same-onto (with_part k _) (λ _. refl) _)
-  verdict-login (Request.Joint q) = same-judged _ _ (same-onto (with_ends k) (λ _. refl) _)
+  verdict_login Request.Unknown = same_judged _ _ (bare_login 1)
+  verdict_login Request.Bad = same_judged _ _ (bare_login 18)
+  verdict_login (Request.Connect (ConnectRequest.Open version)) = same_judged _ _ (opened_login k.session.first (eqb version 4))
+  verdict_login (Request.Connect (ConnectRequest.Md5Auth id digest)) =
+      ap login_in (verdict_free k l r (Request.Connect (ConnectRequest.Md5Auth id digest)) refl) ∙ auth_login _
+  verdict_login (Request.Connect ConnectRequest.OtherAuth) = same_judged _ _ (refused_login (with_login k []) 9)
+  verdict_login (Request.Connect ConnectRequest.Close) = same_judged _ _ (kept_login [] Reply.Plain)
+  verdict_login (Request.Config ConfigRequest.ConnectionType) = same_judged _ _ (kept_login l.challenge Reply.ConnectionTypes)
+  verdict_login (Request.Config (ConfigRequest.AuthAttributes type)) =
+      ap login_in (verdict_free k l r (Request.Config (ConfigRequest.AuthAttributes type)) refl) ∙ attributes_login type
+  verdict_login (Request.Config ConfigRequest.ServerInfo) = same_judged _ _ (kept_login l.challenge (Reply.ServerInfo g.authorized))
+  verdict_login (Request.Scsi q) = same_judged _ _ (same_onto (with_changer k _) (λ _. refl) _)
+  verdict_login (Request.Tape q) = same_judged _ _ (same_onto (with_tape k) (λ _. refl) _)
+  verdict_login (Request.Data q) = same_judged _ _ (same_onto (with_data k q _ _) (λ _. refl) _)
+  verdict_login (Request.Mover q) = same_judged _ _ (same_onto (with_part k _) (λ _. refl) _)
+  verdict_login (Request.Joint q) = same_judged _ _ (same_onto (with_ends k) (λ _. refl) _)
 
-  close-after : (q : Request) → is_close q ≡ true → g ≡ after q
+  close_after : (q : Request) → is_close q ≡ true → g ≡ after q
   unfolding is_close after
-  close-after Request.Unknown h = refl
-  close-after Request.Bad h = refl
-  close-after (Request.Connect (ConnectRequest.Open version)) h = refl
-  close-after (Request.Connect (ConnectRequest.Md5Auth id digest)) h = clash h
-  close-after (Request.Connect ConnectRequest.OtherAuth) h = refl
-  close-after (Request.Connect ConnectRequest.Close) h = refl
-  close-after (Request.Config q) h = clash h
-  close-after (Request.Scsi q) h = refl
-  close-after (Request.Tape q) h = refl
-  close-after (Request.Data q) h = refl
-  close-after (Request.Mover q) h = refl
-  close-after (Request.Joint q) h = refl
+  close_after Request.Unknown h = refl
+  close_after Request.Bad h = refl
+  close_after (Request.Connect (ConnectRequest.Open version)) h = refl
+  close_after (Request.Connect (ConnectRequest.Md5Auth id digest)) h = clash h
+  close_after (Request.Connect ConnectRequest.OtherAuth) h = refl
+  close_after (Request.Connect ConnectRequest.Close) h = refl
+  close_after (Request.Config q) h = clash h
+  close_after (Request.Scsi q) h = refl
+  close_after (Request.Tape q) h = refl
+  close_after (Request.Data q) h = refl
+  close_after (Request.Mover q) h = refl
+  close_after (Request.Joint q) h = refl
 
-  judged-login : (q : Request) → (judged k l r q).next.session.login ≡ after q
+  judged_login : (q : Request) → (judged k l r q).next.session.login ≡ after q
   unfolding judged
-  judged-login q =
-      by_test (λ (a : Answered). a.next.session.login ≡ after q) (is_close q) _ _ (close-after q)
-      (λ _. settled-login q (verdict k l r q) ∙ verdict-login q)
+  judged_login q =
+      by_test (λ (a : Answered). a.next.session.login ≡ after q) (is_close q) _ _ (close_after q)
+      (λ _. settled_login q (verdict k l r q) ∙ verdict_login q)
 
-  pub login-after : Heard k l r → (answered k l r).next.session.login ≡ after (request_in r)
-  login-after h = ap (λ (a : Answered). a.next.session.login) (heard k l r h) ∙ judged-login (request_in r)
+  pub login_after : Heard k l r → (answered k l r).next.session.login ≡ after (request_in r)
+  login_after h = ap (λ (a : Answered). a.next.session.login) (heard k l r h) ∙ judged_login (request_in r)
 
 -- ---- 0x103, as its body is read
 module _ (b : List ℕ) where
@@ -253,26 +253,26 @@ module _ (b : List ℕ) where
   abbrev asking : ℕ → Request
   asking type = Request.Config (ConfigRequest.AuthAttributes type)
 
-  read-md5 : length b ≡ 4 → word b 0 ≡ 2 → attributes ≡ asking 2
+  read_md5 : length b ≡ 4 → word b 0 ≡ 2 → attributes ≡ asking 2
   unfolding decoded config_body scanned read_fields field_at and_read and_value summed puts put choose
-  read-md5 e w = rw (le-leb 4 (length b) (omega arith), eq-eqb (word b 0) 2 w, eq-eqb 4 (length b) (sym e), w)
+  read_md5 e w = rw (le-leb 4 (length b) (omega arith), eq-eqb (word b 0) 2 w, eq-eqb 4 (length b) (sym e), w)
 
-  read-other : 4 ≤ length b → (word b 0 ≡ 2 → ⊥) → attributes ≡ asking (word b 0)
+  read_other : 4 ≤ length b → (word b 0 ≡ 2 → ⊥) → attributes ≡ asking (word b 0)
   unfolding decoded config_body scanned read_fields field_at and_read and_value summed puts put choose
-  read-other h m = rw (le-leb 4 (length b) h, ne_eqb (word b 0) 2 m)
+  read_other h m = rw (le-leb 4 (length b) h, ne_eqb (word b 0) 2 m)
 
   read_short : length b < 4 → attributes ≡ Request.Bad
   unfolding decoded config_body scanned read_fields field_at and_read summed choose
   read_short h = rw (lt-leb 4 (length b) h)
 
-  read-long : 4 < length b → word b 0 ≡ 2 → attributes ≡ Request.Bad
+  read_long : 4 < length b → word b 0 ≡ 2 → attributes ≡ Request.Bad
   unfolding decoded config_body scanned read_fields field_at and_read and_value summed choose
-  read-long h w = rw (le-leb 4 (length b) (omega arith), eq-eqb (word b 0) 2 w, ne_eqb 4 (length b) (λ e. omega arith))
+  read_long h w = rw (le-leb 4 (length b) (omega arith), eq-eqb (word b 0) 2 w, ne_eqb 4 (length b) (λ e. omega arith))
 
   -- and 0x901 of another type
-  read-withdrawn : 4 ≤ length b → (word b 0 ≡ 2 → ⊥) → decoded (Message.Connect ConnectKind.Auth) b ≡ Request.Connect ConnectRequest.OtherAuth
+  read_withdrawn : 4 ≤ length b → (word b 0 ≡ 2 → ⊥) → decoded (Message.Connect ConnectKind.Auth) b ≡ Request.Connect ConnectRequest.OtherAuth
   unfolding decoded connect_body scanned read_fields field_at and_read and_value summed puts put choose
-  read-withdrawn h m = rw (le-leb 4 (length b) h, ne_eqb (word b 0) 2 m, ne_eqb (word b 0) 2 m)
+  read_withdrawn h m = rw (le-leb 4 (length b) h, ne_eqb (word b 0) 2 m, ne_eqb (word b 0) 2 m)
 
 -- ---- which requests give a challenge
 is_challenge : Request → Bool
@@ -392,12 +392,12 @@ attributes_challenge b =
   where
     whole : length b ≡ 4 → is_challenge (attributes b) ≡ eqb (word b 0) 2
     whole e =
-        by_eq (word b 0) 2 (λ w. ap is_challenge (read-md5 b e w) ∙ sym (eq-eqb _ _ w)) (λ m. ap is_challenge (read-other b (omega arith) m))
+        by_eq (word b 0) 2 (λ w. ap is_challenge (read_md5 b e w) ∙ sym (eq-eqb _ _ w)) (λ m. ap is_challenge (read_other b (omega arith) m))
 
     other : (length b ≡ 4 → ⊥) → is_challenge (attributes b) ≡ false
     other n =
         by_lt (length b) 4 (λ h. ap is_challenge (read_short b h))
-        (λ h. by_eq (word b 0) 2 (λ w. ap is_challenge (read-long b (omega arith) w)) (λ m. ap is_challenge (read-other b h m) ∙ ne_eqb _ _ m))
+        (λ h. by_eq (word b 0) 2 (λ w. ap is_challenge (read_long b (omega arith) w)) (λ m. ap is_challenge (read_other b h m) ∙ ne_eqb _ _ m))
 
 challenge_is : (r : List ℕ) → is_challenge (request_in r) ≡ asks_challenge r
 unfolding asks_challenge row_of look choose
@@ -412,48 +412,48 @@ module _ (k : Kept) (l : Lent) (r : List ℕ) where
   abbrev was : Login
   was = k.session.login
 
-  logged-newest : (right : Bool) → newest_of (choose right (logged_in was) was) ≡ newest_of was
+  logged_newest : (right : Bool) → newest_of (choose right (logged_in was) was) ≡ newest_of was
   unfolding newest_of choose
-  logged-newest true = refl
-  logged-newest false = refl
+  logged_newest true = refl
+  logged_newest false = refl
 
-  given-newest : (b : Bool) → newest_of (choose b (challenged_by l.challenge was) was) ≡ choose b (given l.challenge) (newest_of was)
+  given_newest : (b : Bool) → newest_of (choose b (challenged_by l.challenge was) was) ≡ choose b (given l.challenge) (newest_of was)
   unfolding newest_of choose
-  given-newest true = refl
-  given-newest false = refl
+  given_newest true = refl
+  given_newest false = refl
 
-  newest-after : (q : Request) → newest_of (after k l r q) ≡ choose (is_challenge q) (given l.challenge) (newest_of was)
+  newest_after : (q : Request) → newest_of (after k l r q) ≡ choose (is_challenge q) (given l.challenge) (newest_of was)
   unfolding after is_challenge choose
-  newest-after Request.Unknown = refl
-  newest-after Request.Bad = refl
-  newest-after (Request.Connect (ConnectRequest.Open version)) = refl
-  newest-after (Request.Connect (ConnectRequest.Md5Auth id digest)) = logged-newest (right_digest was l.accounts (bytes_at (body_of r) id) (bytes_at (body_of r) digest))
-  newest-after (Request.Connect ConnectRequest.OtherAuth) = refl
-  newest-after (Request.Connect ConnectRequest.Close) = refl
-  newest-after (Request.Config ConfigRequest.ConnectionType) = refl
-  newest-after (Request.Config (ConfigRequest.AuthAttributes type)) = given-newest (eqb type 2)
-  newest-after (Request.Config ConfigRequest.ServerInfo) = refl
-  newest-after (Request.Scsi q) = refl
-  newest-after (Request.Tape q) = refl
-  newest-after (Request.Data q) = refl
-  newest-after (Request.Mover q) = refl
-  newest-after (Request.Joint q) = refl
+  newest_after Request.Unknown = refl
+  newest_after Request.Bad = refl
+  newest_after (Request.Connect (ConnectRequest.Open version)) = refl
+  newest_after (Request.Connect (ConnectRequest.Md5Auth id digest)) = logged_newest (right_digest was l.accounts (bytes_at (body_of r) id) (bytes_at (body_of r) digest))
+  newest_after (Request.Connect ConnectRequest.OtherAuth) = refl
+  newest_after (Request.Connect ConnectRequest.Close) = refl
+  newest_after (Request.Config ConfigRequest.ConnectionType) = refl
+  newest_after (Request.Config (ConfigRequest.AuthAttributes type)) = given_newest (eqb type 2)
+  newest_after (Request.Config ConfigRequest.ServerInfo) = refl
+  newest_after (Request.Scsi q) = refl
+  newest_after (Request.Tape q) = refl
+  newest_after (Request.Data q) = refl
+  newest_after (Request.Mover q) = refl
+  newest_after (Request.Joint q) = refl
 
 pub newest_next : (k : Kept) (c : Call) → newest_of (answered k c.lent c.ask.request).next.session.login ≡ newer (newest_of k.session.login) k c
 unfolding newer gives choose
-newest_next k c = by-heard (is_heard k c) refl
+newest_next k c = by_heard (is_heard k c) refl
   where
     n : Newest
     n = newest_of (answered k c.lent c.ask.request).next.session.login
 
-    by-heard : (h : Bool) → is_heard k c ≡ h → n ≡ choose (choose h (asks_challenge c.ask.request) false) (given c.lent.challenge) (newest_of k.session.login)
-    by-heard true h =
-        ap newest_of (login-after k c.lent c.ask.request (heard-facts k c h)) ∙ newest-after k c.lent c.ask.request (request_in c.ask.request)
+    by_heard : (h : Bool) → is_heard k c ≡ h → n ≡ choose (choose h (asks_challenge c.ask.request) false) (given c.lent.challenge) (newest_of k.session.login)
+    by_heard true h =
+        ap newest_of (login_after k c.lent c.ask.request (heard_facts k c h)) ∙ newest_after k c.lent c.ask.request (request_in c.ask.request)
         ∙ ap (λ (b : Bool). choose b (given c.lent.challenge) (newest_of k.session.login)) (challenge_is c.ask.request)
-    by-heard false h = ap newest_of (unheard k c h)
+    by_heard false h = ap newest_of (unheard k c h)
 
-newest_held : (k : Kept) (cs : List Call) → newest_of (run_calls k cs).session.login ≡ newest (newest_of k.session.login) k cs
-unfolding run_calls newest
+newest_held : (k : Kept) (cs : List Call) → newest_of (run k cs).last.session.login ≡ newest (newest_of k.session.login) k cs
+unfolding run newest
 newest_held k [] = refl
 newest_held k (c ∷ cs) =
     let next = (answered k c.lent c.ask.request).next in
@@ -487,10 +487,10 @@ module _ (k : Kept) (c : Call) where
   abbrev held : Newest
   held = newest_of k.session.login
 
-  md5-in : (id digest : Text) → request_in c.ask.request ≡ Request.Connect (ConnectRequest.Md5Auth id digest)
+  md5_in : (id digest : Text) → request_in c.ask.request ≡ Request.Connect (ConnectRequest.Md5Auth id digest)
       → right_digest k.session.login c.lent.accounts (bytes_at body id) (bytes_at body digest) ≡ true → LogsIn held c
   unfolding right_digest
-  md5-in id digest e h =
+  md5_in id digest e h =
       let z = both k.session.login.challenged _ h in
       record {
         id = id;
@@ -510,7 +510,7 @@ module _ (k : Kept) (c : Call) where
   entering n (Request.Connect (ConnectRequest.Md5Auth id digest)) e t =
       by_test (λ (g : Login). g.authorized ≡ true → LogsIn held c)
       (right_digest k.session.login c.lent.accounts (bytes_at body id) (bytes_at body digest)) _ _
-      (λ h _. md5-in id digest e h) (λ _ z. clash (sym n ∙ z)) t
+      (λ h _. md5_in id digest e h) (λ _ z. clash (sym n ∙ z)) t
   entering n (Request.Connect ConnectRequest.OtherAuth) e t = clash (sym n ∙ t)
   entering n (Request.Connect ConnectRequest.Close) e t = clash (sym n ∙ t)
   entering n (Request.Config ConfigRequest.ConnectionType) e t = clash (sym n ∙ t)
@@ -544,22 +544,22 @@ module _ (k : Kept) (c : Call) where
   abbrev next : Kept
   next = (answered k c.lent c.ask.request).next
 
-  pub call-only : authorized k ≡ false → authorized next ≡ true → (is_heard k c ≡ true) × LogsIn held c
-  call-only n t = by-heard (is_heard k c) refl
+  pub call_only : authorized k ≡ false → authorized next ≡ true → (is_heard k c ≡ true) × LogsIn held c
+  call_only n t = by_heard (is_heard k c) refl
     where
-      by-heard : (h : Bool) → is_heard k c ≡ h → (is_heard k c ≡ true) × LogsIn held c
-      by-heard true h =
-          let w = login-after k c.lent c.ask.request (heard-facts k c h) in
+      by_heard : (h : Bool) → is_heard k c ≡ h → (is_heard k c ≡ true) × LogsIn held c
+      by_heard true h =
+          let w = login_after k c.lent c.ask.request (heard_facts k c h) in
           (h, entering n (request_in c.ask.request) refl (sym (ap (λ (g : Login). g.authorized) w) ∙ t))
-      by-heard false h = clash (sym n ∙ sym (ap (λ (g : Login). g.authorized) (unheard k c h)) ∙ t)
+      by_heard false h = clash (sym n ∙ sym (ap (λ (g : Login). g.authorized) (unheard k c h)) ∙ t)
 
   pub call_stays : authorized k ≡ true → authorized next ≡ true
-  call_stays a = by-heard (is_heard k c) refl
+  call_stays a = by_heard (is_heard k c) refl
     where
-      by-heard : (h : Bool) → is_heard k c ≡ h → authorized next ≡ true
-      by-heard true h =
-          ap (λ (g : Login). g.authorized) (login-after k c.lent c.ask.request (heard-facts k c h)) ∙ staying a (request_in c.ask.request)
-      by-heard false h = ap (λ (g : Login). g.authorized) (unheard k c h) ∙ a
+      by_heard : (h : Bool) → is_heard k c ≡ h → authorized next ≡ true
+      by_heard true h =
+          ap (λ (g : Login). g.authorized) (login_after k c.lent c.ask.request (heard_facts k c h)) ∙ staying a (request_in c.ask.request)
+      by_heard false h = ap (λ (g : Login). g.authorized) (unheard k c h) ∙ a
 
   md5_enters : (id digest : Text) → request_in c.ask.request ≡ Request.Connect (ConnectRequest.Md5Auth id digest)
       → right_digest k.session.login c.lent.accounts (bytes_at body id) (bytes_at body digest) ≡ true
@@ -567,34 +567,34 @@ module _ (k : Kept) (c : Call) where
   unfolding after choose
   md5_enters id digest e h = rw (e, h)
 
-  right-digest : (id digest challenge : List ℕ) → held ≡ given challenge → Among (ByMd5 id challenge digest) (entries_in c.lent.accounts)
+  right_digest_lem : (id digest challenge : List ℕ) → held ≡ given challenge → Among (ByMd5 id challenge digest) (entries_in c.lent.accounts)
       → right_digest k.session.login c.lent.accounts id digest ≡ true
   unfolding right_digest newest_of choose
-  right-digest id digest challenge n a =
+  right_digest_lem id digest challenge n a =
       let z = given_newest_is k.session.login.challenged k.session.login.challenge challenge n in
       rw (z.0, z.1) (among_any (md5_matches id challenge digest) _ (λ x t. accounts_hold.md5_enters _ _ _ x t) _ a)
 
   enters : Heard k c.lent c.ask.request → LogsIn held c → authorized next ≡ true
   enters h i =
-      ap (λ (g : Login). g.authorized) (login-after k c.lent c.ask.request h)
-      ∙ md5_enters i.id i.digest i.asked (right-digest _ _ i.challenge i.held i.entry)
+      ap (λ (g : Login). g.authorized) (login_after k c.lent c.ask.request h)
+      ∙ md5_enters i.id i.digest i.asked (right_digest_lem _ _ i.challenge i.held i.entry)
 
 now_or_later : (k : Kept) (c : Call) (cs : List Call) → authorized k ≡ false → (b : Bool) → authorized (answered k c.lent c.ask.request).next ≡ b
     → (authorized (answered k c.lent c.ask.request).next ≡ false
     → Entered (newest_of (answered k c.lent c.ask.request).next.session.login) (answered k c.lent c.ask.request).next cs)
     → Entered (newest_of k.session.login) k (c ∷ cs)
-now_or_later k c cs n true a f = let z = call-only k c n a in enters_here z.0 z.1
+now_or_later k c cs n true a f = let z = call_only k c n a in enters_here z.0 z.1
 now_or_later k c cs n false a f = enters_later (rw (newest_next k c) at (f a))
 
-only : (k : Kept) (cs : List Call) → authorized k ≡ false → authorized (run_calls k cs) ≡ true → Entered (newest_of k.session.login) k cs
-unfolding run_calls
+only : (k : Kept) (cs : List Call) → authorized k ≡ false → authorized (run k cs).last ≡ true → Entered (newest_of k.session.login) k cs
+unfolding run
 only k [] n t = clash (sym n ∙ t)
 only k (c ∷ cs) n t =
     let x = (answered k c.lent c.ask.request).next in
     now_or_later k c cs n (authorized x) refl (λ a. only x cs a t)
 
-stays : (k : Kept) (cs : List Call) → authorized k ≡ true → authorized (run_calls k cs) ≡ true
-unfolding run_calls
+stays : (k : Kept) (cs : List Call) → authorized k ≡ true → authorized (run k cs).last ≡ true
+unfolding run
 stays k [] h = h
 stays k (c ∷ cs) h = stays _ cs (call_stays k c h)
 
@@ -608,7 +608,7 @@ refused_login_body k l r e m a =
 
 plain_body : (s t m c : ℕ) (shown : List ℕ) → body_in (reply_bytes s t m c Reply.Plain shown) ≡ be32 0
 unfolding reply_bytes shape_of body_bytes opaques be32s be32
-plain_body s t m c shown = body-sent s t m c _ _
+plain_body s t m c shown = body_sent s t m c _ _
 
 module _ (k : Kept) (c : Call) where
   abbrev lent : Lent
@@ -617,18 +617,18 @@ module _ (k : Kept) (c : Call) where
   abbrev ask : List ℕ
   ask = c.ask.request
 
-  md5-right : (id digest : Text) → Heard k lent ask → request_in ask ≡ Request.Connect (ConnectRequest.Md5Auth id digest)
+  md5_right : (id digest : Text) → Heard k lent ask → request_in ask ≡ Request.Connect (ConnectRequest.Md5Auth id digest)
       → right_digest k.session.login lent.accounts (bytes_at (body_of ask) id) (bytes_at (body_of ask) digest) ≡ true
       → (answered k lent ask).reply ≡ reply_bytes k.session.sequence lent.time (message_word ask) (sequence_of ask) Reply.Plain []
   unfolding judged is_close outcome connect_step client_auth judge settled onto needs_login noticed choose
-  md5-right id digest h e t = rw (heard k lent ask h, e, judged, verdict-free k lent ask (Request.Connect (ConnectRequest.Md5Auth id digest)) refl, t)
+  md5_right id digest h e t = rw (heard k lent ask h, e, judged, verdict_free k lent ask (Request.Connect (ConnectRequest.Md5Auth id digest)) refl, t)
 
   right : Heard k lent ask → LogsIn (newest_of k.session.login) c → body_in (answered k lent ask).reply ≡ be32 0
-  right h i = ap body_in (md5-right i.id i.digest h i.asked (right-digest k c _ _ i.challenge i.held i.entry)) ∙ plain_body _ _ _ _ []
+  right h i = ap body_in (md5_right i.id i.digest h i.asked (right_digest_lem k c _ _ i.challenge i.held i.entry)) ∙ plain_body _ _ _ _ []
 
   wrong : (id digest : Text) → Heard k lent ask → message_word ask ≡ 0x901 → request_in ask ≡ Request.Connect (ConnectRequest.Md5Auth id digest)
       → (LogsIn (newest_of k.session.login) c → ⊥) → body_in (answered k lent ask).reply ≡ be32 4
-  wrong id digest h m e n = refused_login_body k lent ask 4 m (undigested k lent ask id digest h e (of_test _ (λ t. n (md5-in k c id digest e t))))
+  wrong id digest h m e n = refused_login_body k lent ask 4 m (undigested k lent ask id digest h e (of_test _ (λ t. n (md5_in k c id digest e t))))
 
 -- ---- a new session
 stranger : (slots : List ℕ) (time room : ℕ) → authorized (opening slots time room).next ≡ false
@@ -659,14 +659,14 @@ module _ (k : Kept) (l : Lent) (r : List ℕ) where
     next : Login
     is : d ≡ with_login k shown next
 
-  login-outcome : (shown : List ℕ) (o : Outcome Login) → Accepts IsLogin (onto (with_login k shown) o)
-  login-outcome shown o =
+  login_outcome : (shown : List ℕ) (o : Outcome Login) → Accepts IsLogin (onto (with_login k shown) o)
+  login_outcome shown o =
       carried IsLogin (with_login k shown) o
       (accepts_any (λ reply p. IsLogin reply (with_login k shown p)) (λ reply p. record { shown = shown; next = p; is = refl }) o)
 
-  settled-control : (q : Request) (o : Outcome Done) → Accepts IsLogin o → ControlLeaves k (settled k l.time r q o)
+  settled_control : (q : Request) (o : Outcome Done) → Accepts IsLogin o → ControlLeaves k (settled k l.time r q o)
   unfolding settled Accepts noticed choose
-  settled-control q (refuse e) a =
+  settled_control q (refuse e) a =
       record {
         alone = record {
           closed = refl;
@@ -681,7 +681,7 @@ module _ (k : Kept) (l : Lent) (r : List ℕ) where
         };
         notices = refl;
       }
-  settled-control q (accept reply d) a =
+  settled_control q (accept reply d) a =
       rw a.is
       (record {
         alone = record {
@@ -698,45 +698,45 @@ module _ (k : Kept) (l : Lent) (r : List ℕ) where
         notices = refl;
       })
 
-  verdict-control : (q : Request) → OfControl q → Accepts IsLogin (verdict k l r q)
+  verdict_control : (q : Request) → OfControl q → Accepts IsLogin (verdict k l r q)
   unfolding verdict outcome
-  verdict-control q (of_open version) = judged-by IsLogin _ _ (λ _. login-outcome [] _)
-  verdict-control q (of_md5 id digest) = judged-by IsLogin _ _ (λ _. login-outcome [] _)
-  verdict-control q of_other = judged-by IsLogin _ _ (λ _. login-outcome [] _)
-  verdict-control q (of_config x) = judged-by IsLogin _ _ (λ _. login-outcome l.challenge _)
+  verdict_control q (of_open version) = judged_by IsLogin _ _ (λ _. login_outcome [] _)
+  verdict_control q (of_md5 id digest) = judged_by IsLogin _ _ (λ _. login_outcome [] _)
+  verdict_control q of_other = judged_by IsLogin _ _ (λ _. login_outcome [] _)
+  verdict_control q (of_config x) = judged_by IsLogin _ _ (λ _. login_outcome l.challenge _)
 
-  control-open : (q : Request) → OfControl q → is_close q ≡ false
+  control_open : (q : Request) → OfControl q → is_close q ≡ false
   unfolding is_close
-  control-open q (of_open version) = refl
-  control-open q (of_md5 id digest) = refl
-  control-open q of_other = refl
-  control-open q (of_config x) = refl
+  control_open q (of_open version) = refl
+  control_open q (of_md5 id digest) = refl
+  control_open q of_other = refl
+  control_open q (of_config x) = refl
 
-  judged-control : (q : Request) → OfControl q → ControlLeaves k (judged k l r q)
+  judged_control : (q : Request) → OfControl q → ControlLeaves k (judged k l r q)
   unfolding judged choose
-  judged-control q o = rw (judged, control-open q o) (settled-control q (verdict k l r q) (verdict-control q o))
+  judged_control q o = rw (judged, control_open q o) (settled_control q (verdict k l r q) (verdict_control q o))
 
   pub control : Heard k l r → OfControl (request_in r) → ControlLeaves k (answered k l r)
-  control h o = rw (heard k l r h) (judged-control (request_in r) o)
+  control h o = rw (heard k l r h) (judged_control (request_in r) o)
 
   -- ---- 0x108
-  info-asked : message_word r ≡ 0x108 → length (body_of r) ≡ 0 → request_in r ≡ Request.Config ConfigRequest.ServerInfo
+  info_asked : message_word r ≡ 0x108 → length (body_of r) ≡ 0 → request_in r ≡ Request.Config ConfigRequest.ServerInfo
   unfolding decoded config_body row_of look scanned read_fields summed puts choose
-  info-asked m b = rw (m, b)
+  info_asked m b = rw (m, b)
 
-  info-replied : Heard k l r → request_in r ≡ Request.Config ConfigRequest.ServerInfo
+  info_replied : Heard k l r → request_in r ≡ Request.Config ConfigRequest.ServerInfo
       → (answered k l r).reply
       ≡ reply_bytes k.session.sequence l.time (message_word r) (sequence_of r) (Reply.ServerInfo k.session.login.authorized) l.challenge
   unfolding judged is_close outcome config_step settled onto needs_login noticed choose
-  info-replied h e = rw (heard k l r h, e, judged, verdict-free k l r (Request.Config ConfigRequest.ServerInfo) refl)
+  info_replied h e = rw (heard k l r h, e, judged, verdict_free k l r (Request.Config ConfigRequest.ServerInfo) refl)
 
-  info-body : (s t m c : ℕ) (known : Bool) (shown : List ℕ) → body_in (reply_bytes s t m c (Reply.ServerInfo known) shown) ≡ body_bytes (shape_of (Reply.ServerInfo known) [])
+  info_body : (s t m c : ℕ) (known : Bool) (shown : List ℕ) → body_in (reply_bytes s t m c (Reply.ServerInfo known) shown) ≡ body_bytes (shape_of (Reply.ServerInfo known) [])
   unfolding reply_bytes shape_of
-  info-body s t m c known shown = body-sent s t m c _ _
+  info_body s t m c known shown = body_sent s t m c _ _
 
   pub info : Heard k l r → message_word r ≡ 0x108 → length (body_of r) ≡ 0
       → body_in (answered k l r).reply ≡ body_bytes (shape_of (Reply.ServerInfo k.session.login.authorized) [])
-  info h m b = ap body_in (info-replied h (info-asked m b)) ∙ info-body _ _ _ _ k.session.login.authorized l.challenge
+  info h m b = ap body_in (info_replied h (info_asked m b)) ∙ info_body _ _ _ _ k.session.login.authorized l.challenge
 
 -- ---- 0x103 by its bytes
 module _ (k : Kept) (l : Lent) (r : List ℕ) where
@@ -747,16 +747,16 @@ module _ (k : Kept) (l : Lent) (r : List ℕ) where
   replied : Heard k l r → (type : ℕ) → request_in r ≡ asking (body_of r) type → (reply : Reply) (g : Login) → auth_attributes k.session.login l.challenge type ≡ accept reply g
       → (answered k l r).reply ≡ reply_bytes k.session.sequence l.time (message_word r) (sequence_of r) reply l.challenge
   unfolding judged is_close outcome config_step settled onto needs_login noticed choose
-  replied h type e reply g x = rw (heard k l r h, e, judged, verdict-free k l r (asking (body_of r) type) refl, x)
+  replied h type e reply g x = rw (heard k l r h, e, judged, verdict_free k l r (asking (body_of r) type) refl, x)
 
   refused : Heard k l r → (type : ℕ) → request_in r ≡ asking (body_of r) type → auth_attributes k.session.login l.challenge type ≡ refuse 9
       → (answered k l r).reply ≡ reply_bytes k.session.sequence l.time (message_word r) (sequence_of r) (refused_in r 9) []
   unfolding judged is_close outcome config_step settled onto needs_login refusing is_unread choose
-  refused h type e x = rw (heard k l r h, e, judged, verdict-free k l r (asking (body_of r) type) refl, x)
+  refused h type e x = rw (heard k l r h, e, judged, verdict_free k l r (asking (body_of r) type) refl, x)
 
-  challenge-body : (s t m c : ℕ) (shown : List ℕ) → body_in (reply_bytes s t m c Reply.Challenge shown) ≡ be32 0 ++ (be32 2 ++ shown)
+  challenge_body : (s t m c : ℕ) (shown : List ℕ) → body_in (reply_bytes s t m c Reply.Challenge shown) ≡ be32 0 ++ (be32 2 ++ shown)
   unfolding reply_bytes shape_of body_bytes opaques be32s be32
-  challenge-body s t m c shown = body-sent s t m c _ _ ∙ ap (λ (x : List ℕ). be32 0 ++ (be32 2 ++ x)) (append-nil shown)
+  challenge_body s t m c shown = body_sent s t m c _ _ ∙ ap (λ (x : List ℕ). be32 0 ++ (be32 2 ++ x)) (append-nil shown)
 
   refused_body : (s t c e : ℕ) → message_word r ≡ 0x103 → body_in (reply_bytes s t (message_word r) c (refused_in r e) []) ≡ be32 e ++ be32 0
   unfolding row_of look choose be32
@@ -764,9 +764,9 @@ module _ (k : Kept) (l : Lent) (r : List ℕ) where
       let told = numbers_told.refused s t (message_word r) c (row_of (message_word r)).before e (row_of (message_word r)).after [] in
       told ∙ rw m refl
 
-  gives-md5 : auth_attributes k.session.login l.challenge 2 ≡ accept Reply.Challenge (challenged_by l.challenge k.session.login)
+  gives_md5 : auth_attributes k.session.login l.challenge 2 ≡ accept Reply.Challenge (challenged_by l.challenge k.session.login)
   unfolding auth_attributes choose
-  gives-md5 = refl
+  gives_md5 = refl
 
   gives_none : (type : ℕ) → (type ≡ 2 → ⊥) → auth_attributes k.session.login l.challenge type ≡ refuse 9
   unfolding auth_attributes choose
@@ -777,26 +777,26 @@ attributes_asked k l r h m =
     let b = body_of r in
     let q = asked k l r m in
     record {
-      md5 = λ e w. ap body_in (replied k l r h 2 (q ∙ read-md5 b e w) Reply.Challenge _ (gives-md5 k l r)) ∙ challenge-body k l r _ _ _ _ l.challenge;
-      other = λ s d. ap body_in (refused k l r h (word b 0) (q ∙ read-other b s d) (gives_none k l r (word b 0) d)) ∙ refused_body k l r _ _ _ 9 m;
+      md5 = λ e w. ap body_in (replied k l r h 2 (q ∙ read_md5 b e w) Reply.Challenge _ (gives_md5 k l r)) ∙ challenge_body k l r _ _ _ _ l.challenge;
+      other = λ s d. ap body_in (refused k l r h (word b 0) (q ∙ read_other b s d) (gives_none k l r (word b 0) d)) ∙ refused_body k l r _ _ _ 9 m;
       short = λ s. q ∙ read_short b s;
-      long = λ s w. q ∙ read-long b s w;
+      long = λ s w. q ∙ read_long b s w;
     }
 
 -- ---- 0x901 of another type
 module _ (k : Kept) (l : Lent) (r : List ℕ) (h : Heard k l r) (m : message_word r ≡ 0x901) (s : 4 ≤ length (body_of r)) (t : word (body_of r) 0 ≡ 2 → ⊥) where
-  withdrawn-is : request_in r ≡ Request.Connect ConnectRequest.OtherAuth
+  withdrawn_is : request_in r ≡ Request.Connect ConnectRequest.OtherAuth
   unfolding row_of look choose
-  withdrawn-is = ap (λ (n : ℕ). decoded (message_of n) (body_of r)) m ∙ read-withdrawn (body_of r) s t
+  withdrawn_is = ap (λ (n : ℕ). decoded (message_of n) (body_of r)) m ∙ read_withdrawn (body_of r) s t
 
-  login-left : (q : Request) → request_in r ≡ q → q ≡ Request.Connect ConnectRequest.OtherAuth → after k l r (request_in r) ≡ k.session.login
+  login_left : (q : Request) → request_in r ≡ q → q ≡ Request.Connect ConnectRequest.OtherAuth → after k l r (request_in r) ≡ k.session.login
   unfolding after
-  login-left q e f = rw (e, f)
+  login_left q e f = rw (e, f)
 
-  pub withdrawn-asked : WithdrawnAsked k l r
-  withdrawn-asked =
+  pub withdrawn_asked : WithdrawnAsked k l r
+  withdrawn_asked =
       record {
-        told = refused_login_body k l r 9 m (untyped k l r h withdrawn-is);
-        leaves = control k l r h (rw withdrawn-is of_other);
-        login = login-after k l r h ∙ login-left _ refl withdrawn-is;
+        told = refused_login_body k l r 9 m (untyped k l r h withdrawn_is);
+        leaves = control k l r h (rw withdrawn_is of_other);
+        login = login_after k l r h ∙ login_left _ refl withdrawn_is;
       }

@@ -57,7 +57,7 @@ use Rattle.rules.specs.Answer.{Kept, Lent, Done, outcome, verdict, tape_part, wi
 use Rattle.rules.specs.Order.{is_one_of}
 use Rattle.rules.specs.Calls.{is_run, is_done, is_number}
 use Rattle.rules.proofs.Changer.{by_run}
-use Rattle.rules.proofs.JudgeLaws.{judged-by, accepts, refusal-says, carried, refuses-behind, accepts_all, refuses_after, refuses_onto, numbers_right}
+use Rattle.rules.proofs.JudgeLaws.{judged_by, accepts, refusal_says, carried, refuses_behind, accepts_all, refuses_after, refuses_onto, numbers_right}
 
 abbrev Zero : {A : Type 0} → Reply → A → Type 0
 Zero r _ = eqb (number_of r) 0 ≡ true
@@ -103,7 +103,7 @@ scsi_zero tape c (ScsiRequest.Open name) body = accepts Zero _ _ _ (λ _. refl)
 scsi_zero tape c ScsiRequest.Close body = accepts Zero _ _ _ (λ _. refl)
 scsi_zero tape c ScsiRequest.State body = accepts Zero _ _ _ (λ _. refl)
 scsi_zero tape c ScsiRequest.Reset body = accepts Zero _ _ _ (λ _. refl)
-scsi_zero tape c (ScsiRequest.Cdb cdb room) body = judged-by Zero _ _ (λ _. run_zero tape c (bytes_at body cdb) room)
+scsi_zero tape c (ScsiRequest.Cdb cdb room) body = judged_by Zero _ _ (λ _. run_zero tape c (bytes_at body cdb) room)
 
 connect_zero : (fresh : Bool) (g : Login) (a : List ℕ) (q : ConnectRequest) (body : List ℕ) → Accepts Zero (connect_step fresh g a q body)
 unfolding connect_step connect_open client_auth number_of Accepts
@@ -136,21 +136,21 @@ module _ (k : Kept) (l : Lent) (r : List ℕ) where
   Right : Request → Reply → Done → Type 0
   Right q reply _ = is_done q (number_of reply) ≡ true
 
-  outcome-number : (q : Request) → Accepts (Right q) (outcome k l r q)
+  outcome_number : (q : Request) → Accepts (Right q) (outcome k l r q)
   unfolding outcome Right is_done tape_step mover_part_step
-  outcome-number Request.Unknown = refusal-says (Right Request.Unknown) _
-  outcome-number Request.Bad = refusal-says (Right Request.Bad) _
-  outcome-number (Request.Connect q) = carried Zero (with_login k _) _ (connect_zero _ _ _ q _)
-  outcome-number (Request.Config q) = carried Zero (with_login k _) _ (config_zero _ _ q)
-  outcome-number (Request.Scsi q) = carried Zero (with_changer k _) _ (scsi_zero _ _ q _)
-  outcome-number (Request.Tape q) = carried (Ran q) (with_tape k) _ (carried (Ran q) (with_loaded (tape_part k)) _ (tape_ran _ _ _ _ q _))
-  outcome-number (Request.Data q) = carried Zero (with_data k q _ _) _ (data_zero _ q _ _ _)
-  outcome-number (Request.Mover q) = carried Zero (with_part k _) _ (carried Zero (with_mover (tape_part k)) _ (mover_zero _ _ q _))
-  outcome-number (Request.Joint q) = carried Zero (with_ends k) _ (joint_zero _ _ _ q _)
+  outcome_number Request.Unknown = refusal_says (Right Request.Unknown) _
+  outcome_number Request.Bad = refusal_says (Right Request.Bad) _
+  outcome_number (Request.Connect q) = carried Zero (with_login k _) _ (connect_zero _ _ _ q _)
+  outcome_number (Request.Config q) = carried Zero (with_login k _) _ (config_zero _ _ q)
+  outcome_number (Request.Scsi q) = carried Zero (with_changer k _) _ (scsi_zero _ _ q _)
+  outcome_number (Request.Tape q) = carried (Ran q) (with_tape k) _ (carried (Ran q) (with_loaded (tape_part k)) _ (tape_ran _ _ _ _ q _))
+  outcome_number (Request.Data q) = carried Zero (with_data k q _ _) _ (data_zero _ q _ _ _)
+  outcome_number (Request.Mover q) = carried Zero (with_part k _) _ (carried Zero (with_mover (tape_part k)) _ (mover_zero _ _ q _))
+  outcome_number (Request.Joint q) = carried Zero (with_ends k) _ (joint_zero _ _ _ q _)
 
-  pub number-right : (q : Request) → Accepts (λ reply _. is_done q (number_of reply) ≡ true) (verdict k l r q)
+  pub number_right : (q : Request) → Accepts (λ reply _. is_done q (number_of reply) ≡ true) (verdict k l r q)
   unfolding verdict Right
-  number-right q = judged-by (Right q) _ _ (λ _. outcome-number q)
+  number_right q = judged_by (Right q) _ _ (λ _. outcome_number q)
 
 -- ---- a refusal's number: of each request every test's is one of the table's, and the tape's own is where it is given
 abbrev Refusal : ℕ → Type 0
@@ -193,7 +193,7 @@ scsi_refuses tape c (ScsiRequest.Open name) body = accepts_all is_number _ _ _ r
 scsi_refuses tape c ScsiRequest.Close body = accepts_all is_number _ _ _ refl
 scsi_refuses tape c ScsiRequest.State body = accepts_all is_number _ _ _ refl
 scsi_refuses tape c ScsiRequest.Reset body = accepts_all is_number _ _ _ refl
-scsi_refuses tape c (ScsiRequest.Cdb cdb room) body = refuses-behind is_number _ (run_refuses tape c (bytes_at body cdb) room) _ refl
+scsi_refuses tape c (ScsiRequest.Cdb cdb room) body = refuses_behind is_number _ (run_refuses tape c (bytes_at body cdb) room) _ refl
 
 connect_refuses : (fresh : Bool) (g : Login) (a : List ℕ) (q : ConnectRequest) (body : List ℕ) → Refuses Refusal (connect_step fresh g a q body)
 unfolding connect_step connect_open client_auth is_number is_one_of is_refusal Refuses choose
@@ -226,9 +226,9 @@ module _ (l : List ℕ) (p : ℕ) where
   WriteListed : Step Wrote → Type 0
   WriteListed s = Listed s.gives.error
 
-  write-listed : (b : List ℕ) → WriteListed (write_step l p b)
+  write_listed : (b : List ℕ) → WriteListed (write_step l p b)
   unfolding write_step WriteListed is_number is_one_of is_refusal choose
-  write-listed b =
+  write_listed b =
       by_test WriteListed (ltb longest_record (length b)) _ _ (λ _ h. h)
       (λ _. by_test WriteListed (faulty l p) _ _ (λ _ h. h)
       (λ _. by_test WriteListed (eqb (length b) 0) _ _ (λ _ h. h)
@@ -237,9 +237,9 @@ module _ (l : List ℕ) (p : ℕ) where
   ReadListed : Part → Type 0
   ReadListed r = Listed r.error
 
-  read-listed : (times : ℕ) → ReadListed (read_part l p times)
+  read_listed : (times : ℕ) → ReadListed (read_part l p times)
   unfolding read_part entry_part ReadListed is_number is_one_of is_refusal choose
-  read-listed times =
+  read_listed times =
       by_test ReadListed (ltb longest_record times) _ _ (λ _ h. h)
       (λ _. by_test ReadListed (faulty l p) _ _ (λ _ h. h)
       (λ _. by_test ReadListed (eqb times 0) _ _ (λ _ h. h)
@@ -249,28 +249,28 @@ module _ (l : List ℕ) (p : ℕ) where
   MtioListed : Step Spaced → Type 0
   MtioListed s = Listed s.gives.error
 
-  mark-listed : (times : ℕ) → MtioListed (mark_step l p times)
+  mark_listed : (times : ℕ) → MtioListed (mark_step l p times)
   unfolding mark_step MtioListed is_number is_one_of is_refusal choose
-  mark-listed times = by_test MtioListed (ltb (capacity l) (p + times)) _ _ (λ _ h. h) (λ _ h. h)
+  mark_listed times = by_test MtioListed (ltb (capacity l) (p + times)) _ _ (λ _ h. h) (λ _ h. h)
 
-  space-listed : (op times : ℕ) → MtioListed (keeping l (spacing l op p times))
+  space_listed : (op times : ℕ) → MtioListed (keeping l (spacing l op p times))
   unfolding MtioListed
-  space-listed op times h = absurd (spaced_error l op p times (refusal_facts _ h))
+  space_listed op times h = absurd (spaced_error l op p times (refusal_facts _ h))
 
-  mtio-listed : (op times : ℕ) → MtioListed (mtio_step l op p times)
+  mtio_listed : (op times : ℕ) → MtioListed (mtio_step l op p times)
   unfolding mtio_step MtioListed is_number is_one_of is_refusal choose
-  mtio-listed op times =
+  mtio_listed op times =
       by_test MtioListed (ltb 6 op) _ _ (λ _ h. h)
       (λ _. by_test MtioListed (faulty l p) _ _ (λ _ h. h)
-      (λ _. by_test MtioListed (eqb op 5) _ _ (λ _. mark-listed times)
-      (λ _. by_test MtioListed (rewinds op) _ _ (λ _ h. h) (λ _. space-listed op times))))
+      (λ _. by_test MtioListed (eqb op 5) _ _ (λ _. mark_listed times)
+      (λ _. by_test MtioListed (rewinds op) _ _ (λ _ h. h) (λ _. space_listed op times))))
 
   StateListed : Standing → Type 0
   StateListed s = Listed s.error
 
-  state-listed : StateListed (standing_at l p)
+  state_listed : StateListed (standing_at l p)
   unfolding standing_at StateListed is_number is_one_of is_refusal choose
-  state-listed = by_test StateListed (faulty l p) _ _ (λ _ h. h) (λ _ h. h)
+  state_listed = by_test StateListed (faulty l p) _ _ (λ _ h. h) (λ _ h. h)
 
 -- ---- MTIO 6: its number is 0 where it is no refusal, and the tape stood at its start when it was closed
 off_starts : (l : List ℕ) (p times : ℕ) → is_refusal (mtio_step l 6 p times).gives.error ≡ false → mtio_step l 6 p times ≡ keeping l (ended 0 0 0)
@@ -328,24 +328,24 @@ tape_refuses : (drive mover : ℕ) (t : Tape) (l : List ℕ) (q : TapeRequest) (
 unfolding device_step tape_open tape_close tape_state tape_mtio tape_write tape_read WriteListed ReadListed MtioListed StateListed
 tape_refuses drive mover t l (TapeRequest.Open name mode) body = accepts_all is_number _ _ _ (opened_right true true true true true)
 tape_refuses drive mover t l TapeRequest.Close body = accepts_all is_number _ _ _ (closed_right true true)
-tape_refuses drive mover t l TapeRequest.State body = state_refuses _ _ _ _ (state-listed l t.position)
-tape_refuses drive mover t l (TapeRequest.Mtio op times) body = own_refuses _ _ _ _ _ _ (mtio-listed l t.position op times)
-tape_refuses drive mover t l (TapeRequest.Write bytes) body = own_refuses _ _ _ _ _ _ (write-listed l t.position (bytes_at body bytes))
-tape_refuses drive mover t l (TapeRequest.Read times) body = own_refuses _ _ _ _ _ _ (read-listed l t.position times)
+tape_refuses drive mover t l TapeRequest.State body = state_refuses _ _ _ _ (state_listed l t.position)
+tape_refuses drive mover t l (TapeRequest.Mtio op times) body = own_refuses _ _ _ _ _ _ (mtio_listed l t.position op times)
+tape_refuses drive mover t l (TapeRequest.Write bytes) body = own_refuses _ _ _ _ _ _ (write_listed l t.position (bytes_at body bytes))
+tape_refuses drive mover t l (TapeRequest.Read times) body = own_refuses _ _ _ _ _ _ (read_listed l t.position times)
 
 module _ (k : Kept) (l : Lent) (r : List ℕ) where
-  outcome-refuses : (q : Request) → Refuses Refusal (outcome k l r q)
+  outcome_refuses : (q : Request) → Refuses Refusal (outcome k l r q)
   unfolding outcome tape_step mover_part_step is_number is_one_of is_refusal choose
-  outcome-refuses Request.Unknown = unread_right 1 refl
-  outcome-refuses Request.Bad = unread_right 18 refl
-  outcome-refuses (Request.Connect q) = refuses_onto Refusal (with_login k _) _ (connect_refuses _ _ _ q _)
-  outcome-refuses (Request.Config q) = refuses_onto Refusal (with_login k _) _ (config_refuses _ _ q)
-  outcome-refuses (Request.Scsi q) = refuses_onto Refusal (with_changer k _) _ (scsi_refuses _ _ q _)
-  outcome-refuses (Request.Tape q) = refuses_onto Refusal (with_tape k) _ (refuses_onto Refusal (with_loaded (tape_part k)) _ (tape_refuses _ _ _ _ q _))
-  outcome-refuses (Request.Data q) = refuses_onto Refusal (with_data k q _ _) _ (data_refuses _ q _ _ _)
-  outcome-refuses (Request.Mover q) = refuses_onto Refusal (with_part k _) _ (refuses_onto Refusal (with_mover (tape_part k)) _ (mover_refuses _ _ q _))
-  outcome-refuses (Request.Joint q) = refuses_onto Refusal (with_ends k) _ (joint_refuses _ _ _ q _)
+  outcome_refuses Request.Unknown = unread_right 1 refl
+  outcome_refuses Request.Bad = unread_right 18 refl
+  outcome_refuses (Request.Connect q) = refuses_onto Refusal (with_login k _) _ (connect_refuses _ _ _ q _)
+  outcome_refuses (Request.Config q) = refuses_onto Refusal (with_login k _) _ (config_refuses _ _ q)
+  outcome_refuses (Request.Scsi q) = refuses_onto Refusal (with_changer k _) _ (scsi_refuses _ _ q _)
+  outcome_refuses (Request.Tape q) = refuses_onto Refusal (with_tape k) _ (refuses_onto Refusal (with_loaded (tape_part k)) _ (tape_refuses _ _ _ _ q _))
+  outcome_refuses (Request.Data q) = refuses_onto Refusal (with_data k q _ _) _ (data_refuses _ q _ _ _)
+  outcome_refuses (Request.Mover q) = refuses_onto Refusal (with_part k _) _ (refuses_onto Refusal (with_mover (tape_part k)) _ (mover_refuses _ _ q _))
+  outcome_refuses (Request.Joint q) = refuses_onto Refusal (with_ends k) _ (joint_refuses _ _ _ q _)
 
-  pub refusal-right : (q : Request) → Refuses Refusal (verdict k l r q)
+  pub refusal_right : (q : Request) → Refuses Refusal (verdict k l r q)
   unfolding verdict is_number is_one_of is_refusal choose
-  refusal-right q = refuses_after is_number _ _ [] _ refl (refuses-behind is_number _ (outcome-refuses q) [] refl)
+  refusal_right q = refuses_after is_number _ _ [] _ refl (refuses_behind is_number _ (outcome_refuses q) [] refl)

@@ -44,20 +44,20 @@ use Rattle.rules.specs.Calls.{Unmoved, Heard, is_number}
 use Rattle.rules.specs.Leaving.{Touched, untouched, AtMark, AtEnd}
 use Rattle.rules.specs.Rmt.{rmt_request, in_record, bare, said, told, rmt_reply, counted_in, saying, replied, commanded}
 use Rattle.rules.specs.RmtHolds.{Spoken, CommandLeaves, TapeMoved, Tells, tells_read, tells_written, tells_opened, tells_closed, tells_moved, Replies, done, refusal, at_mark, at_end, SaysSame, opens, closes, reads, writes, operates, told_as, SaidAs, RmtHolds}
-use Rattle.rules.proofs.JudgeLaws.{carried, accepts, judged-by}
-use Rattle.rules.proofs.Guarding.{by_guard, goes_on, lent-well}
-use Rattle.rules.proofs.Numbers.{refusal-right}
-use Rattle.rules.proofs.Calls.{heard, command-judged, command_left, command_kept, command_sound}
-use Rattle.rules.proofs.Leaving.{Good, verdict-good, verdict-touches}
+use Rattle.rules.proofs.JudgeLaws.{carried, accepts, judged_by}
+use Rattle.rules.proofs.Guarding.{by_guard, goes_on, lent_well}
+use Rattle.rules.proofs.Numbers.{refusal_right}
+use Rattle.rules.proofs.Calls.{heard, command_judged, command_left, command_kept, command_sound}
+use Rattle.rules.proofs.Leaving.{Good, verdict_good, verdict_touches}
 
 -- ---- what a write and a read tell
 module _ (l : List ℕ) (p : ℕ) where
   Written : List ℕ → Step Wrote → Type 0
   Written b s = s.gives.error ≡ 0 → s.gives.count ≡ length b
 
-  all-written : (b : List ℕ) → Written b (write_step l p b)
+  all_written : (b : List ℕ) → Written b (write_step l p b)
   unfolding write_step Written
-  all-written b =
+  all_written b =
       by_test (Written b) (ltb longest_record (length b)) _ _ (λ _ h. absurd (omega arith))
       (λ _. by_test (Written b) (faulty l p) _ _ (λ _ h. absurd (omega arith))
       (λ _. by_test (Written b) (eqb (length b) 0) _ _ (λ e _. sym (eqb-true (length b) 0 e))
@@ -75,9 +75,9 @@ module _ (l : List ℕ) (p : ℕ) where
   first_read zero h = ap (λ (n : ℕ). take n (drop (read_part l p 0).start l)) (none_read h)
   first_read (suc n) h = (cartridge.promises).first l p (suc n) (omega arith) h
 
-  read-long : (times : ℕ) → length (span_of l p times) ≡ (read_part l p times).len
+  read_long : (times : ℕ) → length (span_of l p times) ≡ (read_part l p times).len
   unfolding Copied
-  read-long times =
+  read_long times =
       let w = (read_copies l p times).0 in
       length-take-le _ _ (let d = length-drop (read_part l p times).start l in omega arith)
 
@@ -89,24 +89,24 @@ module _ (k : Kept) (room : ℕ) (c : List ℕ) where
   Taken : Answered → Type 0
   Taken a = (a.code ≡ 0) × (a.notices ≡ [])
 
-  replied-taken : (o : Outcome Done) → Taken (replied k o)
+  replied_taken : (o : Outcome Done) → Taken (replied k o)
   unfolding replied Taken
-  replied-taken (refuse e) = (refl, refl)
-  replied-taken (accept reply d) = (refl, refl)
+  replied_taken (refuse e) = (refl, refl)
+  replied_taken (accept reply d) = (refl, refl)
 
   coded : (short good : Bool) → ltb room least_room ≡ short → keeps k.session ≡ good → (commanded k room c).code ≡ choose short 1001 (choose good 0 1002)
   unfolding commanded guarded Taken choose
   coded true good e g = rw (commanded, guarded, e)
   coded false false e g = rw (commanded, guarded, e, g)
   coded false true e g =
-      rw (commanded, guarded, e, g) (by_test (λ (x : Answered). x.code ≡ 0) k.session.closed _ _ (λ _. refl) (λ _. (replied-taken (said k c)).0))
+      rw (commanded, guarded, e, g) (by_test (λ (x : Answered). x.code ≡ 0) k.session.closed _ _ (λ _. refl) (λ _. (replied_taken (said k c)).0))
 
   Stopped : Answered → Type 0
   Stopped x = (x.code ≡ 0 → ⊥) → Unmoved k x
 
   stopped : Stopped (commanded k room c)
   unfolding commanded Stopped Taken
-  stopped = by_guard Stopped k.session room _ _ (λ code _. still code) (λ _ n. absurd (n (replied-taken (said k c)).0))
+  stopped = by_guard Stopped k.session room _ _ (λ code _. still code) (λ _ n. absurd (n (replied_taken (said k c)).0))
 
   over : k.session.closed ≡ true → Unmoved k (commanded k room c)
   unfolding commanded
@@ -114,7 +114,7 @@ module _ (k : Kept) (room : ℕ) (c : List ℕ) where
 
   quiet : (commanded k room c).notices ≡ []
   unfolding commanded Taken
-  quiet = by_guard (λ (x : Answered). x.notices ≡ []) k.session room _ _ (λ _. refl) (λ _. (replied-taken (said k c)).1)
+  quiet = by_guard (λ (x : Answered). x.notices ≡ []) k.session room _ _ (λ _. refl) (λ _. (replied_taken (said k c)).1)
 
   pub spoken : Spoken k room → commanded k room c ≡ replied k (said k c)
   unfolding commanded
@@ -126,25 +126,25 @@ module _ (k : Kept) (room : ℕ) (c : List ℕ) where
   free true = refl
   free false = refl
 
-  verdict-bad : verdict k bare (in_record c) Request.Bad ≡ refuse 18
+  verdict_bad : verdict k bare (in_record c) Request.Bad ≡ refuse 18
   unfolding verdict judge is_locked needs_login outcome choose
-  verdict-bad = rw (verdict, is_locked, free k.session.login.authorized)
+  verdict_bad = rw (verdict, is_locked, free k.session.login.authorized)
 
   unread : Spoken k room → rmt_command c ≡ Command.Bad → commanded k room c ≡ saying (refused 22) k
   unfolding rmt_request replied error_of choose
-  unread s b = spoken s ∙ rw (b, verdict-bad)
+  unread s b = spoken s ∙ rw (b, verdict_bad)
 
-  tape-locked : (q : TapeRequest) → k.session.login.authorized ≡ false → verdict k bare (in_record c) (Request.Tape q) ≡ refuse 4
+  tape_locked : (q : TapeRequest) → k.session.login.authorized ≡ false → verdict k bare (in_record c) (Request.Tape q) ≡ refuse 4
   unfolding verdict judge is_locked needs_login choose
-  tape-locked q a = rw (verdict, is_locked, a)
+  tape_locked q a = rw (verdict, is_locked, a)
 
   locked : (q : Command) → (q ≡ Command.Bad → ⊥) → k.session.login.authorized ≡ false → verdict k bare (in_record c) (rmt_request q) ≡ refuse 4
   unfolding rmt_request
-  locked (Command.Open name mode) n a = tape-locked _ a
-  locked Command.Close n a = tape-locked _ a
-  locked (Command.Read count) n a = tape-locked _ a
-  locked (Command.Write bytes) n a = tape-locked _ a
-  locked (Command.Operate op count) n a = tape-locked _ a
+  locked (Command.Open name mode) n a = tape_locked _ a
+  locked Command.Close n a = tape_locked _ a
+  locked (Command.Read count) n a = tape_locked _ a
+  locked (Command.Write bytes) n a = tape_locked _ a
+  locked (Command.Operate op count) n a = tape_locked _ a
   locked Command.Bad n a = absurd (n refl)
 
   stranger : Spoken k room → (rmt_command c ≡ Command.Bad → ⊥) → k.session.login.authorized ≡ false → commanded k room c ≡ saying (refused 5) k
@@ -156,39 +156,39 @@ module _ (k : Kept) (room : ℕ) (c : List ℕ) where
   Right : Request → Reply → Done → Type 0
   Right q reply d = number_of reply ≡ 0 → Tells k c q (counted_in reply).count (take (counted_in reply).len (drop (counted_in reply).start d.shown))
 
-  device-right : (q : TapeRequest) → (q ≡ TapeRequest.State → ⊥)
+  device_right : (q : TapeRequest) → (q ≡ TapeRequest.State → ⊥)
       → Accepts (λ reply p. Right (Request.Tape q) reply (with_tape k (with_loaded (tape_part k) p)))
       (device_step (in_drive k.session.changer.slots) k.session.mover.state k.session.tape k.image q c)
   unfolding device_step tape_open tape_close tape_mtio tape_write tape_read Right counted_in number_of Written
-  device-right (TapeRequest.Open name mode) n = accepts _ _ _ _ (λ _ _. tells_opened name mode)
-  device-right TapeRequest.Close n = accepts _ _ _ _ (λ _ _. tells_closed)
-  device-right TapeRequest.State n = absurd (n refl)
-  device-right (TapeRequest.Mtio op times) n = accepts _ _ _ _ (λ _ _. tells_moved op times)
-  device-right (TapeRequest.Write bytes) n = accepts _ _ _ _ (λ _ z. tells_written bytes _ (all-written k.image k.session.tape.position (bytes_at c bytes) z))
-  device-right (TapeRequest.Read times) n =
+  device_right (TapeRequest.Open name mode) n = accepts _ _ _ _ (λ _ _. tells_opened name mode)
+  device_right TapeRequest.Close n = accepts _ _ _ _ (λ _ _. tells_closed)
+  device_right TapeRequest.State n = absurd (n refl)
+  device_right (TapeRequest.Mtio op times) n = accepts _ _ _ _ (λ _ _. tells_moved op times)
+  device_right (TapeRequest.Write bytes) n = accepts _ _ _ _ (λ _ z. tells_written bytes _ (all_written k.image k.session.tape.position (bytes_at c bytes) z))
+  device_right (TapeRequest.Read times) n =
       accepts _ _ _ _
-      (λ _ z. tells_read times _ _ (first_read k.image k.session.tape.position times z) (sym (read-long k.image k.session.tape.position times)))
+      (λ _ z. tells_read times _ _ (first_read k.image k.session.tape.position times z) (sym (read_long k.image k.session.tape.position times)))
 
-  tape-right : (q : TapeRequest) → (q ≡ TapeRequest.State → ⊥) → Accepts (Right (Request.Tape q)) (outcome k bare (in_record c) (Request.Tape q))
+  tape_right : (q : TapeRequest) → (q ≡ TapeRequest.State → ⊥) → Accepts (Right (Request.Tape q)) (outcome k bare (in_record c) (Request.Tape q))
   unfolding outcome tape_step
-  tape-right q n =
+  tape_right q n =
       carried (Right (Request.Tape q)) (with_tape k) _
-      (carried (λ reply p. Right (Request.Tape q) reply (with_tape k p)) (with_loaded (tape_part k)) _ (device-right q n))
+      (carried (λ reply p. Right (Request.Tape q) reply (with_tape k p)) (with_loaded (tape_part k)) _ (device_right q n))
 
   -- no command is a get state
-  said-right : (q : Command) → Accepts (Right (rmt_request q)) (outcome k bare (in_record c) (rmt_request q))
+  said_right : (q : Command) → Accepts (Right (rmt_request q)) (outcome k bare (in_record c) (rmt_request q))
   unfolding rmt_request outcome Accepts
-  said-right (Command.Open name mode) = tape-right _ (λ e. let z : ◌≡◌ {A = ℕ} 0 1 = cc in omega arith)
-  said-right Command.Close = tape-right _ (λ e. let z : ◌≡◌ {A = ℕ} 0 1 = cc in omega arith)
-  said-right (Command.Read count) = tape-right _ (λ e. let z : ◌≡◌ {A = ℕ} 0 1 = cc in omega arith)
-  said-right (Command.Write bytes) = tape-right _ (λ e. let z : ◌≡◌ {A = ℕ} 0 1 = cc in omega arith)
-  said-right (Command.Operate op count) = tape-right _ (λ e. let z : ◌≡◌ {A = ℕ} 0 1 = cc in omega arith)
-  said-right Command.Bad = tt
+  said_right (Command.Open name mode) = tape_right _ (λ e. let z : ◌≡◌ {A = ℕ} 0 1 = cc in omega arith)
+  said_right Command.Close = tape_right _ (λ e. let z : ◌≡◌ {A = ℕ} 0 1 = cc in omega arith)
+  said_right (Command.Read count) = tape_right _ (λ e. let z : ◌≡◌ {A = ℕ} 0 1 = cc in omega arith)
+  said_right (Command.Write bytes) = tape_right _ (λ e. let z : ◌≡◌ {A = ℕ} 0 1 = cc in omega arith)
+  said_right (Command.Operate op count) = tape_right _ (λ e. let z : ◌≡◌ {A = ℕ} 0 1 = cc in omega arith)
+  said_right Command.Bad = tt
 
   module _ (q : Request) where
-    accepted-replies : (reply : Reply) (d : Done) → Good k q reply d → Right q reply d → Replies k c q (replied k (accept reply d))
+    accepted_replies : (reply : Reply) (d : Done) → Good k q reply d → Right q reply d → Replies k c q (replied k (accept reply d))
     unfolding replied rmt_reply told error_of choose Right
-    accepted-replies reply d g f = by_number (eqb (number_of reply) 0) (eqb (number_of reply) 12) (eqb (number_of reply) 13) refl refl refl
+    accepted_replies reply d g f = by_number (eqb (number_of reply) 0) (eqb (number_of reply) 12) (eqb (number_of reply) 13) refl refl refl
       where
         by_number : (a b e : Bool) → eqb (number_of reply) 0 ≡ a → eqb (number_of reply) 12 ≡ b → eqb (number_of reply) 13 ≡ e → Replies k c q (replied k (accept reply d))
         by_number true b e x y z = done _ _ (f (eqb-true (number_of reply) 0 x)) (rw x)
@@ -203,32 +203,32 @@ module _ (k : Kept) (room : ℕ) (c : List ℕ) where
         by_number false false false x y z =
             absurd (g.fair (eqb-false (number_of reply) 0 x, eqb-false (number_of reply) 12 y, eqb-false (number_of reply) 13 z))
 
-    replies-by : (o : Outcome Done) → Accepts (Good k q) o → Accepts (Right q) o → Refuses (λ e. is_number e ≡ true) o → Replies k c q (replied k o)
+    replies_by : (o : Outcome Done) → Accepts (Good k q) o → Accepts (Right q) o → Refuses (λ e. is_number e ≡ true) o → Replies k c q (replied k o)
     unfolding Accepts Refuses replied
-    replies-by (refuse e) g r f = refusal e f refl refl
-    replies-by (accept reply d) g r f = accepted-replies reply d g r
+    replies_by (refuse e) g r f = refusal e f refl refl
+    replies_by (accept reply d) g r f = accepted_replies reply d g r
 
   replies : Spoken k room → Replies k c (rmt_request (rmt_command c)) (commanded k room c)
   unfolding verdict
   replies s =
       let q = rmt_request (rmt_command c) in
       rw (spoken s)
-      (replies-by q (said k c) (verdict-good k bare (in_record c) q) (judged-by (Right q) _ _ (λ _. said-right (rmt_command c))) (refusal-right k bare (in_record c) q))
+      (replies_by q (said k c) (verdict_good k bare (in_record c) q) (judged_by (Right q) _ _ (λ _. said_right (rmt_command c))) (refusal_right k bare (in_record c) q))
 
   touched : Touched k (rmt_request (rmt_command c)) c (commanded k room c).next.image
   touched =
       let q = rmt_request (rmt_command c) in
-      command-judged (λ (x : Kept). Touched k q c x.image) k room c (untouched refl) (verdict-touches k bare (in_record c) q)
+      command_judged (λ (x : Kept). Touched k q c x.image) k room c (untouched refl) (verdict_touches k bare (in_record c) q)
 
 -- ---- as a record that says the same
 module _ (k : Kept) (l : Lent) (r c : List ℕ) where
-  same-verdict : (q : TapeRequest) (p : Command) → SaysSame (body_of r) c q p → verdict k l r (Request.Tape q) ≡ verdict k bare (in_record c) (rmt_request p)
+  same_verdict : (q : TapeRequest) (p : Command) → SaysSame (body_of r) c q p → verdict k l r (Request.Tape q) ≡ verdict k bare (in_record c) (rmt_request p)
   unfolding verdict is_locked needs_login outcome tape_step device_step rmt_request
-  same-verdict _ _ (opens name path mode e) = rw e
-  same-verdict _ _ closes = refl
-  same-verdict _ _ (reads count) = refl
-  same-verdict _ _ (writes bytes sent e) = rw e
-  same-verdict _ _ (operates op count) = refl
+  same_verdict _ _ (opens name path mode e) = rw e
+  same_verdict _ _ closes = refl
+  same_verdict _ _ (reads count) = refl
+  same_verdict _ _ (writes bytes sent e) = rw e
+  same_verdict _ _ (operates op count) = refl
 
   -- notices change neither tape nor image
   Same : Kept → Answered → Type 0
@@ -243,15 +243,15 @@ module _ (k : Kept) (l : Lent) (r c : List ℕ) where
   settled_same q (refuse e) = (refl, refl)
   settled_same q (accept reply d) = noticed_same d.kept l.time d.mwhy _ _ (noticed_same d.kept l.time d.dwhy _ _ (refl, refl))
 
-  replied-told : (o : Outcome Done) → (replied k o).reply ≡ told_as o
+  replied_told : (o : Outcome Done) → (replied k o).reply ≡ told_as o
   unfolding replied told_as
-  replied-told (refuse e) = refl
-  replied-told (accept reply d) = refl
+  replied_told (refuse e) = refl
+  replied_told (accept reply d) = refl
 
   as_tape : (q : TapeRequest) → Heard k l r → request_in r ≡ Request.Tape q → SaysSame (body_of r) c q (rmt_command c) → SaidAs k l r c
   unfolding judged is_close choose Same
   as_tape q h e s =
-      let o : said k c ≡ verdict k l r (Request.Tape q) = sym (same-verdict q (rmt_command c) s) in
+      let o : said k c ≡ verdict k l r (Request.Tape q) = sym (same_verdict q (rmt_command c) s) in
       let b : commanded k l.room c ≡ replied k (verdict k l r (Request.Tape q)) =
       spoken k l.room c (record { roomy = h.roomy; valid = h.valid; opened = h.opened }) ∙ ap (replied k) o in
       let a : answered k l r ≡ settled k l.time r (Request.Tape q) (verdict k l r (Request.Tape q)) = heard k l r h ∙ rw e refl in
@@ -259,7 +259,7 @@ module _ (k : Kept) (l : Lent) (r c : List ℕ) where
       record {
         tape = ap (λ (x : Answered). x.next.session.tape) b ∙ m.0 ∙ sym (ap (λ (x : Answered). x.next.session.tape) a);
         image = ap (λ (x : Answered). x.next.image) b ∙ m.1 ∙ sym (ap (λ (x : Answered). x.next.image) a);
-        reply = ap (λ (x : Answered). x.reply) b ∙ replied-told _ ∙ rw e refl;
+        reply = ap (λ (x : Answered). x.reply) b ∙ replied_told _ ∙ rw e refl;
       }
 
 pub rmt_holds : RmtHolds

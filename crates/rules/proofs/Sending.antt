@@ -9,7 +9,7 @@ use lib.Dec.{eqb}
 use borrow.Author.Tests.{eqb-true, ltb-false}
 use Rattle.codes.specs.Codes.{sense_bytes, tcp_address, md5_auth, most_lent, store_length, challenge_length, most_status}
 use Rattle.xdr.specs.Choose.{choose, least}
-use Rattle.xdr.proofs.Tests.{by_test, least-right, yes}
+use Rattle.xdr.proofs.Tests.{by_test, least_right, yes}
 use Rattle.changer_elements.specs.declared.Asked.{Asked}
 use Rattle.changer_elements.specs.declared.StatusDone.TheVariants as StatusDone
 use Rattle.changer_elements.specs.Status.{read_status, reported, status_of, status_data}
@@ -47,12 +47,12 @@ use Rattle.rules.specs.ScsiService.{scsi_open, scsi_clear, scsi_state, sense_len
 use Rattle.rules.specs.Addresses.{listen_wrong, listening}
 use Rattle.rules.specs.Joint.{data_connect, mover_connect, data_abort, mover_abort, mover_close, joint_step}
 use Rattle.rules.specs.Connection.{connect_open, client_auth, connect_step, auth_attributes, config_step}
-use Rattle.rules.proofs.JudgeLaws.{judged-by, accepts}
+use Rattle.rules.proofs.JudgeLaws.{judged_by, accepts}
 use Rattle.rules.proofs.Changer.{by_run}
 
 sense_length_lem : (cdb : List ℕ) (room : ℕ) → sense_length cdb room ≤ sense_bytes
 unfolding sense_length
-sense_length_lem cdb room = least-right (least (get_or cdb 4 0) room) sense_bytes
+sense_length_lem cdb room = least_right (least (get_or cdb 4 0) room) sense_bytes
 
 -- of the services that show nothing of an image
 abbrev Sends : {A : Type 0} → Reply → A → Type 0
@@ -97,7 +97,7 @@ joint_sends d m t (JointRequest.MoverConnect mode address count) made = accepts 
 status_sends : (a : Asked) (slots : List ℕ) → length (status_data a slots) ≤ most_status
 status_sends a slots =
     let m = status_most a slots in
-    let n = least-right a.cut (length (status_of slots (reported a))) in
+    let n = least_right a.cut (length (status_of slots (reported a))) in
     rw (cut_length a slots) (omega arith)
 
 shown_sends : (cdb : List ℕ) (room : ℕ) (slots : List ℕ) (a : Asked) → eqb (get_or cdb 0 0) 0xB8 ≡ true → read_status cdb room ≡ StatusDone.Reports a
@@ -119,7 +119,7 @@ scsi_sends tape c ScsiRequest.Close body = accepts Sends _ _ _ (λ _. tt)
 scsi_sends tape c ScsiRequest.State body = accepts Sends _ _ _ (λ _. tt)
 scsi_sends tape c ScsiRequest.Reset body = accepts Sends _ _ _ (λ _. tt)
 scsi_sends tape c (ScsiRequest.Cdb cdb room) body =
-    judged-by (λ r _. Sendable r (cdb_shown (bytes_at body cdb) room c.slots)) _ _ (λ _. run_sends tape c (bytes_at body cdb) room)
+    judged_by (λ r _. Sendable r (cdb_shown (bytes_at body cdb) room c.slots)) _ _ (λ _. run_sends tape c (bytes_at body cdb) room)
 
 pub connect_sends : (fresh : Bool) (g : Login) (a : List ℕ) (q : ConnectRequest) (body : List ℕ) → Accepts Sends (connect_step fresh g a q body)
 unfolding connect_step connect_open client_auth Sendable Accepts

@@ -22,22 +22,22 @@ use Rattle.rules.specs.Order.{service_number, same_service, joint_numbers, is_on
 
 -- ---- a range by its bounds is a range by its high byte
 module _ (n k : ℕ) where
-  in-range : (b : Bool) → eqb (n / 256) k ≡ b → within (k * 256) (k * 256 + 255) n ≡ b
+  in_range : (b : Bool) → eqb (n / 256) k ≡ b → within (k * 256) (k * 256 + 255) n ≡ b
   unfolding within choose
-  in-range true h =
+  in_range true h =
       let z : n / 256 ≡ k = eqb-true (n / 256) k h in
       let low : k * 256 ≤ n = omega arith in
       let high : n ≤ k * 256 + 255 = omega arith in
       rw (le-leb (k * 256) n low, le-leb n (k * 256 + 255) high)
-  in-range false h =
+  in_range false h =
       let z : n / 256 ≡ k → ⊥ = eqb-false (n / 256) k h in
       by_test (λ (b : Bool). b ≡ false) (leb (k * 256) n) _ _ (λ e. beyond z (leb-true (k * 256) n e)) (λ _. refl)
     where
       beyond : (n / 256 ≡ k → ⊥) → k * 256 ≤ n → leb n (k * 256 + 255) ≡ false
       beyond z low = lt-leb n (k * 256 + 255) (omega arith)
 
-  range-is : within (k * 256) (k * 256 + 255) n ≡ eqb (n / 256) k
-  range-is = in-range (eqb (n / 256) k) refl
+  range_is : within (k * 256) (k * 256 + 255) n ≡ eqb (n / 256) k
+  range_is = in_range (eqb (n / 256) k) refl
 
 -- ---- a service by its number
 service_at : ℕ → Service
@@ -105,7 +105,7 @@ ranged : (n : ℕ)
     ≡ choose (within 0x400 0x4FF n) DataService
     (choose (within 0x300 0x3FF n) TapeService (choose (within 0xA00 0xAFF n) TapeService (choose (within 0x200 0x2FF n) ScsiService ControlService)))
 unfolding range_of
-ranged n = rw (range-is n 4, range-is n 3, range-is n 10, range-is n 2)
+ranged n = rw (range_is n 4, range_is n 3, range_is n 10, range_is n 2)
 
 numbers : (n : ℕ) → service_of (message_of n) n ≡ service_by n
 unfolding service_by row_of

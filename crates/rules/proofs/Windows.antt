@@ -19,8 +19,8 @@ use Rattle.rules.proofs.Endless.{endless_rules}
 use Rattle.rules.proofs.Tcp.{tcp_rules}
 use Rattle.rules.proofs.Environment.{environment_rules}
 use Rattle.rules.proofs.ChangerRules.{changer_rules}
-use Rattle.rules.proofs.Kept.{mover-kept}
-use Rattle.rules.proofs.Keeping.{data_keeps, tape_keeps, mover_part_keeps, joint-keeps}
+use Rattle.rules.proofs.Kept.{mover_kept}
+use Rattle.rules.proofs.Keeping.{data_keeps, tape_keeps, mover_part_keeps, joint_keeps}
 
 resized : (m : Mover) (size : ℕ) → Accepts (λ _ next. (next.length ≡ 0) × (next.offset ≡ 0) × (next.size ≡ size)) (set_size m size)
 unfolding set_size
@@ -66,8 +66,8 @@ module _ (d : Data) (m : Mover) (t : Tape) where
 pub promises : Promises
 promises =
     record {
-      relation = record { source = data_keeps; tape = tape_keeps; mover = mover_part_keeps; joint = joint-keeps };
-      windows = record { resized = resized; paused = λ why m. (refl, refl); stopped = stopped; legal = λ m t h. (mover-kept m t h).window };
+      relation = record { source = data_keeps; tape = tape_keeps; mover = mover_part_keeps; joint = joint_keeps };
+      windows = record { resized = resized; paused = λ why m. (refl, refl); stopped = stopped; legal = λ m t h. (mover_kept m t h).window };
       reads = record {
         sought = sought;
         handed = λ n m. (refl, refl);

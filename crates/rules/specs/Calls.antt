@@ -26,7 +26,7 @@ use Rattle.rules.specs.TapeService.{is_refusal}
 use Rattle.rules.specs.Connection.{right_digest}
 use Rattle.rules.specs.Relation.{keeps}
 use Rattle.rules.specs.Answer.{Kept, Lent, held, Answered, answered, silent, closing, replying, message_in, request_in, verdict, refusing, refused_in}
-use Rattle.rules.specs.Order.{is_one_of, Turn, run}
+use Rattle.rules.specs.Order.{is_one_of, Call, run}
 
 -- the session after `open`, whose notice of the connection status was message number 1, with the slot list that it was given
 abbrev pub opened_session : List ℕ → Session
@@ -157,9 +157,9 @@ pub record CallsKeep : Type 0 where
   -- a store keeps its length, and one that is laid out so stays laid out so
   pub lengths : (k : Kept) (l : Lent) (r : List ℕ) → length (answered k l r).next.variables ≡ length k.variables
   pub laid : (k : Kept) (l : Lent) (r : List ℕ) → is_laid k.variables ≡ true → is_laid (answered k l r).next.variables ≡ true
-  -- the same of calls one after the other, requests and commands
-  pub runs : (k : Kept) (ts : List Turn) → keeps k.session ≡ true → keeps (run k ts).last.session ≡ true
-  pub runs_sound : (k : Kept) (ts : List Turn) → is_sound k.image ≡ true → is_sound (run k ts).last.image ≡ true
-  pub runs_lengths : (k : Kept) (ts : List Turn) → length (run k ts).last.variables ≡ length k.variables
-  pub runs_laid : (k : Kept) (ts : List Turn) → is_laid k.variables ≡ true → is_laid (run k ts).last.variables ≡ true
+  -- the same of calls one after the other
+  pub runs : (k : Kept) (cs : List Call) → keeps k.session ≡ true → keeps (run k cs).last.session ≡ true
+  pub runs_sound : (k : Kept) (cs : List Call) → is_sound k.image ≡ true → is_sound (run k cs).last.image ≡ true
+  pub runs_lengths : (k : Kept) (cs : List Call) → length (run k cs).last.variables ≡ length k.variables
+  pub runs_laid : (k : Kept) (cs : List Call) → is_laid k.variables ≡ true → is_laid (run k cs).last.variables ≡ true
   pub refusals : RefusalsOfCalls

@@ -19,7 +19,7 @@ use Rattle.rules_parts.specs.declared.types.Login.{Login}
 use Rattle.rules_parts.specs.Names.{least_room}
 use Rattle.rules.specs.Relation.{keeps}
 use Rattle.rules.specs.Answer.{Kept, Lent, Answered, answered, request_in}
-use Rattle.rules.specs.Order.{Call, run_calls}
+use Rattle.rules.specs.Order.{Call, run}
 use Rattle.rules.specs.Calls.{Heard, opening}
 
 -- ---- the newest challenge
@@ -87,8 +87,8 @@ abbrev pub authorized : Kept → Bool
 authorized k = k.session.login.authorized
 
 pub record LoginHolds : Type 0 where
-  pub only : (k : Kept) (cs : List Call) → authorized k ≡ false → authorized (run_calls k cs) ≡ true → Entered (newest_of k.session.login) k cs
-  pub stays : (k : Kept) (cs : List Call) → authorized k ≡ true → authorized (run_calls k cs) ≡ true
+  pub only : (k : Kept) (cs : List Call) → authorized k ≡ false → authorized (run k cs).last ≡ true → Entered (newest_of k.session.login) k cs
+  pub stays : (k : Kept) (cs : List Call) → authorized k ≡ true → authorized (run k cs).last ≡ true
   pub enters : (k : Kept) (c : Call) → Heard k c.lent c.ask.request → LogsIn (newest_of k.session.login) c
       → authorized (answered k c.lent c.ask.request).next ≡ true
   -- the replies to a login, whether the client is logged in already or not
@@ -101,7 +101,7 @@ pub record LoginHolds : Type 0 where
   pub stranger : (slots : List ℕ) (time room : ℕ) → authorized (opening slots time room).next ≡ false
   pub fresh : (slots : List ℕ) (time room : ℕ) → newest_of (opening slots time room).next.session.login ≡ none
   -- what a session holds is the newest challenge: no other request, no login, right or wrong, and nothing that is not heard changes it
-  pub newest_held : (k : Kept) (cs : List Call) → newest_of (run_calls k cs).session.login ≡ newest (newest_of k.session.login) k cs
+  pub newest_held : (k : Kept) (cs : List Call) → newest_of (run k cs).last.session.login ≡ newest (newest_of k.session.login) k cs
 
 -- ---- what CONNECT and CONFIG leave
 -- n is k after one message more, with the "first request" mark gone, and with nothing else changed but the login

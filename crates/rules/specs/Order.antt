@@ -1,4 +1,4 @@
--- The three services commute (demand 3): lists of data, tape-with-mover and SCSI requests, with rmt's commands and the joint ones set aside, give the same answers and the
+-- The three services commute (demand 3): lists of data, tape-with-mover and SCSI requests, the joint ones set aside, give the same answers and the
 -- same closing state, the store of the environment with it, in whatever order they are merged. One statement; its proof is proofs/Order.antt.
 use Rattle.std.specs.Prelude.{ℕ, ◌/◌, ◌≤◌, ◌≡◌, Bool, true, false, List, [], ◌∷◌, ◌++◌, length, take, drop, get_or, eqb, leb}
 use Rattle.codes.specs.Codes.{short_output, broken_session, store_length}
@@ -17,7 +17,6 @@ use Rattle.rules_parts.specs.Names.{least_room}
 use Rattle.rules.specs.Relation.{keeps}
 use Rattle.rules.specs.ScsiService.{moves_medium}
 use Rattle.rules.specs.Answer.{Kept, Lent, Answered, answered, request_in}
-use Rattle.rules.specs.Rmt.{commanded}
 
 -- ---- the services ("Desks go by message number: DATA; TAPE and MOVER; SCSI")
 pub data Service : Type 0 where
@@ -106,52 +105,26 @@ service_number ControlService = 4
 unfoldable pub same_service : Service → Service → Bool
 same_service d e = eqb (service_number d) (service_number e)
 
--- a request call: the request's record and the list of addresses that it is lent, which belongs to it as its record does; and what is lent with it
+-- what is fixed of a call before the first one: the request's record, and the list of addresses that it is lent, which belongs to it as its record does
 pub record Ask : Type 0 where
   pub request : List ℕ
   pub addresses : List ℕ
 
+-- one call: what is asked, and what is lent with it
 pub record Call : Type 0 where
   pub ask : Ask
   pub lent : Lent
-
--- request calls one after the other, each on what the one before passed on
-unfoldable pub run_calls : Kept → List Call → Kept
-run_calls k [] = k
-run_calls k (c ∷ cs) = run_calls (answered k c.lent c.ask.request).next cs
-
--- ---- what is fixed of a call before the first one: a request, or a command of the remote tape protocol (02 No. 5)
-pub data Item : Type 0 where
-  Requested : Ask → Item
-  Commanded : List ℕ → Item
-
--- "These commands belong to the tape desk", those that do not read too
-unfoldable pub service_for : Item → Service
-service_for (Requested a) = route_of a.request
-service_for (Commanded c) = TapeService
 
 -- "In demand 3 each listen is lent the same list in every order": what is lent with a call, and the list that its request has
 abbrev pub with_list : Ask → Lent → Lent
 with_list a l = record { accounts = l.accounts; challenge = l.challenge; time = l.time; room = l.room; addresses = a.addresses; made = l.made }
 
--- one call; a command is lent the output alone
-pub record Turn : Type 0 where
-  pub item : Item
-  pub lent : Lent
-
-abbrev pub turn : Item → Lent → Turn
-turn i l = record { item = i; lent = l }
-
-unfoldable pub taken : Kept → Lent → Item → Answered
-taken k l (Requested a) = answered k (with_list a l) a.request
-taken k l (Commanded c) = commanded k l.room c
-
--- ws is made of xs, ys and zs, each list in its own order; each call is lent something of its own, but for the list of addresses
-pub data Merge : List Item → List Item → List Item → List Turn → Type 0 where
+-- ws is made of the requests of xs, ys and zs, each list in its own order; each call is lent something of its own, but for the list of addresses
+pub data Merge : List Ask → List Ask → List Ask → List Call → Type 0 where
   done : Merge [] [] [] []
-  left : {i : Item} (l : Lent) {xs ys zs : List Item} {ws : List Turn} → Merge xs ys zs ws → Merge (i ∷ xs) ys zs (turn i l ∷ ws)
-  middle : {i : Item} (l : Lent) {xs ys zs : List Item} {ws : List Turn} → Merge xs ys zs ws → Merge xs (i ∷ ys) zs (turn i l ∷ ws)
-  right : {i : Item} (l : Lent) {xs ys zs : List Item} {ws : List Turn} → Merge xs ys zs ws → Merge xs ys (i ∷ zs) (turn i l ∷ ws)
+  left : {a : Ask} (l : Lent) {xs ys zs : List Ask} {ws : List Call} → Merge xs ys zs ws → Merge (a ∷ xs) ys zs (record { ask = a; lent = with_list a l } ∷ ws)
+  middle : {a : Ask} (l : Lent) {xs ys zs : List Ask} {ws : List Call} → Merge xs ys zs ws → Merge xs (a ∷ ys) zs (record { ask = a; lent = with_list a l } ∷ ws)
+  right : {a : Ask} (l : Lent) {xs ys zs : List Ask} {ws : List Call} → Merge xs ys zs ws → Merge xs ys (a ∷ zs) (record { ask = a; lent = with_list a l } ∷ ws)
 
 -- a well-framed request of a service, and no joint one: those have a service of their own. Its message may be unknown in the service's
 -- range, its body may not decode, and the session need not be authorized.
@@ -160,31 +133,21 @@ pub record Asks (d : Service) (a : Ask) : Type 0 where
   pub request : kind_of a.request ≡ 0
   pub service : route_of a.request ≡ d
 
--- of commands "in demand 3 they count as well-framed requests"
-unfoldable pub Belongs : Service → Item → Type 0
-Belongs d (Requested a) = Asks d a
-Belongs d (Commanded c) = d ≡ TapeService
-
-abbrev pub Roomy : Turn → Type 0
-Roomy t = least_room ≤ t.lent.room
+abbrev pub Roomy : Call → Type 0
+Roomy c = least_room ≤ c.lent.room
 
 -- a message's bytes without its sequence and time stamp
 unfoldable pub unstamped : List ℕ → List ℕ
 unstamped m = take 4 m ++ drop 12 m
 
--- what is compared of a reply: of a record's all but these; commands are "compared by their whole reply"
-unfoldable pub compared : Item → List ℕ → List ℕ
-compared (Requested a) m = unstamped m
-compared (Commanded c) m = m
-
--- what a call gave: what it was, the code, and what is compared of the reply
+-- what a call gave: what was asked, the code, and the reply but for its sequence and time stamp
 pub record Given : Type 0 where
-  pub item : Item
+  pub ask : Ask
   pub code : ℕ
   pub reply : List ℕ
 
-abbrev pub given : Item → Answered → Given
-given i a = record { item = i; code = a.code; reply = compared i a.reply }
+abbrev pub given : Ask → Answered → Given
+given q a = record { ask = q; code = a.code; reply = unstamped a.reply }
 
 pub record Run : Type 0 where
   pub replies : List Given
@@ -192,34 +155,33 @@ pub record Run : Type 0 where
   pub last : Kept
 
 -- calls one after the other, each on what the one before passed on
-unfoldable pub run : Kept → List Turn → Run
+unfoldable pub run : Kept → List Call → Run
 run k [] = record { replies = []; notices = []; last = k }
-run k (t ∷ ts) =
-    let a = taken k t.lent t.item in
-    let rest = run a.next ts in
-    record { replies = given t.item a ∷ rest.replies; notices = a.notices ++ rest.notices; last = rest.last }
+run k (c ∷ cs) =
+    let a = answered k c.lent c.ask.request in
+    let rest = run a.next cs in
+    record { replies = given c.ask a ∷ rest.replies; notices = a.notices ++ rest.notices; last = rest.last }
 
--- those of a service's calls, in order
+-- those of a service's requests, in order
 unfoldable pub replies_to : Service → List Given → List Given
 replies_to d [] = []
-replies_to d (g ∷ gs) = choose (same_service d (service_for g.item)) (g ∷ replies_to d gs) (replies_to d gs)
+replies_to d (g ∷ gs) = choose (same_service d (route_of g.ask.request)) (g ∷ replies_to d gs) (replies_to d gs)
 
--- every request was refused with 1001, as the store is of another length; or every call was, with 1002; or every call was answered
-unfoldable pub refusal : Kept → Item → ℕ
-refusal k (Requested a) = choose (eqb (length k.variables) store_length) (choose (keeps k.session) 0 broken_session) short_output
-refusal k (Commanded c) = choose (keeps k.session) 0 broken_session
+-- every call was refused with 1001, as the store is of another length, or with 1002, or every call was answered
+unfoldable pub refusal : Kept → ℕ
+refusal k = choose (eqb (length k.variables) store_length) (choose (keeps k.session) 0 broken_session) short_output
 
-pub record SameEnd (k : Kept) (v w : Run) : Type 0 where
+pub record SameEnd (code : ℕ) (v w : Run) : Type 0 where
   pub data_replies : replies_to DataService v.replies ≡ replies_to DataService w.replies
   pub tape_replies : replies_to TapeService v.replies ≡ replies_to TapeService w.replies
   pub scsi_replies : replies_to ScsiService v.replies ≡ replies_to ScsiService w.replies
-  pub codes : Each (λ g. g.code ≡ refusal k g.item) v.replies × Each (λ g. g.code ≡ refusal k g.item) w.replies
+  pub codes : Each (λ g. g.code ≡ code) v.replies × Each (λ g. g.code ≡ code) w.replies
   pub quiet : (v.notices ≡ []) × (w.notices ≡ [])
   pub last : v.last ≡ w.last
 
 abbrev pub AnyOrder : Type 0
 AnyOrder =
     (k : Kept) → k.session.closed ≡ false
-    → (xs ys zs : List Item) → Each (Belongs DataService) xs → Each (Belongs TapeService) ys → Each (Belongs ScsiService) zs
-    → (v w : List Turn) → Merge xs ys zs v → Merge xs ys zs w → Each Roomy v → Each Roomy w
-    → SameEnd k (run k v) (run k w)
+    → (xs ys zs : List Ask) → Each (Asks DataService) xs → Each (Asks TapeService) ys → Each (Asks ScsiService) zs
+    → (v w : List Call) → Merge xs ys zs v → Merge xs ys zs w → Each Roomy v → Each Roomy w
+    → SameEnd (refusal k) (run k v) (run k w)

@@ -27,7 +27,7 @@ use Rattle.rules_parts.specs.declared.types.Session.{Session}
 use Rattle.rules_parts.specs.Names.{longest_cdb, read_write, mover_listening, mover_active}
 use Rattle.rules.specs.Changer.{changer_of, tape_name}
 use Rattle.rules.specs.Answer.{Kept, Lent, Answered, answered, request_in}
-use Rattle.rules.specs.Order.{Call, run_calls}
+use Rattle.rules.specs.Order.{Call, run}
 use Rattle.rules.specs.Calls.{Heard}
 
 -- a client that is logged in, with the changer open
@@ -102,10 +102,10 @@ open_body mode = be32 5 ++ (tape_name ++ (0 ∷ 0 ∷ 0 ∷ be32 mode))
 pub record RunsShelve (k : Kept) (cs : List Call) : Type 0 where
   -- none is lost, and none doubled
   pub same_times : length k.session.changer.slots ≡ places → (v : ℕ) → (v ≡ 0 → ⊥)
-      → times v (run_calls k cs).session.changer.slots ≡ times v k.session.changer.slots
+      → times v (run k cs).last.session.changer.slots ≡ times v k.session.changer.slots
   pub in_one : length k.session.changer.slots ≡ places → names_none_twice k.session.changer.slots ≡ true
       → (v : ℕ) → (v ≡ 0 → ⊥)
-      → (i : ℕ) → get_or k.session.changer.slots i 0 ≡ v → InOnePlace v (run_calls k cs).session.changer.slots
+      → (i : ℕ) → get_or k.session.changer.slots i 0 ≡ v → InOnePlace v (run k cs).last.session.changer.slots
 
 -- a is k after one message more, with the "first request" mark gone, and with nothing else changed but the changer:
 -- no cartridge's bytes, no pair of the store and no other part; and nothing is sent behind the reply

@@ -2,7 +2,7 @@
 use Prim.Native.Nat.{ℕ, ◌+◌, ◌*◌, ◌/◌, ◌%◌, ◌≤◌, ◌<◌}
 use mathlib.Core.Bool.{Bool, true, false}
 use mathlib.Core.List.{List, []}
-use mathlib.Core.Path.{◌≡◌, refl, sym, ap, ◌∙◌, subst}
+use mathlib.Core.Path.{◌≡◌, refl, sym, ap, ◌∙◌}
 use native.Mathlib.Omega.{arith}
 use native.Mathlib.Nat.{mul-le-mul_right}
 use lib.ListN.{length}
@@ -31,19 +31,19 @@ use Rattle.rules.specs.Joint.{data_connect, mover_connect, data_aborted, data_ab
 use Rattle.rules.specs.Relation.{keeps, MoverKept}
 use Rattle.rules.specs.Answer.{Kept, Lent, Answered, answered, is_close, outcome, request_in, Done, tape_part, with_data, with_part, with_tape, with_changer, with_login, with_ends}
 use Rattle.rules.specs.Order.{Call}
-use Rattle.rules.proofs.JudgeLaws.{accepts, accepts_any, accepts_map, refusal-says, carried}
-use Rattle.rules_parts.proofs.Ending.{length-right}
-use Rattle.rules.proofs.Kept.{mover-kept}
+use Rattle.rules.proofs.JudgeLaws.{accepts, accepts_any, accepts_map, refusal_says, carried}
+use Rattle.rules_parts.proofs.Ending.{length_right}
+use Rattle.rules.proofs.Kept.{mover_kept}
 use Rattle.rules.proofs.Keeping.{clash, listen_holds, mover_awaits_lem, met}
 use Rattle.rules.proofs.Guarding.{by_guard}
 use Rattle.rules.proofs.Calls.{kept_facts, close_is}
 use Rattle.rules_moves.specs.declared.Move.{Move}
 use Rattle.rules_moves.specs.Moves.{idle, stream_ends, scant, writing, filling, to_tape, halts_with, method_end, made_at, lost_at}
 use Rattle.rules_moves.specs.Events.{Moving, moved_to_tape, method_ended, connection_made, connection_lost}
-use Rattle.rules_moves.specs.Sequence.{Asked, ToTape, Ended, Made, Lost, Commanded, step}
-use Rattle.rules_moves.proofs.Asking.{call-noted}
+use Rattle.rules_moves.specs.Sequence.{Asked, ToTape, Ended, Made, Lost, step}
+use Rattle.rules_moves.proofs.Asking.{call_noted}
 use Rattle.rules_moves.proofs.Moving.{times, running, some_taken, by_address}
-use Rattle.rules_moves.proofs.Sequence.{Carries, announced_carries, stepped}
+use Rattle.rules_moves.proofs.Sequence.{Carries, announced_carries}
 use Rattle.rules_annex.specs.Aside.{Aside}
 use Rattle.rules_annex.specs.RoundTrip.{Noted, Window, Read, Reset, Other, mover_note, note, noted, InTurn, asked_after, end_after}
 use Rattle.rules_annex.proofs.Calls.{aside_stays}
@@ -83,8 +83,8 @@ on_record size p g e lo hi = on_record_by size p (g / size) g (times g size e) l
 
 -- ---- the changes of the mover
 module _ (size asked end given : ℕ) (m : Mover) (p : ℕ) (a : Along size asked end given m p) where
-  pub halts-along : (why : ℕ) → Along size asked end given (mover_halts why m) p
-  halts-along why =
+  pub halts_along : (why : ℕ) → Along size asked end given (mover_halts why m) p
+  halts_along why =
       record {
         sized = a.sized;
         seeks = a.seeks;
@@ -96,8 +96,8 @@ module _ (size asked end given : ℕ) (m : Mover) (p : ℕ) (a : Along size aske
         origin = λ e. absurd (omega arith);
       }
 
-  pub pauses-along : (why : ℕ) → Along size asked end given (mover_pauses why m) p
-  pauses-along why =
+  pub pauses_along : (why : ℕ) → Along size asked end given (mover_pauses why m) p
+  pauses_along why =
       record {
         sized = a.sized;
         seeks = a.seeks;
@@ -109,8 +109,8 @@ module _ (size asked end given : ℕ) (m : Mover) (p : ℕ) (a : Along size aske
         origin = λ e. absurd (omega arith);
       }
 
-  listens-along : (mode address : ℕ) → m.state ≡ 0 → Along size asked end given (mover_listens mode address m) p
-  listens-along mode address e =
+  listens_along : (mode address : ℕ) → m.state ≡ 0 → Along size asked end given (mover_listens mode address m) p
+  listens_along mode address e =
       record {
         sized = a.sized;
         seeks = a.seeks;
@@ -122,8 +122,8 @@ module _ (size asked end given : ℕ) (m : Mover) (p : ℕ) (a : Along size aske
         origin = λ z. absurd (omega arith);
       }
 
-  runs-along : (mode address : ℕ) (t : Tape) → MoverKept m t → (m.length ≡ 0 → ⊥) → (m.state ≡ 2 → ⊥) → (m.state ≡ 4 → ⊥) → Along size asked end given (mover_runs mode address p m) p
-  runs-along mode address t k some n2 n4 =
+  runs_along : (mode address : ℕ) (t : Tape) → MoverKept m t → (m.length ≡ 0 → ⊥) → (m.state ≡ 2 → ⊥) → (m.state ≡ 4 → ⊥) → Along size asked end given (mover_runs mode address p m) p
+  runs_along mode address t k some n2 n4 =
       let o : m.offset ≡ given = a.fresh some n2 n4 in
       let z : given % size ≡ 0 = rw (← a.sized, ← o) (k.window some).offsets in
       record {
@@ -137,9 +137,9 @@ module _ (size asked end given : ℕ) (m : Mover) (p : ℕ) (a : Along size aske
         origin = λ _. on_record size p given z a.low a.high ∙ sym o;
       }
 
-  window-along : (offset length : ℕ) → (m.state ≡ 2 → ⊥) → offset ≤ window_end offset length → offset ≡ end → end ≡ given
+  window_along : (offset length : ℕ) → (m.state ≡ 2 → ⊥) → offset ≤ window_end offset length → offset ≡ end → end ≡ given
       → Along size asked (window_end offset length) given (mover_window offset length m) p
-  window-along offset length n s e f =
+  window_along offset length n s e f =
       record {
         sized = a.sized;
         seeks = a.seeks;
@@ -151,8 +151,8 @@ module _ (size asked end given : ℕ) (m : Mover) (p : ℕ) (a : Along size aske
         origin = λ z. absurd (n z);
       }
 
-  seeks-along : (offset length : ℕ) → m.left ≡ 0 → offset ≡ asked → Along size (asked + length) end given (mover_seeks offset length m) p
-  seeks-along offset length z e =
+  seeks_along : (offset length : ℕ) → m.left ≡ 0 → offset ≡ asked → Along size (asked + length) end given (mover_seeks offset length m) p
+  seeks_along offset length z e =
       record {
         sized = a.sized;
         seeks = (let s = a.seeks in let l = a.lefts in omega arith);
@@ -176,48 +176,48 @@ module _ (size asked end given : ℕ) (m : Mover) (t : Tape) (a : Along size ask
   MoverGoes : Noted → Reply → Mover → Type 0
   MoverGoes x _ n = Goes x n
 
-  mover-along : (q : MoverRequest) (list : List ℕ) → Accepts (MoverGoes (mover_note q)) (mover_step m t q list)
+  mover_along : (q : MoverRequest) (list : List ℕ) → Accepts (MoverGoes (mover_note q)) (mover_step m t q list)
   unfolding mover_step mover_state mover_listen mover_continue mover_stop set_window mover_read set_size mover_note MoverGoes Goes asked_after end_after
-  mover-along MoverRequest.State list = accepts (MoverGoes Other) _ _ _ (λ _ _. a)
-  mover-along (MoverRequest.Listen mode address) list = accepts (MoverGoes Other) _ _ _ (λ g _. listens-along size asked end given m _ a mode address (is (g 1)))
-  mover-along MoverRequest.Continue list =
+  mover_along MoverRequest.State list = accepts (MoverGoes Other) _ _ _ (λ _ _. a)
+  mover_along (MoverRequest.Listen mode address) list = accepts (MoverGoes Other) _ _ _ (λ g _. listens_along size asked end given m _ a mode address (is (g 1)))
+  mover_along MoverRequest.Continue list =
       accepts (MoverGoes Other) _ _ _
-      (λ g _. let e : m.state ≡ 3 = is (g 1) in runs-along size asked end given m _ a m.mode m.address t kept (isnt (g 3)) (λ z. omega arith) (λ z. omega arith))
-  mover-along MoverRequest.Stop list = accepts (MoverGoes Reset) _ _ _ (λ _ z. absurd z)
-  mover-along (MoverRequest.Window offset length) list =
+      (λ g _. let e : m.state ≡ 3 = is (g 1) in runs_along size asked end given m _ a m.mode m.address t kept (isnt (g 3)) (λ z. omega arith) (λ z. omega arith))
+  mover_along MoverRequest.Stop list = accepts (MoverGoes Reset) _ _ _ (λ _ z. absurd z)
+  mover_along (MoverRequest.Window offset length) list =
       accepts (MoverGoes (Window offset length)) _ _ _
-      (λ g z. window-along size asked end given m _ a offset length (not_active m.state (g 0)) (length-right m.size offset length (g 4)).starts z.0 z.1)
-  mover-along (MoverRequest.Read offset length) list =
-      accepts (MoverGoes (Read offset length)) _ _ _ (λ g z. seeks-along size asked end given m _ a offset length (is (g 4)) z)
-  mover-along (MoverRequest.Size n) list = accepts (MoverGoes Reset) _ _ _ (λ _ z. absurd z)
+      (λ g z. window_along size asked end given m _ a offset length (not_active m.state (g 0)) (length_right m.size offset length (g 4)).starts z.0 z.1)
+  mover_along (MoverRequest.Read offset length) list =
+      accepts (MoverGoes (Read offset length)) _ _ _ (λ g z. seeks_along size asked end given m _ a offset length (is (g 4)) z)
+  mover_along (MoverRequest.Size n) list = accepts (MoverGoes Reset) _ _ _ (λ _ z. absurd z)
 
   EndsGo : Ends → Type 0
   EndsGo e = Along size asked end given e.mover t.position
 
-  joint-along : (d : Data) (q : JointRequest) (made : Bool) → Accepts (λ _ e. EndsGo e) (joint_step d m t q made)
+  joint_along : (d : Data) (q : JointRequest) (made : Bool) → Accepts (λ _ e. EndsGo e) (joint_step d m t q made)
   unfolding joint_step data_abort data_connect mover_abort mover_close mover_connect data_aborted mover_aborted mover_closed EndsGo
-  joint-along d JointRequest.DataAbort made =
-      accepts (λ _ e. EndsGo e) _ _ _ (λ _. by_test EndsGo (data_partnered d) _ _ (λ _. halts-along size asked end given m _ a 1) (λ _. a))
-  joint-along d (JointRequest.DataConnect address count) made =
+  joint_along d JointRequest.DataAbort made =
+      accepts (λ _ e. EndsGo e) _ _ _ (λ _. by_test EndsGo (data_partnered d) _ _ (λ _. halts_along size asked end given m _ a 1) (λ _. a))
+  joint_along d (JointRequest.DataConnect address count) made =
       accepts (λ _ e. EndsGo e) _ _ _
       (λ g. by_test EndsGo (eqb address 1) _ _ (λ _. a)
       (λ z. let e : m.state ≡ 1 = mover_awaits_lem m (met address _ made (g 2) z) in
-      runs-along size asked end given m _ a m.mode 0 t kept (kept.hold (listen_holds m.state e)).window (λ z. omega arith) (λ z. omega arith)))
-  joint-along d JointRequest.MoverAbort made =
-      let h = halts-along size asked end given m _ a 2 in
+      runs_along size asked end given m _ a m.mode 0 t kept (kept.hold (listen_holds m.state e)).window (λ z. omega arith) (λ z. omega arith)))
+  joint_along d JointRequest.MoverAbort made =
+      let h = halts_along size asked end given m _ a 2 in
       accepts (λ _ e. EndsGo e) _ _ _ (λ _. by_test EndsGo (mover_partnered m) _ _ (λ _. h) (λ _. h))
-  joint-along d JointRequest.MoverClose made =
-      let h = halts-along size asked end given m _ a 1 in
+  joint_along d JointRequest.MoverClose made =
+      let h = halts_along size asked end given m _ a 1 in
       accepts (λ _ e. EndsGo e) _ _ _ (λ _. by_test EndsGo (mover_partnered m) _ _ (λ _. h) (λ _. h))
-  joint-along d (JointRequest.MoverConnect mode address count) made =
+  joint_along d (JointRequest.MoverConnect mode address count) made =
       accepts (λ _ e. EndsGo e) _ _ _
       (λ g. let e : m.state ≡ 0 = is (g 1) in
       by_test EndsGo (eqb address 1) _ _
-      (λ _. runs-along size asked end given m _ a mode 1 t kept (isnt (g 4)) (λ z. omega arith) (λ z. omega arith))
-      (λ _. runs-along size asked end given m _ a mode 0 t kept (isnt (g 4)) (λ z. omega arith) (λ z. omega arith)))
+      (λ _. runs_along size asked end given m _ a mode 1 t kept (isnt (g 4)) (λ z. omega arith) (λ z. omega arith))
+      (λ _. runs_along size asked end given m _ a mode 0 t kept (isnt (g 4)) (λ z. omega arith) (λ z. omega arith)))
 
 facts : (s : Session) → keeps s ≡ true → MoverKept s.mover s.tape
-facts s h = mover-kept s.mover s.tape (kept_facts s h).mover
+facts s h = mover_kept s.mover s.tape (kept_facts s h).mover
 
 -- ---- a request call; the tape's position is the one before
 module _ (size asked end given : ℕ) (w : Kept) (a : Along size asked end given w.session.mover w.session.tape.position) (h : keeps w.session ≡ true) where
@@ -228,78 +228,78 @@ module _ (size asked end given : ℕ) (w : Kept) (a : Along size asked end given
   DoneLeft x _ d = Left x d.kept
 
   -- of a service whose part the mover is not in
-  off-mover : {A : Type 0} (put : A → Done) → ((p : A) → Left Other (put p).kept) → (o : Outcome A) → Accepts (DoneLeft Other) (onto put o)
+  off_mover : {A : Type 0} (put : A → Done) → ((p : A) → Left Other (put p).kept) → (o : Outcome A) → Accepts (DoneLeft Other) (onto put o)
   unfolding DoneLeft
-  off-mover put f o = carried (DoneLeft Other) put o (accepts_any (λ reply p. DoneLeft Other reply (put p)) (λ _ p. f p) o)
+  off_mover put f o = carried (DoneLeft Other) put o (accepts_any (λ reply p. DoneLeft Other reply (put p)) (λ _ p. f p) o)
 
   module _ (l : Lent) (r : List ℕ) where
-    outcome-along : (q : Request) → Accepts (DoneLeft (note q)) (outcome w l r q)
+    outcome_along : (q : Request) → Accepts (DoneLeft (note q)) (outcome w l r q)
     unfolding outcome note tape_step mover_part_step Left DoneLeft Goes MoverGoes EndsGo asked_after end_after
-    outcome-along Request.Unknown = refusal-says (DoneLeft Other) _
-    outcome-along Request.Bad = refusal-says (DoneLeft Other) _
-    outcome-along (Request.Connect q) = off-mover (with_login w []) (λ _ _. a) _
-    outcome-along (Request.Config q) = off-mover (with_login w l.challenge) (λ _ _. a) _
-    outcome-along (Request.Scsi q) = off-mover (with_changer w _) (λ _ _. a) _
-    outcome-along (Request.Data q) = off-mover (with_data w q _ _) (λ _ _. a) _
-    outcome-along (Request.Tape q) =
+    outcome_along Request.Unknown = refusal_says (DoneLeft Other) _
+    outcome_along Request.Bad = refusal_says (DoneLeft Other) _
+    outcome_along (Request.Connect q) = off_mover (with_login w []) (λ _ _. a) _
+    outcome_along (Request.Config q) = off_mover (with_login w l.challenge) (λ _ _. a) _
+    outcome_along (Request.Scsi q) = off_mover (with_changer w _) (λ _ _. a) _
+    outcome_along (Request.Data q) = off_mover (with_data w q _ _) (λ _ _. a) _
+    outcome_along (Request.Tape q) =
         carried (DoneLeft Other) (with_tape w) _ (carried (λ reply p. DoneLeft Other reply (with_tape w p)) (with_loaded (tape_part w)) _
         (accepts_any (λ reply p. DoneLeft Other reply (with_tape w (with_loaded (tape_part w) p))) (λ _ _ _. a) _))
-    outcome-along (Request.Mover q) =
+    outcome_along (Request.Mover q) =
         carried (DoneLeft (mover_note q)) (with_part w l.addresses) _ (carried (λ reply p. DoneLeft (mover_note q) reply (with_part w l.addresses p)) (with_mover (tape_part w)) _
-        (mover-along size asked end given w.session.mover w.session.tape a (facts w.session h) q l.addresses))
-    outcome-along (Request.Joint q) =
+        (mover_along size asked end given w.session.mover w.session.tape a (facts w.session h) q l.addresses))
+    outcome_along (Request.Joint q) =
         carried (DoneLeft Other) (with_ends w) _
         (accepts_map (λ _ e. EndsGo size asked end given w.session.mover w.session.tape a (facts w.session h) e) (λ reply e. DoneLeft Other reply (with_ends w e))
-        (λ _ _ g _. g) _ (joint-along size asked end given w.session.mover w.session.tape a (facts w.session h) w.session.source q l.made))
+        (λ _ _ g _. g) _ (joint_along size asked end given w.session.mover w.session.tape a (facts w.session h) w.session.source q l.made))
 
-    close-notes : (q : Request) → is_close q ≡ true → note q ≡ Other
+    close_notes : (q : Request) → is_close q ≡ true → note q ≡ Other
     unfolding note
-    close-notes q e = rw (close_is q e) refl
+    close_notes q e = rw (close_is q e) refl
 
   call_along : (c : Call) → Left (noted w c) (answered w c.lent c.ask.request).next
   unfolding noted Left DoneLeft asked_after end_after
   call_along c =
       let r = c.ask.request in
-      call-noted Other note w c.lent r Left (λ _ _ _ g. g) (λ _ _ g. g) (λ _. a) (close-notes c.lent r (request_in r)) (outcome-along c.lent r (request_in r))
+      call_noted Other note w c.lent r Left (λ _ _ _ g. g) (λ _ _ g. g) (λ _. a) (close_notes c.lent r (request_in r)) (outcome_along c.lent r (request_in r))
 
 -- a move to tape that takes nothing
 module _ (size asked end given : ℕ) (d : Data) (m : Mover) (t : Tape) (l part : List ℕ) (last : Bool) (a : Along size asked end given m t.position) (k : MoverKept m t) where
   FedNothing : Step Move → Type 0
   FedNothing st = st.gives.count ≡ 0 → Along size asked end given st.gives.mover t.position
 
-  takes-some : idle 0 1 d m ≡ false → stream_ends last (length part) ≡ false → scant last (length part) m.size ≡ false → FedNothing (writing d m t l part)
+  takes_some : idle 0 1 d m ≡ false → stream_ends last (length part) ≡ false → scant last (length part) m.size ≡ false → FedNothing (writing d m t l part)
   unfolding FedNothing
-  takes-some i e c z =
+  takes_some i e c z =
       let g = running 0 1 d m i in
       let s = some_taken last (length part) m.size e c (k.runs g.moded g.active).some in
       absurd (omega arith)
 
-  halts-feed : (dwhy mwhy : ℕ) → FedNothing (keeping l (halts_with dwhy mwhy d m t))
+  halts_feed : (dwhy mwhy : ℕ) → FedNothing (keeping l (halts_with dwhy mwhy d m t))
   unfolding halts_with FedNothing
-  halts-feed dwhy mwhy =
-      let h = halts-along size asked end given m _ a mwhy in
+  halts_feed dwhy mwhy =
+      let h = halts_along size asked end given m _ a mwhy in
       by_test (λ (mv : Move). FedNothing (keeping l mv)) (eqb m.address 1) _ _ (λ _ _. h) (λ _ _. h)
 
-  feed-along : FedNothing (to_tape d m t l part last)
+  feed_along : FedNothing (to_tape d m t l part last)
   unfolding to_tape filling FedNothing
-  feed-along =
+  feed_along =
       by_test FedNothing _ _ _ (λ _ _. a)
-      (λ i. by_test FedNothing _ _ _ (λ _. halts-feed 4 5)
-      (λ _. by_test FedNothing _ _ _ (λ _. halts-feed 1 1)
-      (λ e. by_test FedNothing _ _ _ (λ _ _. pauses-along size asked end given m _ a 5)
+      (λ i. by_test FedNothing _ _ _ (λ _. halts_feed 4 5)
+      (λ _. by_test FedNothing _ _ _ (λ _. halts_feed 1 1)
+      (λ e. by_test FedNothing _ _ _ (λ _ _. pauses_along size asked end given m _ a 5)
       (λ _. by_test FedNothing _ _ _ (λ _ _. a)
-      (λ c. by_test FedNothing _ _ _ (λ _ _. pauses-along size asked end given m _ a 1)
-      (λ _. takes-some i e c))))))
+      (λ c. by_test FedNothing _ _ _ (λ _ _. pauses_along size asked end given m _ a 1)
+      (λ _. takes_some i e c))))))
 
 -- ---- a request, the method's end, and a move to tape that takes nothing
 position_along : (size asked end given : ℕ) (m : Mover) (p p' : ℕ) → p' ≡ p → Along size asked end given m p → Along size asked end given m p'
 position_along size asked end given m p p' e a = rw e a
 
 module _ (size asked end given : ℕ) (w : Kept) (a : Along size asked end given w.session.mover w.session.tape.position) (h : keeps w.session ≡ true) where
-  pub asked-along : (c : Call) → Aside (Asked c) w → InTurn asked end given (noted w c)
+  pub asked_along : (c : Call) → Aside (Asked c) w → InTurn asked end given (noted w c)
       → Along size (asked_after asked (noted w c)) (end_after end (noted w c)) given (step (Asked c) w).session.mover (step (Asked c) w).session.tape.position
   unfolding step Left
-  asked-along c s i = position_along size _ _ given _ _ _ (aside_stays w h (Asked c) s).position (call_along size asked end given w a h c i)
+  asked_along c s i = position_along size _ _ given _ _ _ (aside_stays w h (Asked c) s).position (call_along size asked end given w a h c i)
 
   -- the mover after an event
   Going : Mover → Type 0
@@ -308,79 +308,72 @@ module _ (size asked end given : ℕ) (w : Kept) (a : Along size asked end given
   GoingBy : Move → Type 0
   GoingBy mv = Going mv.mover
 
-  carried-along : (mv : Move) (image : List ℕ) (b : Answered) → Carries mv image b → GoingBy mv → Going b.next.session.mover
+  carried_along : (mv : Move) (image : List ℕ) (b : Answered) → Carries mv image b → GoingBy mv → Going b.next.session.mover
   unfolding GoingBy
-  carried-along mv image b c g = rw c.mover g
+  carried_along mv image b c g = rw c.mover g
 
-  end-along : (ok : Bool) → GoingBy (method_end ok w.session.source w.session.mover w.session.tape)
+  end_along : (ok : Bool) → GoingBy (method_end ok w.session.source w.session.mover w.session.tape)
   unfolding method_end Going GoingBy
-  end-along ok =
+  end_along ok =
       by_test GoingBy (eqb w.session.source.state 1) _ _
-      (λ _. by_test GoingBy (eqb w.session.source.address 1) _ _ (λ _. a) (λ _. halts-along size asked end given _ _ a 1)) (λ _. a)
+      (λ _. by_test GoingBy (eqb w.session.source.address 1) _ _ (λ _. a) (λ _. halts_along size asked end given _ _ a 1)) (λ _. a)
 
-  made-along : (mover : Bool) → GoingBy (made_at mover w.session.source w.session.mover w.session.tape)
+  made_along : (mover : Bool) → GoingBy (made_at mover w.session.source w.session.mover w.session.tape)
   unfolding made_at Going GoingBy
-  made-along true =
+  made_along true =
       let m = w.session.mover in
       by_test GoingBy _ _ _
       (λ g. let e : m.state ≡ 1 = eqb-true m.state 1 (by_address m.address _ g).1 in
       let k = facts w.session h in
-      runs-along size asked end given m _ a m.mode m.address w.session.tape k (k.hold (listen_holds m.state e)).window (λ z. omega arith) (λ z. omega arith))
+      runs_along size asked end given m _ a m.mode m.address w.session.tape k (k.hold (listen_holds m.state e)).window (λ z. omega arith) (λ z. omega arith))
       (λ _. a)
-  made-along false = by_test GoingBy _ _ _ (λ _. a) (λ _. a)
+  made_along false = by_test GoingBy _ _ _ (λ _. a) (λ _. a)
 
-  lost-along : (mover : Bool) → GoingBy (lost_at mover w.session.source w.session.mover w.session.tape)
+  lost_along : (mover : Bool) → GoingBy (lost_at mover w.session.source w.session.mover w.session.tape)
   unfolding lost_at Going GoingBy
-  lost-along true = by_test GoingBy _ _ _ (λ _. halts-along size asked end given _ _ a 1) (λ _. a)
-  lost-along false = by_test GoingBy _ _ _ (λ _. a) (λ _. a)
+  lost_along true = by_test GoingBy _ _ _ (λ _. halts_along size asked end given _ _ a 1) (λ _. a)
+  lost_along false = by_test GoingBy _ _ _ (λ _. a) (λ _. a)
 
-  pub ended-along : (l : Lent) (ok : Bool) → Along size asked end given (step (Ended l ok) w).session.mover (step (Ended l ok) w).session.tape.position
+  pub ended_along : (l : Lent) (ok : Bool) → Along size asked end given (step (Ended l ok) w).session.mover (step (Ended l ok) w).session.tape.position
   unfolding step method_ended Going
-  ended-along l ok =
+  ended_along l ok =
       let s = w.session in
       let mv = method_end ok s.source s.mover s.tape in
       position_along size asked end given _ _ _ (aside_stays w h (Ended l ok) tt).position
       (by_guard (λ (b : Answered). Going b.next.session.mover) s l.room _ _ (λ _. a)
-      (λ _. carried-along mv w.image _ (announced_carries w l mv w.image) (end-along ok)))
+      (λ _. carried_along mv w.image _ (announced_carries w l mv w.image) (end_along ok)))
 
-  pub joined-along : (l : Lent) (mover : Bool) → Along size asked end given (step (Made l mover) w).session.mover (step (Made l mover) w).session.tape.position
+  pub joined_along : (l : Lent) (mover : Bool) → Along size asked end given (step (Made l mover) w).session.mover (step (Made l mover) w).session.tape.position
   unfolding step connection_made Going
-  joined-along l mover =
+  joined_along l mover =
       let s = w.session in
       let mv = made_at mover s.source s.mover s.tape in
       position_along size asked end given _ _ _ (aside_stays w h (Made l mover) tt).position
       (by_guard (λ (b : Answered). Going b.next.session.mover) s l.room _ _ (λ _. a)
-      (λ _. carried-along mv w.image _ (announced_carries w l mv w.image) (made-along mover)))
+      (λ _. carried_along mv w.image _ (announced_carries w l mv w.image) (made_along mover)))
 
-  pub parted-along : (l : Lent) (mover : Bool) → Along size asked end given (step (Lost l mover) w).session.mover (step (Lost l mover) w).session.tape.position
+  pub parted_along : (l : Lent) (mover : Bool) → Along size asked end given (step (Lost l mover) w).session.mover (step (Lost l mover) w).session.tape.position
   unfolding step connection_lost Going
-  parted-along l mover =
+  parted_along l mover =
       let s = w.session in
       let mv = lost_at mover s.source s.mover s.tape in
       position_along size asked end given _ _ _ (aside_stays w h (Lost l mover) tt).position
       (by_guard (λ (b : Answered). Going b.next.session.mover) s l.room _ _ (λ _. a)
-      (λ _. carried-along mv w.image _ (announced_carries w l mv w.image) (lost-along mover)))
+      (λ _. carried_along mv w.image _ (announced_carries w l mv w.image) (lost_along mover)))
 
   MovedNothing : Moving → Type 0
   MovedNothing e = e.count ≡ 0 → Going e.answer.next.session.mover
 
-  moved-along : (l : Lent) (part : List ℕ) (last : Bool) → MovedNothing (moved_to_tape w l part last)
+  moved_along : (l : Lent) (part : List ℕ) (last : Bool) → MovedNothing (moved_to_tape w l part last)
   unfolding moved_to_tape MovedNothing FedNothing Going GoingBy
-  moved-along l part last =
+  moved_along l part last =
       let s = w.session in
       let st = to_tape s.source s.mover s.tape w.image part last in
       by_guard MovedNothing s l.room _ _ (λ _ _. a)
-      (λ _ z. carried-along st.gives st.image _ (announced_carries w l st.gives st.image)
-      (feed-along size asked end given s.source s.mover s.tape w.image part last a (facts s h) z))
+      (λ _ z. carried_along st.gives st.image _ (announced_carries w l st.gives st.image)
+      (feed_along size asked end given s.source s.mover s.tape w.image part last a (facts s h) z))
 
   pub fed_along : (l : Lent) (part : List ℕ) (last : Bool) → Aside (ToTape l part last) w
       → Along size asked end given (step (ToTape l part last) w).session.mover (step (ToTape l part last) w).session.tape.position
   unfolding step MovedNothing Going
-  fed_along l part last z = position_along size asked end given _ _ _ (aside_stays w h (ToTape l part last) z).position (moved-along l part last z)
-
-  -- a command leaves the mover
-  pub said-along : (room : ℕ) (c : List ℕ) → Aside (Commanded room c) w
-      → Along size asked end given (step (Commanded room c) w).session.mover (step (Commanded room c) w).session.tape.position
-  unfolding Going
-  said-along room c s =
-      position_along size asked end given _ _ _ (aside_stays w h (Commanded room c) s).position (subst Going (sym (stepped w h (Commanded room c)).leaves.leaves.mover) a)
+  fed_along l part last z = position_along size asked end given _ _ _ (aside_stays w h (ToTape l part last) z).position (moved_along l part last z)

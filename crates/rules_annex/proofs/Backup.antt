@@ -14,12 +14,12 @@ use Rattle.tape_writing.specs.Writing.{fill_to}
 use Rattle.rules.specs.Relation.{keeps}
 use Rattle.rules.specs.Answer.{Kept}
 use Rattle.rules.proofs.Keeping.{clash}
-use Rattle.rules_moves.specs.Sequence.{Event, Asked, ToTape, FromTape, Ended, Made, Lost, Inserted, Renumbered, StoreLent, SlotsLent, Commanded, step, runs}
+use Rattle.rules_moves.specs.Sequence.{Event, Asked, ToTape, FromTape, Ended, Made, Lost, Inserted, Renumbered, StoreLent, SlotsLent, step, runs}
 use Rattle.rules_moves.proofs.Sequence.{stepped}
 use Rattle.rules_annex.specs.Aside.{Untouched}
 use Rattle.rules_annex.specs.RoundTrip.{filled_up, Backs}
-use Rattle.rules_annex.proofs.Calls.{WroteOne, Fed, stood, wrote, to-tape-fed, aside_stays}
-use Rattle.rules_annex.proofs.Used.{one_length, one-small, one-room}
+use Rattle.rules_annex.proofs.Calls.{WroteOne, Fed, stood, wrote, to_tape_fed, aside_stays}
+use Rattle.rules_annex.proofs.Used.{one_length, one_small, one_room}
 use Rattle.rules_annex.proofs.Records.{Holds, holds_more, pad_whole, pad_part}
 
 -- what was taken, what is left, and what stands on the tape
@@ -39,34 +39,34 @@ fill_more size k n s b e f some fits =
 -- ---- one record more
 module _ (size : ℕ) (stream taken rest : List ℕ) (p : ℕ) (l part : List ℕ) (last : Bool) (l' : List ℕ) (p' n : ℕ)
     (prefix : part ≡ take (length part) rest) (ends : last ≡ true → part ≡ rest) where
-  part-long : length part ≤ length rest
-  part-long = let e = ap length prefix ∙ length-take (length part) rest in omega arith
+  part_long : length part ≤ length rest
+  part_long = let e = ap length prefix ∙ length-take (length part) rest in omega arith
 
   module _ (b : Backed size stream taken rest l p) (o : WroteOne size p l part last l' p' n) where
     some_left : rest ≡ [] → ⊥
     some_left e =
         let a : length rest ≡ 0 = ap length e in
-        let p = part-long in
+        let p = part_long in
         let q = o.there in
         let r = o.some in
         omega arith
 
-    taken-level : length taken ≡ p * size
-    taken-level = b.level some_left
+    taken_level : length taken ≡ p * size
+    taken_level = b.level some_left
 
     same_taken : take n part ≡ take n rest
     same_taken = ap (take n) prefix ∙ take-take n (length part) rest o.there
 
     there : n ≤ length rest
-    there = let p = part-long in let q = o.there in omega arith
+    there = let p = part_long in let q = o.there in omega arith
 
-    holds-now : Holds size l' (p + 1) (filled_up size (taken ++ take n rest))
-    holds-now =
+    holds_now : Holds size l' (p + 1) (filled_up size (taken ++ take n rest))
+    holds_now =
         let e : filled_up size taken ++ fill_to (take n part) size ≡ filled_up size (taken ++ take n rest) =
-        rw same_taken (fill_more size p n taken (take n rest) taken-level (length-take-le n rest there) o.some o.fits) in
+        rw same_taken (fill_more size p n taken (take n rest) taken_level (length-take-le n rest there) o.some o.fits) in
         rw (o.image, ← e)
         (holds_more size l p (filled_up size taken) (fill_to (take n part) size) b.holds (one_length size p l part last l' p' n o)
-        (one-small size p l part last l' p' n o) (one-room size p l part last l' p' n o))
+        (one_small size p l part last l' p' n o) (one_room size p l part last l' p' n o))
 
     whole : (drop n rest ≡ [] → ⊥) → (b : Bool) → eqb n size ≡ b → n ≡ size
     whole some true e = eqb-true n size e
@@ -76,17 +76,17 @@ module _ (size : ℕ) (stream taken rest : List ℕ) (p : ℕ) (l part : List �
         let g : length rest ≤ n = omega arith in
         absurd (some (drop_of_length-le rest g))
 
-    wrote-backed : Backed size stream (taken ++ take n rest) (drop n rest) l' p'
-    wrote-backed =
+    wrote_backed : Backed size stream (taken ++ take n rest) (drop n rest) l' p'
+    wrote_backed =
         rw o.position
         (record {
           joins = append_assoc taken (take n rest) (drop n rest) ∙ ap (λ (k : List ℕ). taken ++ k) (take-append-drop n rest) ∙ b.joins;
-          holds = holds-now;
+          holds = holds_now;
           level = λ some.
               let w = whole some (eqb n size) refl in
               let a = length-append taken (take n rest) in
               let c = length-take-le n rest there in
-              let d = taken-level in
+              let d = taken_level in
               omega arith;
         })
 
@@ -99,7 +99,7 @@ fed_backed : (size now : ℕ) (stream taken rest : List ℕ) (p : ℕ) (l part :
     → Backed size stream taken rest l p → Fed now p l part last l' p' n → Backed size stream (taken ++ take n rest) (drop n rest) l' p'
 fed_backed size now stream taken rest p l part last l' p' n prefix ends s b (wrote o) =
     let some = o.some in
-    wrote-backed size stream taken rest p l part last l' p' n prefix ends b (one_at now size p l part last l' p' n (s (λ z. omega arith)) o)
+    wrote_backed size stream taken rest p l part last l' p' n prefix ends b (one_at now size p l part last l' p' n (s (λ z. omega arith)) o)
 fed_backed size now stream taken rest p l part last l' p' n prefix ends s b (stood z e f) = rw (z, e, f, append-nil taken) b
 
 -- ---- a whole backup
@@ -120,7 +120,7 @@ taped size stream taken rest w [] h b e =
     record { kept = h; holds = rw (← all) b.holds }
 taped size stream taken rest w (ToTape l part last ∷ es) h b a =
     taped size stream _ _ (step (ToTape l part last) w) es (stepped w h (ToTape l part last)).kept
-    (fed_backed size _ stream taken rest _ w.image part last _ _ _ a.0 a.1 a.2 b (to-tape-fed w part last h l)) a.3
+    (fed_backed size _ stream taken rest _ w.image part last _ _ _ a.0 a.1 a.2 b (to_tape_fed w part last h l)) a.3
 taped size stream taken rest w (Asked c ∷ es) h b a =
     taped size stream taken rest (step (Asked c) w) es (stepped w h (Asked c)).kept (same_backed size stream taken rest w _ (aside_stays w h (Asked c) a.0) b) a.1
 taped size stream taken rest w (Ended l ok ∷ es) h b a =
@@ -144,9 +144,6 @@ taped size stream taken rest w (StoreLent variables ∷ es) h b a =
 taped size stream taken rest w (SlotsLent slots ∷ es) h b a =
     taped size stream taken rest (step (SlotsLent slots) w) es (stepped w h (SlotsLent slots)).kept
     (same_backed size stream taken rest w _ (aside_stays w h (SlotsLent slots) a.0) b) a.1
-taped size stream taken rest w (Commanded room c ∷ es) h b a =
-    taped size stream taken rest (step (Commanded room c) w) es (stepped w h (Commanded room c)).kept
-    (same_backed size stream taken rest w _ (aside_stays w h (Commanded room c) a.0) b) a.1
 
 -- ---- a tape that is not sound, or stands past its end, stays so: nothing is written on it
 fed_stuck : (now p : ℕ) (l part : List ℕ) (last : Bool) (l' : List ℕ) (p' n : ℕ) → faulty l p ≡ true → Fed now p l part last l' p' n → faulty l' p' ≡ true
@@ -161,7 +158,7 @@ pub stuck : (size : ℕ) (rest : List ℕ) (w : Kept) (es : List Event) → keep
 unfolding runs step
 stuck size rest w [] h f b = f
 stuck size rest w (ToTape l part last ∷ es) h f b =
-    stuck size _ (step (ToTape l part last) w) es (stepped w h (ToTape l part last)).kept (fed_stuck _ _ _ _ _ _ _ _ f (to-tape-fed w part last h l)) b.3
+    stuck size _ (step (ToTape l part last) w) es (stepped w h (ToTape l part last)).kept (fed_stuck _ _ _ _ _ _ _ _ f (to_tape_fed w part last h l)) b.3
 stuck size rest w (Asked c ∷ es) h f b =
     stuck size rest (step (Asked c) w) es (stepped w h (Asked c)).kept (same_stuck w _ (aside_stays w h (Asked c) b.0) f) b.1
 stuck size rest w (Ended l ok ∷ es) h f b =
@@ -180,5 +177,3 @@ stuck size rest w (StoreLent variables ∷ es) h f b =
     stuck size rest (step (StoreLent variables) w) es (stepped w h (StoreLent variables)).kept (same_stuck w _ (aside_stays w h (StoreLent variables) b.0) f) b.1
 stuck size rest w (SlotsLent slots ∷ es) h f b =
     stuck size rest (step (SlotsLent slots) w) es (stepped w h (SlotsLent slots)).kept (same_stuck w _ (aside_stays w h (SlotsLent slots) b.0) f) b.1
-stuck size rest w (Commanded room c ∷ es) h f b =
-    stuck size rest (step (Commanded room c) w) es (stepped w h (Commanded room c)).kept (same_stuck w _ (aside_stays w h (Commanded room c) b.0) f) b.1

@@ -12,13 +12,10 @@ use Rattle.xdr.specs.Xdr.{same_bytes}
 use Rattle.xdr.proofs.Comparing.{same_is}
 use Rattle.wire_requests.specs.declared.Request.{Request}
 use Rattle.wire_requests.specs.declared.Request.TheVariants as Request
-use Rattle.wire_rmt.specs.declared.Command.{Command}
-use Rattle.wire_rmt.specs.declared.Command.TheVariants as Command
-use Rattle.wire_rmt.specs.Commands.{rmt_command}
 use Rattle.rules.specs.Answer.{Kept, request_in}
 use Rattle.rules_moves.specs.Events.{Moving, moved_to_tape, moved_from_tape}
-use Rattle.rules_moves.specs.Sequence.{Event, Asked, ToTape, FromTape, Ended, Made, Lost, Inserted, Renumbered, StoreLent, SlotsLent, Commanded, step}
-use Rattle.rules_annex.specs.Aside.{Untouched, AsideRequest, AsideCommand, Aside, Asides, AtSize}
+use Rattle.rules_moves.specs.Sequence.{Event, Asked, ToTape, FromTape, Ended, Made, Lost, Inserted, Renumbered, StoreLent, SlotsLent, step}
+use Rattle.rules_annex.specs.Aside.{Untouched, AsideRequest, Aside, Asides, AtSize}
 use Rattle.rules_annex.specs.Used.{Feeds}
 use Rattle.rules_annex.specs.RoundTrip.{Backs, Noted, Window, Read, Reset, Other, noted, InTurn, asked_after, end_after, Recovers}
 
@@ -63,23 +60,6 @@ request_aside (Request.Joint q) w v h = tt
 request_aside Request.Unknown w v h = tt
 request_aside Request.Bad w v h = tt
 
-unfoldable pub aside_command : Command → Kept → Kept → Bool
-aside_command (Command.Open name mode) w v = untouched w v
-aside_command Command.Close w v = untouched w v
-aside_command (Command.Read count) w v = untouched w v
-aside_command (Command.Write bytes) w v = untouched w v
-aside_command (Command.Operate op count) w v = untouched w v
-aside_command Command.Bad w v = true
-
-command_aside : (q : Command) (w v : Kept) → aside_command q w v ≡ true → AsideCommand q w v
-unfolding aside_command
-command_aside (Command.Open name mode) w v h = is_untouched w v h
-command_aside Command.Close w v h = is_untouched w v h
-command_aside (Command.Read count) w v h = is_untouched w v h
-command_aside (Command.Write bytes) w v h = is_untouched w v h
-command_aside (Command.Operate op count) w v h = is_untouched w v h
-command_aside Command.Bad w v h = tt
-
 unfoldable pub aside : Event → Kept → Bool
 aside (Asked c) w = aside_request (request_in c.ask.request) w (step (Asked c) w)
 aside (Ended l ok) w = true
@@ -91,7 +71,6 @@ aside (Inserted image) w = same_bytes image w.image
 aside (Renumbered n) w = true
 aside (StoreLent variables) w = true
 aside (SlotsLent slots) w = true
-aside (Commanded room c) w = aside_command (rmt_command c) w (step (Commanded room c) w)
 
 is_aside : (e : Event) (w : Kept) → aside e w ≡ true → Aside e w
 unfolding aside
@@ -107,7 +86,6 @@ is_aside (Inserted image) w h = same_is image w.image h
 is_aside (Renumbered n) w h = tt
 is_aside (StoreLent variables) w h = tt
 is_aside (SlotsLent slots) w h = tt
-is_aside (Commanded room c) w h = command_aside (rmt_command c) w (step (Commanded room c) w) h
 
 unfoldable pub asides : Kept → List Event → Bool
 asides w [] = true
@@ -153,7 +131,6 @@ backs size rest w (Inserted image ∷ es) = choose (aside (Inserted image) w) (b
 backs size rest w (Renumbered n ∷ es) = choose (aside (Renumbered n) w) (backs size rest (step (Renumbered n) w) es) false
 backs size rest w (StoreLent variables ∷ es) = choose (aside (StoreLent variables) w) (backs size rest (step (StoreLent variables) w) es) false
 backs size rest w (SlotsLent slots ∷ es) = choose (aside (SlotsLent slots) w) (backs size rest (step (SlotsLent slots) w) es) false
-backs size rest w (Commanded room c ∷ es) = choose (aside (Commanded room c) w) (backs size rest (step (Commanded room c) w) es) false
 
 at_size : (size : ℕ) (w : Kept) (e : Moving) → is_at_size size w e ≡ true → AtSize size w e
 unfolding is_at_size
@@ -190,9 +167,6 @@ backs_hold size rest w (StoreLent variables ∷ es) h =
 backs_hold size rest w (SlotsLent slots ∷ es) h =
     let b = both (aside (SlotsLent slots) w) h in
     (is_aside (SlotsLent slots) w b.0, backs_hold size rest (step (SlotsLent slots) w) es b.1)
-backs_hold size rest w (Commanded room c ∷ es) h =
-    let b = both (aside (Commanded room c) w) h in
-    (is_aside (Commanded room c) w b.0, backs_hold size rest (step (Commanded room c) w) es b.1)
 
 -- a backup feeds the tape
 pub backs_feed : (size : ℕ) (rest : List ℕ) (w : Kept) (es : List Event) → Backs size rest w es → Feeds size w es
@@ -207,7 +181,6 @@ backs_feed size rest w (Inserted image ∷ es) b = (b.0, backs_feed size rest (s
 backs_feed size rest w (Renumbered n ∷ es) b = (b.0, backs_feed size rest (step (Renumbered n) w) es b.1)
 backs_feed size rest w (StoreLent variables ∷ es) b = (b.0, backs_feed size rest (step (StoreLent variables) w) es b.1)
 backs_feed size rest w (SlotsLent slots ∷ es) b = (b.0, backs_feed size rest (step (SlotsLent slots) w) es b.1)
-backs_feed size rest w (Commanded room c ∷ es) b = (b.0, backs_feed size rest (step (Commanded room c) w) es b.1)
 
 -- ---- the recover
 unfoldable pub in_turn : ℕ → ℕ → ℕ → Noted → Bool
@@ -239,7 +212,6 @@ recovers total asked end given w (Inserted image ∷ es) = choose (aside (Insert
 recovers total asked end given w (Renumbered n ∷ es) = choose (aside (Renumbered n) w) (recovers total asked end given (step (Renumbered n) w) es) false
 recovers total asked end given w (StoreLent variables ∷ es) = choose (aside (StoreLent variables) w) (recovers total asked end given (step (StoreLent variables) w) es) false
 recovers total asked end given w (SlotsLent slots ∷ es) = choose (aside (SlotsLent slots) w) (recovers total asked end given (step (SlotsLent slots) w) es) false
-recovers total asked end given w (Commanded room c ∷ es) = choose (aside (Commanded room c) w) (recovers total asked end given (step (Commanded room c) w) es) false
 
 pub recovers_hold : (total asked end given : ℕ) (w : Kept) (es : List Event) → recovers total asked end given w es ≡ true → Recovers total asked end given w es
 unfolding recovers
@@ -273,6 +245,3 @@ recovers_hold total asked end given w (StoreLent variables ∷ es) h =
 recovers_hold total asked end given w (SlotsLent slots ∷ es) h =
     let b = both (aside (SlotsLent slots) w) h in
     (is_aside (SlotsLent slots) w b.0, recovers_hold total asked end given (step (SlotsLent slots) w) es b.1)
-recovers_hold total asked end given w (Commanded room c ∷ es) h =
-    let b = both (aside (Commanded room c) w) h in
-    (is_aside (Commanded room c) w b.0, recovers_hold total asked end given (step (Commanded room c) w) es b.1)

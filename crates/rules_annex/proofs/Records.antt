@@ -14,7 +14,7 @@ use borrow.Author.Tests.{ltb-true, ltb-false}
 use Rattle.tape_image.specs.Image.{count, entry_len, entry_bytes}
 use Rattle.tape_image.specs.Sound.{Placed}
 use Rattle.tape_writing.specs.Writing.{Room, written}
-use Rattle.tape_writing.proofs.Theorems.{written-placed, written_count, written-len, written-there, same_len, same_bytes}
+use Rattle.tape_writing.proofs.Theorems.{written_placed, written_count, written_len, written_there, same_len, same_bytes}
 use Rattle.rules_annex.specs.RoundTrip.{padding}
 
 -- the bytes of the first k entries
@@ -42,8 +42,8 @@ module _ (size : ℕ) (l : List ℕ) where
       omega arith
 
   -- a part of the last of two lists, and a part of the first
-  last-part : (xs ys : List ℕ) (at j n : ℕ) → length xs ≡ at → take n (drop (at + j) (xs ++ ys)) ≡ take n (drop j ys)
-  last-part xs ys at j n e = ap (take n) (rw (← e) (drop-append-add xs ys j))
+  last_part : (xs ys : List ℕ) (at j n : ℕ) → length xs ≡ at → take n (drop (at + j) (xs ++ ys)) ≡ take n (drop j ys)
+  last_part xs ys at j n e = ap (take n) (rw (← e) (drop-append-add xs ys j))
 
   first_part : (xs ys : List ℕ) (at n : ℕ) → at + n ≤ length xs → take n (drop at (xs ++ ys)) ≡ take n (drop at xs)
   first_part xs ys at n h =
@@ -63,14 +63,14 @@ module _ (size : ℕ) (l : List ℕ) where
     part_at k i long h false e before =
         let ge : k ≤ i = ltb-false i k e in
         let same : i ≡ k = omega arith in
-        rw same (last-part (tape_bytes l k) (entry_bytes l k) (k * size) j n long)
+        rw same (last_part (tape_bytes l k) (entry_bytes l k) (k * size) j n long)
 
-    pub bytes-part : (k i : ℕ) → ((i : ℕ) → i < k → length (entry_bytes l i) ≡ size) → i < k
+    pub bytes_part : (k i : ℕ) → ((i : ℕ) → i < k → length (entry_bytes l i) ≡ size) → i < k
         → take n (drop (i * size + j) (tape_bytes l k)) ≡ take n (drop j (entry_bytes l i))
     unfolding tape_bytes
-    bytes-part zero i f h = absurd (omega arith)
-    bytes-part (suc k) i f h =
-        part_at k i (bytes_length k (λ a q. f a (omega arith))) h (ltb i k) refl (λ g. bytes-part k i (λ a q. f a (omega arith)) g)
+    bytes_part zero i f h = absurd (omega arith)
+    bytes_part (suc k) i f h =
+        part_at k i (bytes_length k (λ a q. f a (omega arith))) h (ltb i k) refl (λ g. bytes_part k i (λ a q. f a (omega arith)) g)
 
 -- ---- the tape's records, all of one size
 pub record Holds (size : ℕ) (l : List ℕ) (n : ℕ) (bytes : List ℕ) : Type 0 where
@@ -85,28 +85,28 @@ unfolding tape_bytes
 holds_none size l n at e z = record { here = at; all = e; lens = λ i h. absurd (omega arith); longs = λ i h. absurd (omega arith); are = rw z refl }
 
 module _ (size : ℕ) (l : List ℕ) (n : ℕ) (bytes b : List ℕ) (h : Holds size l n bytes) (exact : length b ≡ size) (small : length b ≤ 32768) (room : Room l n (length b)) where
-  old-len : (i : ℕ) → i < n → entry_len (written l n b) i ≡ size
-  old-len i k = same_len l n b h.here small room i k ∙ h.lens i k
+  old_len : (i : ℕ) → i < n → entry_len (written l n b) i ≡ size
+  old_len i k = same_len l n b h.here small room i k ∙ h.lens i k
 
-  new-len : entry_len (written l n b) n ≡ size
-  new-len = written-len l n b h.here small room ∙ exact
+  new_len : entry_len (written l n b) n ≡ size
+  new_len = written_len l n b h.here small room ∙ exact
 
-  old-long : (i : ℕ) → i < n → length (entry_bytes (written l n b) i) ≡ size
-  old-long i k = ap length (same_bytes l n b h.here small room i k) ∙ h.longs i k
+  old_long : (i : ℕ) → i < n → length (entry_bytes (written l n b) i) ≡ size
+  old_long i k = ap length (same_bytes l n b h.here small room i k) ∙ h.longs i k
 
-  new-long : length (entry_bytes (written l n b) n) ≡ size
-  new-long = ap length (written-there l n b h.here small room) ∙ exact
+  new_long : length (entry_bytes (written l n b) n) ≡ size
+  new_long = ap length (written_there l n b h.here small room) ∙ exact
 
   -- one record more
   pub holds_more : Holds size (written l n b) (n + 1) (bytes ++ b)
   holds_more =
       record {
-        here = written-placed l n b h.here small room;
+        here = written_placed l n b h.here small room;
         all = written_count l n b h.here small room;
-        lens = λ i k. below_more (λ (j : ℕ). entry_len (written l n b) j ≡ size) n old-len new-len i (omega arith);
-        longs = λ i k. below_more (λ (j : ℕ). length (entry_bytes (written l n b) j) ≡ size) n old-long new-long i (omega arith);
+        lens = λ i k. below_more (λ (j : ℕ). entry_len (written l n b) j ≡ size) n old_len new_len i (omega arith);
+        longs = λ i k. below_more (λ (j : ℕ). length (entry_bytes (written l n b) j) ≡ size) n old_long new_long i (omega arith);
         are = bytes_next (written l n b) n
-            ∙ rw (bytes_same l (written l n b) n (same_bytes l n b h.here small room), written-there l n b h.here small room, h.are) refl;
+            ∙ rw (bytes_same l (written l n b) n (same_bytes l n b h.here small room), written_there l n b h.here small room, h.are) refl;
       }
 
 -- ---- the fill of the last record

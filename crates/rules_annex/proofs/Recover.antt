@@ -11,7 +11,7 @@ use lib.Dec.{eqb, ltb}
 use borrow.Author.Tests.{ne_eqb, eqb-true, eqb-false, ltb-true, ltb-false}
 use Rattle.xdr.specs.Choose.{choose, least}
 use Rattle.xdr.specs.Xdr.{overlay}
-use Rattle.xdr.proofs.Tests.{by_test, none_of, isnt, yes, least-left, least-right, least-some}
+use Rattle.xdr.proofs.Tests.{by_test, none_of, isnt, yes, least_left, least_right, least_some}
 use Rattle.tape_image.specs.Image.{count, entry_len, entry_bytes, faulty}
 use Rattle.rules_parts.specs.declared.types.Data.{Data}
 use Rattle.rules_parts.specs.declared.types.Mover.{Mover}
@@ -20,7 +20,7 @@ use Rattle.rules_parts.specs.Names.{endless}
 use Rattle.rules_parts.specs.Parts.{mover_hands, window_end}
 use Rattle.rules.specs.Relation.{keeps, MoverKept, Legal}
 use Rattle.rules.specs.Answer.{Kept, Lent, Answered}
-use Rattle.rules.proofs.Kept.{mover-kept}
+use Rattle.rules.proofs.Kept.{mover_kept}
 use Rattle.rules.proofs.Keeping.{active_holds}
 use Rattle.rules.proofs.Guarding.{by_guard}
 use Rattle.rules.proofs.Calls.{kept_facts}
@@ -28,13 +28,13 @@ use Rattle.rules_moves.specs.declared.Found.{Found}
 use Rattle.rules_moves.specs.declared.Move.{Move}
 use Rattle.rules_moves.specs.Moves.{idle, outside, ordinal, in_record, seek_from, amount, Handing, untouched, halts_with, reading, on_found, sought, seeking, from_tape}
 use Rattle.rules_moves.specs.Events.{Moving, announced, moved_from_tape}
-use Rattle.rules_moves.specs.Sequence.{Event, Asked, ToTape, FromTape, Ended, Made, Lost, Inserted, Renumbered, StoreLent, SlotsLent, Commanded, step}
+use Rattle.rules_moves.specs.Sequence.{Event, Asked, ToTape, FromTape, Ended, Made, Lost, Inserted, Renumbered, StoreLent, SlotsLent, step}
 use Rattle.rules_moves.proofs.Moving.{before_end, running}
 use Rattle.rules_moves.proofs.Sequence.{Carries, announced_carries, stepped}
 use Rattle.rules_annex.specs.RoundTrip.{Recovers, handed_over, noted, Noted, Window, Read, Reset, Other, asked_after}
 use Rattle.rules_annex.proofs.Calls.{aside_stays}
-use Rattle.rules_annex.proofs.Records.{bytes_length, bytes-part, Holds}
-use Rattle.rules_annex.proofs.Along.{Along, halts-along, pauses-along, asked-along, ended-along, joined-along, parted-along, fed_along, said-along}
+use Rattle.rules_annex.proofs.Records.{bytes_length, bytes_part, Holds}
+use Rattle.rules_annex.proofs.Along.{Along, halts_along, pauses_along, asked_along, ended_along, joined_along, parted_along, fed_along}
 
 -- ---- the walk finds its record among records
 walk_by : (l : List ℕ) (n i k : ℕ) (f : Found) → (entry_len l i ≡ 0 → ⊥) → (b : Bool) → eqb k 0 ≡ b
@@ -89,7 +89,7 @@ piece size l bytes n i r seek k b h s fits =
     let long = h.longs i s.there in
     let far : k ≤ length (drop r (entry_bytes l i)) = rw length-drop (omega arith) in
     take_over k (take k (drop r (entry_bytes l i))) b (length-take-le k (drop r (entry_bytes l i)) far)
-    ∙ sym (bytes-part size l r k fits n i h.longs s.there)
+    ∙ sym (bytes_part size l r k fits n i h.longs s.there)
     ∙ rw (s.at, h.are) refl
 
 -- ---- what one move from tape hands over
@@ -107,10 +107,10 @@ module _ (asked end : ℕ) (l bytes : List ℕ) (n : ℕ) (d : Data) (m : Mover)
   nothing : (m' : Mover) (p' : ℕ) → Along m.size asked end m.seek m' p' → Gives m.size asked end m.seek bytes 0 b m' p'
   nothing m' p' c = record { handed = refl; along = rw (add-zero m.seek) c }
 
-  halts-nothing : (dwhy mwhy : ℕ) → Giving (untouched b (halts_with dwhy mwhy d m t))
+  halts_nothing : (dwhy mwhy : ℕ) → Giving (untouched b (halts_with dwhy mwhy d m t))
   unfolding halts_with Giving
-  halts-nothing dwhy mwhy =
-      let h = nothing _ _ (halts-along m.size asked end m.seek m t.position a mwhy) in
+  halts_nothing dwhy mwhy =
+      let h = nothing _ _ (halts_along m.size asked end m.seek m t.position a mwhy) in
       by_test (λ (mv : Move). Giving (untouched b mv)) (eqb m.address 1) _ _ (λ _. h) (λ _. h)
 
   module _ (active : m.state ≡ 2) (left : 1 ≤ m.left) (room : 1 ≤ length b) (low : m.offset ≤ m.seek) (high : m.seek < window_end m.offset m.length) where
@@ -123,37 +123,37 @@ module _ (asked end : ℕ) (l bytes : List ℕ) (n : ℕ) (d : Data) (m : Mover)
     taken : ℕ
     taken = amount m (length b)
 
-    taken-some : 1 ≤ taken
+    taken_some : 1 ≤ taken
     unfolding taken amount
-    taken-some = let p = place.part in least-some _ (length b) (least-some m.left (m.size - in_record m) left (omega arith)) room
+    taken_some = let p = place.part in least_some _ (length b) (least_some m.left (m.size - in_record m) left (omega arith)) room
 
-    taken-left : taken ≤ m.left
+    taken_left : taken ≤ m.left
     unfolding taken amount
-    taken-left =
-        let x = least-left (least m.left (m.size - in_record m)) (length b) in
-        let y = least-left m.left (m.size - in_record m) in
+    taken_left =
+        let x = least_left (least m.left (m.size - in_record m)) (length b) in
+        let y = least_left m.left (m.size - in_record m) in
         omega arith
 
-    taken-part : in_record m + taken ≤ m.size
+    taken_part : in_record m + taken ≤ m.size
     unfolding taken amount
-    taken-part =
+    taken_part =
         let p = place.part in
-        let x = least-left (least m.left (m.size - in_record m)) (length b) in
-        let y = least-right m.left (m.size - in_record m) in
+        let x = least_left (least m.left (m.size - in_record m)) (length b) in
+        let y = least_right m.left (m.size - in_record m) in
         omega arith
 
-    hands-handed : take taken (overlay 0 (take taken (drop (in_record m) (entry_bytes l (m.origin + ordinal m)))) b) ≡ take taken (drop m.seek bytes)
-    hands-handed = piece m.size l bytes n (m.origin + ordinal m) (in_record m) m.seek taken b hold place taken-part
+    hands_handed : take taken (overlay 0 (take taken (drop (in_record m) (entry_bytes l (m.origin + ordinal m)))) b) ≡ take taken (drop m.seek bytes)
+    hands_handed = piece m.size l bytes n (m.origin + ordinal m) (in_record m) m.seek taken b hold place taken_part
 
-    hands-along : Along m.size asked end (m.seek + taken) (mover_hands taken m) (m.origin + ordinal m + 1)
-    hands-along =
+    hands_along : Along m.size asked end (m.seek + taken) (mover_hands taken m) (m.origin + ordinal m + 1)
+    hands_along =
         let p = place in
         let o = a.origin active in
         let w = a.window (k.hold (active_holds m.state active)).window in
         let e = a.lefts in
-        let tl = taken-left in
-        let ts = taken-some in
-        let tp = taken-part in
+        let tl = taken_left in
+        let ts = taken_some in
+        let tp = taken_part in
         let whole = div-add-mod' (m.seek - m.offset) m.size in
         let seeks = k.seeks in
         let f =
@@ -172,12 +172,12 @@ module _ (asked end : ℕ) (l bytes : List ℕ) (n : ℕ) (d : Data) (m : Mover)
           origin = λ _. o;
         }
 
-    reading-gives : Giving (reading (m.origin + ordinal m) d m t l b)
+    reading_gives : Giving (reading (m.origin + ordinal m) d m t l b)
     unfolding reading Giving taken
-    reading-gives =
+    reading_gives =
         by_test Giving (not (eqb (entry_len l (m.origin + ordinal m)) m.size)) _ _
-        (λ _. halts-nothing 4 5)
-        (λ _. record { handed = hands-handed; along = hands-along })
+        (λ _. halts_nothing 4 5)
+        (λ _. record { handed = hands_handed; along = hands_along })
 
     found : sought m l ≡ Found.Target (m.origin + ordinal m)
     found =
@@ -185,23 +185,23 @@ module _ (asked end : ℕ) (l bytes : List ℕ) (n : ℕ) (d : Data) (m : Mover)
         let c = hold.all in
         walk_finds l (count l - m.origin) m.origin (ordinal m) (λ j x y z. let s = hold.lens j (omega arith) in omega arith) (omega arith)
 
-    sought-gives : Giving (on_found (sought m l) d m t l b)
+    sought_gives : Giving (on_found (sought m l) d m t l b)
     unfolding on_found
-    sought-gives = rw found reading-gives
+    sought_gives = rw found reading_gives
 
   from_gives : Giving (from_tape d m t l b)
   unfolding from_tape seeking outside Giving
   from_gives =
       by_test Giving (idle 1 2 d m) _ _ (λ _. nothing _ _ a)
-      (λ i. by_test Giving (faulty l t.position) _ _ (λ _. halts-nothing 4 5)
+      (λ i. by_test Giving (faulty l t.position) _ _ (λ _. halts_nothing 4 5)
       (λ _. by_test Giving (eqb m.left 0) _ _ (λ _. nothing _ _ a)
       (λ left. by_test Giving (eqb (length b) 0) _ _ (λ _. nothing _ _ a)
-      (λ room. by_test Giving (outside m.seek m.offset m.length) _ _ (λ _. nothing _ _ (pauses-along m.size asked end m.seek m t.position a 3))
+      (λ room. by_test Giving (outside m.seek m.offset m.length) _ _ (λ _. nothing _ _ (pauses_along m.size asked end m.seek m t.position a 3))
       (λ inside.
       let x = none_of (ltb m.seek m.offset) inside in
       let lf : m.left ≡ 0 → ⊥ = isnt left in
       let rm : length b ≡ 0 → ⊥ = isnt room in
-      sought-gives (running 1 2 d m i).active (omega arith) (omega arith) (ltb-false _ _ x.0) (ltb-true _ _ (yes x.1)))))))
+      sought_gives (running 1 2 d m i).active (omega arith) (omega arith) (ltb-false _ _ x.0) (ltb-true _ _ (yes x.1)))))))
 
 -- ---- the same for a call, at a record size and a place that are known by equations
 along_at : (s s' asked end g g' : ℕ) (m : Mover) (p : ℕ) → s ≡ s' → g ≡ g' → Along s asked end g m p → Along s' asked end g' m p
@@ -241,7 +241,7 @@ module _ (size asked end given : ℕ) (bytes : List ℕ) (n : ℕ) (w : Kept) (k
       (gives_at m.size size asked end m.seek given bytes _ _ _ _ a.sized a.seeks
       (from_gives asked end w.image bytes n s.source m s.tape dest (holds_at size m.size w.image n bytes e hold) (omega arith)
       (below_at size m.size asked n e below) (along_at size m.size asked end given m.seek m s.tape.position e f a)
-      (mover-kept m s.tape (kept_facts s kept).mover))))
+      (mover_kept m s.tape (kept_facts s kept).mover))))
 
 -- ---- a whole recover
 more_asked : (asked : ℕ) (x : Noted) → asked ≤ asked_after asked x
@@ -267,7 +267,6 @@ asked_below total asked end given w (Inserted image ∷ es) r = asked_below tota
 asked_below total asked end given w (Renumbered n ∷ es) r = asked_below total asked end given (step (Renumbered n) w) es r.1
 asked_below total asked end given w (StoreLent variables ∷ es) r = asked_below total asked end given (step (StoreLent variables) w) es r.1
 asked_below total asked end given w (SlotsLent slots ∷ es) r = asked_below total asked end given (step (SlotsLent slots) w) es r.1
-asked_below total asked end given w (Commanded room c ∷ es) r = asked_below total asked end given (step (Commanded room c) w) es r.1
 
 pub holds_in : (size : ℕ) (l l' : List ℕ) (n : ℕ) (bytes : List ℕ) → l' ≡ l → Holds size l n bytes → Holds size l' n bytes
 holds_in size l l' n bytes e h = rw e h
@@ -296,16 +295,16 @@ module _ (size : ℕ) (bytes : List ℕ) (n : ℕ) (some : 1 ≤ size) where
       (recovered asked end _ (step (FromTape l dest) w) es t.kept (holds_in size w.image _ n bytes t.leaves.image k) g.along r)
   recovered asked end given w (Asked c ∷ es) h k a r =
       recovered _ _ given (step (Asked c) w) es (stepped w h (Asked c)).kept (holds_in size w.image _ n bytes (aside_stays w h (Asked c) r.0).image k)
-      (asked-along size asked end given w a h c r.0 r.1) r.2
+      (asked_along size asked end given w a h c r.0 r.1) r.2
   recovered asked end given w (Ended l ok ∷ es) h k a r =
       recovered asked end given (step (Ended l ok) w) es (stepped w h (Ended l ok)).kept (holds_in size w.image _ n bytes (aside_stays w h (Ended l ok) r.0).image k)
-      (ended-along size asked end given w a h l ok) r.1
+      (ended_along size asked end given w a h l ok) r.1
   recovered asked end given w (Made l mover ∷ es) h k a r =
       recovered asked end given (step (Made l mover) w) es (stepped w h (Made l mover)).kept (holds_in size w.image _ n bytes (aside_stays w h (Made l mover) r.0).image k)
-      (joined-along size asked end given w a h l mover) r.1
+      (joined_along size asked end given w a h l mover) r.1
   recovered asked end given w (Lost l mover ∷ es) h k a r =
       recovered asked end given (step (Lost l mover) w) es (stepped w h (Lost l mover)).kept (holds_in size w.image _ n bytes (aside_stays w h (Lost l mover) r.0).image k)
-      (parted-along size asked end given w a h l mover) r.1
+      (parted_along size asked end given w a h l mover) r.1
   recovered asked end given w (ToTape l part last ∷ es) h k a r =
       recovered asked end given (step (ToTape l part last) w) es (stepped w h (ToTape l part last)).kept
       (holds_in size w.image _ n bytes (aside_stays w h (ToTape l part last) r.0).image k) (fed_along size asked end given w a h l part last r.0) r.1
@@ -317,7 +316,3 @@ module _ (size : ℕ) (bytes : List ℕ) (n : ℕ) (some : 1 ≤ size) where
       recovered asked end given (step (StoreLent variables) w) es (stepped w h (StoreLent variables)).kept k a r.1
   recovered asked end given w (SlotsLent slots ∷ es) h k a r =
       recovered asked end given (step (SlotsLent slots) w) es (stepped w h (SlotsLent slots)).kept k a r.1
-  recovered asked end given w (Commanded room c ∷ es) h k a r =
-      recovered asked end given (step (Commanded room c) w) es (stepped w h (Commanded room c)).kept
-      (holds_in size w.image _ n bytes (aside_stays w h (Commanded room c) r.0).image k)
-      (said-along size asked end given w a h room c r.0) r.1

@@ -1,10 +1,8 @@
--- An accepted rewind, by a request or a command, leaves the cartridge and the tape at its start; it is accepted on a sound tape only. Assumes nothing.
+-- An accepted rewind leaves the cartridge and the tape at its start; it is accepted on a sound tape only. Assumes nothing.
 use Prim.Native.Nat.{ℕ}
 use mathlib.Core.Bool.{Bool, true, false}
 use mathlib.Core.List.{List}
-use mathlib.Core.Path.{◌≡◌, refl, ap}
-use native.Mathlib.Omega.{arith}
-use lib.ListN.{get_or}
+use mathlib.Core.Path.{◌≡◌, refl}
 use Rattle.xdr.specs.Choose.{choose}
 use Rattle.xdr.proofs.Tests.{by_test}
 use Rattle.tape_image.specs.Image.{faulty}
@@ -15,19 +13,15 @@ use Rattle.wire_requests.specs.declared.TapeRequest.TheVariants as TapeRequest
 use Rattle.wire_requests.specs.declared.Request.{Request}
 use Rattle.wire_requests.specs.declared.Request.TheVariants as Request
 use Rattle.wire_replies.specs.declared.Reply.{Reply}
-use Rattle.wire_rmt.specs.declared.Command.TheVariants as Command
-use Rattle.wire_rmt.specs.Commands.{rmt_command, mtio_of}
-use Rattle.wire_rmt.specs.Replies.{headed, accepted, refused}
 use Rattle.rules_parts.specs.declared.types.Tape.{Tape}
-use Rattle.rules.specs.Judge.{Outcome, refuse, accept, is_accepted, Accepts}
+use Rattle.rules.specs.Judge.{is_accepted, Accepts}
 use Rattle.rules.specs.TapeService.{Loaded, is_refusal, after_mtio, tape_mtio, device_step, with_loaded, tape_step}
-use Rattle.rules.specs.Answer.{Kept, Lent, Answered, answered, is_close, verdict, outcome, request_in, Done, tape_part, with_tape}
-use Rattle.rules.specs.Rmt.{rmt_request, in_record, bare, said, replied, commanded}
-use Rattle.rules.proofs.JudgeLaws.{judged-by, accepts, accepts_map, carried}
-use Rattle.rules.proofs.Guarding.{by_guard}
+use Rattle.rules.specs.Answer.{Kept, Lent, answered, is_close, verdict, outcome, request_in, Done, tape_part, with_tape}
+use Rattle.rules.specs.Order.{Call}
+use Rattle.rules.proofs.JudgeLaws.{accepts, accepts_map, carried}
 use Rattle.rules.proofs.Keeping.{clash}
-use Rattle.rules_moves.specs.Sequence.{Event, Asked, ToTape, FromTape, Ended, Made, Lost, Inserted, Renumbered, StoreLent, SlotsLent, Commanded, step, is_heard}
-use Rattle.rules_moves.proofs.Asking.{call-noted}
+use Rattle.rules_moves.specs.Sequence.{Asked, step, is_heard}
+use Rattle.rules_moves.proofs.Asking.{call_noted}
 use Rattle.rules_annex.specs.RoundTrip.{Rewinds}
 
 -- the image, the position, and that nothing was wrong with them
@@ -58,55 +52,24 @@ module _ (w : Kept) where
   DoneLeft _ d = Left true d.kept
 
   module _ (l : Lent) (r : List ℕ) (times : ℕ) where
-    accepted-rewinds : Accepts DoneLeft (outcome w l r (Request.Tape (TapeRequest.Mtio 4 times)))
+    accepted_rewinds : Accepts DoneLeft (outcome w l r (Request.Tape (TapeRequest.Mtio 4 times)))
     unfolding outcome tape_step device_step DoneLeft Left AtStart
-    accepted-rewinds =
+    accepted_rewinds =
         carried DoneLeft (with_tape w) _ (carried (λ reply p. DoneLeft reply (with_tape w p)) (with_loaded (tape_part w)) _
         (accepts_map (AtStart w.image w.session.tape.position) (λ reply s. DoneLeft reply (with_tape w (with_loaded (tape_part w) s))) (λ _ _ h _. h) _
         (tape_rewinds w.session.mover.state w.session.tape w.image times)))
 
-    no-close : request_in r ≡ Request.Tape (TapeRequest.Mtio 4 times) → is_close (request_in r) ≡ true → ◌≡◌ {A = Bool} true false
+    no_close : request_in r ≡ Request.Tape (TapeRequest.Mtio 4 times) → is_close (request_in r) ≡ true → ◌≡◌ {A = Bool} true false
     unfolding is_close
-    no-close e h = clash (is_close (request_in r)) (rw e refl) h
+    no_close e h = clash (is_close (request_in r)) (rw e refl) h
 
-    call-rewinds : request_in r ≡ Request.Tape (TapeRequest.Mtio 4 times)
+    call_rewinds : request_in r ≡ Request.Tape (TapeRequest.Mtio 4 times)
         → Left (choose (is_heard w l r) (choose (is_accepted (verdict w l r (request_in r))) true false) false) (answered w l r).next
     unfolding Left DoneLeft
-    call-rewinds e =
-        call-noted false (λ _. true) w l r Left (λ _ _ _ h. h) (λ _ _ h. h) (λ z. clash false refl z) (no-close e) (rw e accepted-rewinds)
+    call_rewinds e =
+        call_noted false (λ _. true) w l r Left (λ _ _ _ h. h) (λ _ _ h. h) (λ z. clash false refl z) (no_close e) (rw e accepted_rewinds)
 
-  -- ---- the command, where it is answered with `A0`
-  module _ (room : ℕ) (c : List ℕ) (times : ℕ) where
-    command-rewinds : rmt_command c ≡ Command.Operate 5 times → Accepts DoneLeft (said w c)
-    unfolding rmt_request mtio_of verdict choose
-    command-rewinds e = rw e (judged-by DoneLeft _ _ (λ _. accepted-rewinds bare (in_record c) times))
-
-    -- nothing, and `E`, are not `A`
-    Answers : Answered → Type 0
-    Answers a = a.reply ≡ accepted 0 → Left true a.next
-
-    replied-rewinds : (o : Outcome Done) → Accepts DoneLeft o → Answers (replied w o)
-    unfolding replied Accepts Answers DoneLeft accepted refused headed
-    replied-rewinds (refuse e) h q = absurd (let z : 69 ≡ 65 = ap (λ (b : List ℕ). get_or b 0 0) q in omega arith)
-    replied-rewinds (accept reply d) h q = h
-
-    said-rewinds : rmt_command c ≡ Command.Operate 5 times → Answers (commanded w room c)
-    unfolding commanded Answers accepted headed
-    said-rewinds e =
-        by_guard Answers w.session room _ _ (λ _ q. absurd (let z : 0 ≡ 65 = ap (λ (b : List ℕ). get_or b 0 0) q in omega arith))
-        (λ _. replied-rewinds (said w c) (command-rewinds e))
-
-pub rewound : (w : Kept) (e : Event) → Rewinds w e
-    → Rewound w.image w.session.tape.position (step e w).image (step e w).session.tape.position
-unfolding step Left choose Answers
-rewound w (Asked c) q = call-rewinds w c.lent c.ask.request q.times q.request (rw (q.heard, q.accepted) refl)
-rewound w (Commanded room c) q = said-rewinds w room c q.times q.command q.reply refl
-rewound w (ToTape l part last) q = absurd q
-rewound w (FromTape l dest) q = absurd q
-rewound w (Ended l ok) q = absurd q
-rewound w (Made l mover) q = absurd q
-rewound w (Lost l mover) q = absurd q
-rewound w (Inserted image) q = absurd q
-rewound w (Renumbered n) q = absurd q
-rewound w (StoreLent variables) q = absurd q
-rewound w (SlotsLent slots) q = absurd q
+pub rewound : (w : Kept) (c : Call) (times : ℕ) → Rewinds w c times
+    → Rewound w.image w.session.tape.position (step (Asked c) w).image (step (Asked c) w).session.tape.position
+unfolding step Left choose
+rewound w c times q = call_rewinds w c.lent c.ask.request times q.request (rw (q.heard, q.accepted) refl)

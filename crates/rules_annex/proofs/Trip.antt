@@ -12,11 +12,12 @@ use Rattle.rules_parts.specs.declared.types.Mover.{Mover}
 use Rattle.rules_parts.specs.Parts.{rest_mover, mover_window, window_end}
 use Rattle.rules.specs.Relation.{keeps}
 use Rattle.rules.specs.Answer.{Kept}
+use Rattle.rules.specs.Order.{Call}
 use Rattle.rules.proofs.Keeping.{clash}
-use Rattle.rules_moves.specs.Sequence.{Event, Asked, ToTape, FromTape, Ended, Made, Lost, Inserted, Renumbered, StoreLent, SlotsLent, Commanded, step, runs}
+use Rattle.rules_moves.specs.Sequence.{Event, Asked, ToTape, FromTape, Ended, Made, Lost, Inserted, Renumbered, StoreLent, SlotsLent, step, runs}
 use Rattle.rules_moves.proofs.Sequence.{stepped}
 use Rattle.rules_annex.specs.Aside.{Untouched, Aside, Asides}
-use Rattle.rules_annex.specs.RoundTrip.{filled_up, Backs, Rewinds, handed_by, handed_over, ComesOut}
+use Rattle.rules_annex.specs.RoundTrip.{filled_up, Backs, handed_by, handed_over, ComesOut}
 use Rattle.rules_annex.proofs.Calls.{aside_stays}
 use Rattle.rules_annex.proofs.Records.{holds_none, pad_whole}
 use Rattle.rules_annex.proofs.Backup.{Backed, taped, stuck}
@@ -88,7 +89,6 @@ aside_hands (Inserted image) w a = refl
 aside_hands (Renumbered n) w a = refl
 aside_hands (StoreLent variables) w a = refl
 aside_hands (SlotsLent slots) w a = refl
-aside_hands (Commanded room c) w a = refl
 
 more_hands : (e : Event) (w : Kept) (es : List Event) → Aside e w → handed_over w (e ∷ es) ≡ handed_over (step e w) es
 unfolding handed_over
@@ -108,38 +108,27 @@ backs_hands size rest w (Inserted image ∷ es) fs b = backs_hands size rest (st
 backs_hands size rest w (Renumbered n ∷ es) fs b = backs_hands size rest (step (Renumbered n) w) es fs b.1
 backs_hands size rest w (StoreLent variables ∷ es) fs b = backs_hands size rest (step (StoreLent variables) w) es fs b.1
 backs_hands size rest w (SlotsLent slots ∷ es) fs b = backs_hands size rest (step (SlotsLent slots) w) es fs b.1
-backs_hands size rest w (Commanded room c ∷ es) fs b = backs_hands size rest (step (Commanded room c) w) es fs b.1
 
 asides_hand : (w : Kept) (es fs : List Event) → Asides w es → handed_over w (es ++ fs) ≡ handed_over (runs w es) fs
 unfolding runs
 asides_hand w [] fs a = refl
 asides_hand w (e ∷ es) fs a = more_hands e w (es ++ fs) a.0 ∙ asides_hand (step e w) es fs a.1
 
-rewind_hands : (w : Kept) (e : Event) (es : List Event) → Rewinds w e → handed_over w (e ∷ es) ≡ handed_over (step e w) es
+asked_hands : (w : Kept) (c : Call) (es : List Event) → handed_over w (Asked c ∷ es) ≡ handed_over (step (Asked c) w) es
 unfolding handed_over
-rewind_hands w (Asked c) es r = refl
-rewind_hands w (Commanded room c) es r = refl
-rewind_hands w (ToTape l part last) es r = absurd r
-rewind_hands w (FromTape l dest) es r = absurd r
-rewind_hands w (Ended l ok) es r = absurd r
-rewind_hands w (Made l mover) es r = absurd r
-rewind_hands w (Lost l mover) es r = absurd r
-rewind_hands w (Inserted image) es r = absurd r
-rewind_hands w (Renumbered n) es r = absurd r
-rewind_hands w (StoreLent variables) es r = absurd r
-rewind_hands w (SlotsLent slots) es r = absurd r
+asked_hands w c es = refl
 
 pub comes_out : ComesOut
-comes_out w size stream backup rewind between first recover trip =
+comes_out w size stream backup rewind times between first recover trip =
     let u = runs w backup in
-    let v = step rewind u in
+    let v = step (Asked rewind) u in
     let x = runs v between in
-    let r = rewound u rewind trip.rewinds in
+    let r = rewound u rewind times trip.rewinds in
     let at = was_fine size stream w backup trip.session trip.backs r.2 (faulty w.image w.session.tape.position) refl in
     let b = taped size stream [] stream w backup trip.session (none_backed size stream w.image w.session.tape.position at trip.empty) trip.backs in
-    let s = asides v between (stepped u b.kept rewind).kept trip.aside in
-    backs_hands size stream w backup (rewind ∷ (between ++ recover)) trip.backs
-    ∙ rewind_hands u rewind (between ++ recover) trip.rewinds
+    let s = asides v between (stepped u b.kept (Asked rewind)).kept trip.aside in
+    backs_hands size stream w backup (Asked rewind ∷ (between ++ recover)) trip.backs
+    ∙ asked_hands u rewind (between ++ recover)
     ∙ asides_hand v between recover trip.aside
     ∙ recovered size (filled_up size stream) u.session.tape.position trip.some 0 (window_end 0 first) 0 x recover s.kept
     (holds_in size u.image x.image u.session.tape.position (filled_up size stream) (s.image ∙ r.0) b.holds)

@@ -12,8 +12,8 @@ use Rattle.xdr.specs.Choose.{choose}
 use Rattle.xdr.proofs.Tests.{by_test}
 use Rattle.tape_image.specs.Image.{count, used}
 use Rattle.tape_writing.specs.Writing.{Room, fill_to}
-use Rattle.tape_writing.proofs.Laws.{length_fill, kept-end}
-use Rattle.tape_writing.proofs.Theorems.{written_count, written-used}
+use Rattle.tape_writing.proofs.Laws.{length_fill, kept_end}
+use Rattle.tape_writing.proofs.Theorems.{written_count, written_used}
 use Rattle.wire_requests.specs.declared.DataRequest.{DataRequest}
 use Rattle.wire_requests.specs.declared.DataRequest.TheVariants as DataRequest
 use Rattle.wire_requests.specs.declared.JointRequest.{JointRequest}
@@ -25,14 +25,14 @@ use Rattle.wire_requests.specs.declared.Request.TheVariants as Request
 use Rattle.rules_parts.specs.declared.types.Mover.{Mover}
 use Rattle.rules.specs.Answer.{Kept, Lent, request_in}
 use Rattle.rules.specs.Order.{Call}
-use Rattle.rules_moves.specs.Sequence.{Event, Asked, ToTape, FromTape, Ended, Made, Lost, Inserted, Renumbered, StoreLent, SlotsLent, Commanded, step, runs, Seen, Wrote, mover_asked, data_asked, joint_asked, asked, move_shown, seen}
+use Rattle.rules_moves.specs.Sequence.{Event, Asked, ToTape, FromTape, Ended, Made, Lost, Inserted, Renumbered, StoreLent, SlotsLent, step, runs, Seen, Wrote, mover_asked, data_asked, joint_asked, asked, move_shown, seen}
 use Rattle.rules_moves.specs.Counts.{trace, records_in, sum}
 use Rattle.rules_moves.proofs.Counts.{by_made}
-use Rattle.rules_moves.proofs.Moving.{shown-moved}
+use Rattle.rules_moves.proofs.Moving.{shown_moved}
 use Rattle.rules_moves.proofs.Sequence.{stepped}
 use Rattle.rules_annex.specs.Aside.{Untouched}
 use Rattle.rules_annex.specs.Used.{UsedGrows}
-use Rattle.rules_annex.proofs.Calls.{WroteOne, Fed, stood, wrote, to-tape-fed, aside_stays}
+use Rattle.rules_annex.proofs.Calls.{WroteOne, Fed, stood, wrote, to_tape_fed, aside_stays}
 
 -- ---- the records that are seen: one for a move that takes anything, none for any other call
 Writes : ℕ → Seen → Type 0
@@ -45,7 +45,7 @@ shown_none m a n x e =
 
 shown_one : (m a : Mover) (n j : ℕ) → 1 ≤ n → records_in (move_shown m a n (Wrote j n)) ≡ 1
 unfolding records_in
-shown_one m a n j h = rw (shown-moved m (Wrote j n) a n h) refl
+shown_one m a n j h = rw (shown_moved m (Wrote j n) a n h) refl
 
 mover_none : (p : ℕ) (q : MoverRequest) → records_in (mover_asked p q) ≡ 0
 unfolding mover_asked records_in
@@ -99,19 +99,19 @@ module _ (size p : ℕ) (l part : List ℕ) (last : Bool) (l' : List ℕ) (p' n 
   pub one_length : length (fill_to (take n part) size) ≡ size
   one_length = length_fill (take n part) size (let e = length-take-le n part o.there in let f = o.fits in omega arith)
 
-  pub one-small : length (fill_to (take n part) size) ≤ 32768
-  one-small = let e = one_length in let f = o.small in omega arith
+  pub one_small : length (fill_to (take n part) size) ≤ 32768
+  one_small = let e = one_length in let f = o.small in omega arith
 
-  pub one-room : Room l p (length (fill_to (take n part) size))
-  one-room = rw one_length o.room
+  pub one_room : Room l p (length (fill_to (take n part) size))
+  one_room = rw one_length o.room
 
-  one-count : count l' ≡ p + 1
-  one-count = ap count o.image ∙ written_count l p (fill_to (take n part) size) o.here one-small one-room
+  one_count : count l' ≡ p + 1
+  one_count = ap count o.image ∙ written_count l p (fill_to (take n part) size) o.here one_small one_room
 
-  one-used : count l ≤ p → used l' ≡ used l + size
-  one-used h =
-      let a = ap used o.image ∙ written-used l p (fill_to (take n part) size) o.here one-small one-room in
-      let b = kept-end l p h in
+  one_used : count l ≤ p → used l' ≡ used l + size
+  one_used h =
+      let a = ap used o.image ∙ written_used l p (fill_to (take n part) size) o.here one_small one_room in
+      let b = kept_end l p h in
       let c = one_length in
       omega arith
 
@@ -136,8 +136,8 @@ fed_grown size now p l part last l' p' n m a e s (wrote o) =
     let same : now ≡ size = s (λ z. omega arith) in
     rw (shown_one m a n now o.some)
     (record {
-      uses = one-used now p l part last l' p' n o (omega arith) ∙ ap (λ (j : ℕ). used l + j) (same ∙ sym (one-mul size));
-      at_end = o.position ∙ sym (one-count now p l part last l' p' n o);
+      uses = one_used now p l part last l' p' n o (omega arith) ∙ ap (λ (j : ℕ). used l + j) (same ∙ sym (one-mul size));
+      at_end = o.position ∙ sym (one_count now p l part last l' p' n o);
     })
 
 aside_grown : (size : ℕ) (w v : Kept) (k : ℕ) → k ≡ 0 → w.session.tape.position ≡ count w.image → Untouched w v
@@ -163,7 +163,7 @@ unfolding runs trace sum Grows step seen records_in
 used_grows w size h p [] f = sym (ap (λ (j : ℕ). used w.image + j) (zero-mul size) ∙ add-zero (used w.image))
 used_grows w size h p (ToTape l part last ∷ es) f =
     let e = ToTape l part last in
-    let g : Grows size w e = fed_grown size w.session.mover.size _ w.image part last _ _ _ w.session.mover _ p f.0 (to-tape-fed w part last h l) in
+    let g : Grows size w e = fed_grown size w.session.mover.size _ w.image part last _ _ _ w.session.mover _ p f.0 (to_tape_fed w part last h l) in
     grows_more size w e es g (used_grows (step e w) size (stepped w h e).kept g.at_end es f.1)
 used_grows w size h p (Asked c ∷ es) f =
     let e = Asked c in
@@ -199,9 +199,5 @@ used_grows w size h p (StoreLent variables ∷ es) f =
     grows_more size w e es g (used_grows (step e w) size (stepped w h e).kept g.at_end es f.1)
 used_grows w size h p (SlotsLent slots ∷ es) f =
     let e = SlotsLent slots in
-    let g : Grows size w e = aside_grown size w (step e w) _ refl p (aside_stays w h e f.0) in
-    grows_more size w e es g (used_grows (step e w) size (stepped w h e).kept g.at_end es f.1)
-used_grows w size h p (Commanded room c ∷ es) f =
-    let e = Commanded room c in
     let g : Grows size w e = aside_grown size w (step e w) _ refl p (aside_stays w h e f.0) in
     grows_more size w e es g (used_grows (step e w) size (stepped w h e).kept g.at_end es f.1)

@@ -2,12 +2,9 @@
 use Rattle.std.specs.Prelude.{ℕ, List, [], ◌∷◌, ◌≡◌}
 use Rattle.wire_requests.specs.declared.Request.{Request}
 use Rattle.wire_requests.specs.declared.Request.TheVariants as Request
-use Rattle.wire_rmt.specs.declared.Command.{Command}
-use Rattle.wire_rmt.specs.declared.Command.TheVariants as Command
-use Rattle.wire_rmt.specs.Commands.{rmt_command}
 use Rattle.rules.specs.Answer.{Kept, request_in}
 use Rattle.rules_moves.specs.Events.{Moving, moved_to_tape, moved_from_tape}
-use Rattle.rules_moves.specs.Sequence.{Event, Asked, ToTape, FromTape, Ended, Made, Lost, Inserted, Renumbered, StoreLent, SlotsLent, Commanded, step}
+use Rattle.rules_moves.specs.Sequence.{Event, Asked, ToTape, FromTape, Ended, Made, Lost, Inserted, Renumbered, StoreLent, SlotsLent, step}
 
 -- the tape stands where it stood, and the cartridge is as it was
 pub record Untouched (w v : Kept) : Type 0 where
@@ -27,15 +24,6 @@ AsideRequest (Request.Joint q) w v = Unit {0}
 AsideRequest Request.Unknown w v = Unit {0}
 AsideRequest Request.Bad w v = Unit {0}
 
--- a command of the remote tape protocol too; of one that does not read nothing is asked
-abbrev pub AsideCommand : Command → Kept → Kept → Type 0
-AsideCommand (Command.Open name mode) w v = Untouched w v
-AsideCommand Command.Close w v = Untouched w v
-AsideCommand (Command.Read count) w v = Untouched w v
-AsideCommand (Command.Write bytes) w v = Untouched w v
-AsideCommand (Command.Operate op count) w v = Untouched w v
-AsideCommand Command.Bad w v = Unit {0}
-
 -- a call that is no move of the backup or the recover: a move may stand where it moves nothing, and an image may be handed in if it is the one
 -- that is there; the number of the next message may be set to any
 abbrev pub Aside : Event → Kept → Type 0
@@ -49,7 +37,6 @@ Aside (Inserted image) w = image ≡ w.image
 Aside (Renumbered n) w = Unit {0}
 Aside (StoreLent variables) w = Unit {0}
 Aside (SlotsLent slots) w = Unit {0}
-Aside (Commanded room c) w = AsideCommand (rmt_command c) w (step (Commanded room c) w)
 
 abbrev pub Asides : Kept → List Event → Type 0
 Asides w [] = Unit {0}

@@ -10,7 +10,7 @@ use Rattle.rules_parts.specs.Names.{to_tape_mode, from_tape_mode, read_write, en
 use Rattle.rules.specs.Answer.{Kept, held}
 use Rattle.rules.specs.Order.{Call}
 use Rattle.rules_moves.specs.Cases.{lending, no_variables, known_session}
-use Rattle.rules_moves.specs.Sequence.{Event, Asked, ToTape, FromTape, Commanded, runs}
+use Rattle.rules_moves.specs.Sequence.{Event, Asked, ToTape, FromTape, runs}
 use Rattle.rules_moves.specs.Counts.{trace, records_in, sum}
 use Rattle.rules_annex.specs.Used.{Feeds}
 use Rattle.rules_annex.specs.RoundTrip.{Trip, calls, handed_over}
@@ -20,10 +20,6 @@ call message body = record { ask = record { request = record_bytes 7 0 0 message
 
 abbrev pub asks : ℕ → List ℕ → Event
 asks message body = Asked (call message body)
-
--- a command of the remote tape protocol
-abbrev pub says : List ℕ → Event
-says c = Commanded 36864 c
 
 abbrev pub feeds : List ℕ → Bool → Event
 feeds part last = ToTape lending part last
@@ -50,7 +46,7 @@ abbrev pub started : Kept
 started = held known_session blank no_variables
 
 -- ---- the backup: tape open for writing, set record size 4; window (0, 8), listen, connect, start; two records, EOW; from 8 on
--- a window with no end, continue; a tape write, which is refused, and as a command too, `W1\n` and a byte; the last two bytes; the end
+-- a window with no end, continue; a tape write, which is refused; the last two bytes; the end
 abbrev pub stream : List ℕ
 stream = 11 ∷ 12 ∷ 13 ∷ 14 ∷ 15 ∷ 16 ∷ 17 ∷ 18 ∷ 19 ∷ 20 ∷ []
 
@@ -69,23 +65,19 @@ backup =
     ∷ window 8 endless
     ∷ continue
     ∷ asks 0x304 (opaque (9 ∷ []))
-    ∷ says (87 ∷ 49 ∷ 10 ∷ 9 ∷ [])
     ∷ feeds (19 ∷ 20 ∷ []) true
     ∷ feeds [] true
     ∷ []
 
--- ---- REW, by a record or by the command `I5\n0\n`; data stop and mover stop; the tape closed and opened again, for reading, by `C\n` and `Otape0\n0\n`
-abbrev pub rewind : Event
-rewind = asks 0x303 (be32s (rewind_tape ∷ 1 ∷ []))
-
-abbrev pub rewind_command : Event
-rewind_command = says (73 ∷ 53 ∷ 10 ∷ 48 ∷ 10 ∷ [])
+-- ---- REW; data stop and mover stop
+abbrev pub rewind : Call
+rewind = call 0x303 (be32s (rewind_tape ∷ 1 ∷ []))
 
 abbrev pub meanwhile : List Event
-meanwhile = asks 0x407 [] ∷ asks 0xA04 [] ∷ says (67 ∷ 10 ∷ []) ∷ says (79 ∷ 116 ∷ 97 ∷ 112 ∷ 101 ∷ 48 ∷ 10 ∷ 48 ∷ 10 ∷ []) ∷ []
+meanwhile = asks 0x407 [] ∷ asks 0xA04 [] ∷ []
 
--- ---- the recover: window (0, 8), listen in mode 1, connect, start; a read of two bytes, and one of the other ten, the commands `R4\n` and `S\n`
--- between them, which are refused; SEEK; from 8 on a window with no end, continue
+-- ---- the recover: window (0, 8), listen in mode 1, connect, start; a read of two bytes, and one of the other ten; SEEK; from 8 on a window with no end,
+-- continue
 abbrev pub recover : List Event
 recover =
     window 0 8
@@ -94,8 +86,6 @@ recover =
     ∷ asks 0x402 (be32s (0 ∷ 0 ∷ []) ++ opaque (0x64 ∷ 0x75 ∷ 0x6D ∷ 0x70 ∷ []))
     ∷ asks 0xA06 (be64 0 ++ be64 2)
     ∷ draws 8
-    ∷ says (82 ∷ 52 ∷ 10 ∷ [])
-    ∷ says (83 ∷ 10 ∷ [])
     ∷ asks 0xA06 (be64 2 ++ be64 10)
     ∷ draws 8
     ∷ draws 3
@@ -108,8 +98,7 @@ recover =
     ∷ []
 
 pub record ExampleHolds : Type 0 where
-  pub trip : Trip started 4 stream backup rewind meanwhile 0 recover
-  pub by_command : Trip started 4 stream backup rewind_command meanwhile 0 recover
+  pub trip : Trip started 4 stream backup rewind 1 meanwhile 0 recover
   -- the backup meets the premises of `UsedGrows` too
   pub stands : started.session.tape.position ≡ count started.image
   pub fed : Feeds 4 started backup

@@ -8,17 +8,13 @@ use Rattle.wire_requests.specs.declared.MoverRequest.TheVariants as MoverRequest
 use Rattle.wire_requests.specs.declared.TapeRequest.TheVariants as TapeRequest
 use Rattle.wire_requests.specs.declared.Request.{Request}
 use Rattle.wire_requests.specs.declared.Request.TheVariants as Request
-use Rattle.wire_rmt.specs.declared.Command.TheVariants as Command
-use Rattle.wire_rmt.specs.Commands.{rmt_command}
-use Rattle.wire_rmt.specs.Replies.{accepted}
 use Rattle.rules.specs.Judge.{is_accepted}
 use Rattle.rules_parts.specs.Parts.{rest_mover, mover_window, window_end}
 use Rattle.rules.specs.Relation.{keeps}
 use Rattle.rules.specs.Answer.{Kept, verdict, request_in}
 use Rattle.rules.specs.Order.{Call}
-use Rattle.rules.specs.Rmt.{commanded}
 use Rattle.rules_moves.specs.Events.{moved_to_tape, moved_from_tape}
-use Rattle.rules_moves.specs.Sequence.{Event, Asked, ToTape, FromTape, Ended, Made, Lost, Inserted, Renumbered, StoreLent, SlotsLent, Commanded, step, runs, is_heard}
+use Rattle.rules_moves.specs.Sequence.{Event, Asked, ToTape, FromTape, Ended, Made, Lost, Inserted, Renumbered, StoreLent, SlotsLent, step, runs, is_heard}
 use Rattle.rules_annex.specs.Aside.{Aside, Asides, AtSize}
 
 -- ---- "the stream, followed only by the zeros that fill its last record"
@@ -48,33 +44,12 @@ Backs size rest w (Inserted image ∷ es) = Aside (Inserted image) w × Backs si
 Backs size rest w (Renumbered n ∷ es) = Aside (Renumbered n) w × Backs size rest (step (Renumbered n) w) es
 Backs size rest w (StoreLent variables ∷ es) = Aside (StoreLent variables) w × Backs size rest (step (StoreLent variables) w) es
 Backs size rest w (SlotsLent slots ∷ es) = Aside (SlotsLent slots) w × Backs size rest (step (SlotsLent slots) w) es
-Backs size rest w (Commanded room c ∷ es) = Aside (Commanded room c) w × Backs size rest (step (Commanded room c) w) es
 
--- ---- "then rewind": an accepted MTIO 4, of any count
-pub record RecordRewinds (w : Kept) (c : Call) : Type 0 where
-  pub times : ℕ
+-- ---- "then rewind": an accepted MTIO 4
+pub record Rewinds (w : Kept) (c : Call) (times : ℕ) : Type 0 where
   pub heard : is_heard w c.lent c.ask.request ≡ true
   pub request : request_in c.ask.request ≡ Request.Tape (TapeRequest.Mtio rewind_tape times)
   pub accepted : is_accepted (verdict w c.lent c.ask.request (request_in c.ask.request)) ≡ true
-
--- or the command that says it, `I5`, which is answered with `A0`
-pub record CommandRewinds (w : Kept) (room : ℕ) (c : List ℕ) : Type 0 where
-  pub times : ℕ
-  pub command : rmt_command c ≡ Command.Operate 5 times
-  pub reply : (commanded w room c).reply ≡ accepted 0
-
-abbrev pub Rewinds : Kept → Event → Type 0
-Rewinds w (Asked c) = RecordRewinds w c
-Rewinds w (Commanded room c) = CommandRewinds w room c
-Rewinds w (ToTape l part last) = ⊥
-Rewinds w (FromTape l dest) = ⊥
-Rewinds w (Ended l ok) = ⊥
-Rewinds w (Made l mover) = ⊥
-Rewinds w (Lost l mover) = ⊥
-Rewinds w (Inserted image) = ⊥
-Rewinds w (Renumbered n) = ⊥
-Rewinds w (StoreLent variables) = ⊥
-Rewinds w (SlotsLent slots) = ⊥
 
 -- ---- what a recover goes by: the windows and the mover reads that were accepted
 pub data Noted : Type 0 where
@@ -147,7 +122,6 @@ Recovers total asked end given w (Inserted image ∷ es) = Aside (Inserted image
 Recovers total asked end given w (Renumbered n ∷ es) = Aside (Renumbered n) w × Recovers total asked end given (step (Renumbered n) w) es
 Recovers total asked end given w (StoreLent variables ∷ es) = Aside (StoreLent variables) w × Recovers total asked end given (step (StoreLent variables) w) es
 Recovers total asked end given w (SlotsLent slots ∷ es) = Aside (SlotsLent slots) w × Recovers total asked end given (step (SlotsLent slots) w) es
-Recovers total asked end given w (Commanded room c ∷ es) = Aside (Commanded room c) w × Recovers total asked end given (step (Commanded room c) w) es
 
 -- ---- "the bytes handed over": of each move from tape so many bytes of its destination as it told
 abbrev pub handed_by : Event → Kept → List ℕ
@@ -161,14 +135,13 @@ handed_by (Inserted image) w = []
 handed_by (Renumbered n) w = []
 handed_by (StoreLent variables) w = []
 handed_by (SlotsLent slots) w = []
-handed_by (Commanded room c) w = []
 
 unfoldable pub handed_over : Kept → List Event → List ℕ
 handed_over w [] = []
 handed_over w (e ∷ es) = handed_by e w ++ handed_over (step e w) es
 
 -- ---- the premises
-pub record Trip (w : Kept) (size : ℕ) (stream : List ℕ) (backup : List Event) (rewind : Event) (between : List Event) (first : ℕ) (recover : List Event) : Type 0 where
+pub record Trip (w : Kept) (size : ℕ) (stream : List ℕ) (backup : List Event) (rewind : Call) (times : ℕ) (between : List Event) (first : ℕ) (recover : List Event) : Type 0 where
   -- "a session", and a record size
   pub session : keeps w.session ≡ true
   pub some : 1 ≤ size
@@ -176,20 +149,20 @@ pub record Trip (w : Kept) (size : ℕ) (stream : List ℕ) (backup : List Event
   -- fails, and a tape that is not sound or that stands past its end is not rewound
   pub empty : count w.image ≡ 0
   pub backs : Backs size stream w backup
-  pub rewinds : Rewinds (runs w backup) rewind
+  pub rewinds : Rewinds (runs w backup) rewind times
   -- the mover is stopped, before the rewind or after it: the recover finds it at rest "at the same record size". The first window may be set
   -- already: `first` is its length, or 0.
-  pub aside : Asides (step rewind (runs w backup)) between
-  pub rests : (runs (step rewind (runs w backup)) between).session.mover ≡ mover_window 0 first (rest_mover size)
-  pub recovers : Recovers (length (filled_up size stream)) 0 (window_end 0 first) 0 (runs (step rewind (runs w backup)) between) recover
+  pub aside : Asides (step (Asked rewind) (runs w backup)) between
+  pub rests : (runs (step (Asked rewind) (runs w backup)) between).session.mover ≡ mover_window 0 first (rest_mover size)
+  pub recovers : Recovers (length (filled_up size stream)) 0 (window_end 0 first) 0 (runs (step (Asked rewind) (runs w backup)) between) recover
 
 -- all calls, in their order
-abbrev pub calls : List Event → Event → List Event → List Event → List Event
-calls backup rewind between recover = backup ++ (rewind ∷ (between ++ recover))
+abbrev pub calls : List Event → Call → List Event → List Event → List Event
+calls backup rewind between recover = backup ++ (Asked rewind ∷ (between ++ recover))
 
 -- "Then the bytes handed over are the stream, followed only by the zeros that fill its last record."
 abbrev pub ComesOut : Type 0
 ComesOut =
-    (w : Kept) (size : ℕ) (stream : List ℕ) (backup : List Event) (rewind : Event) (between : List Event) (first : ℕ) (recover : List Event)
-    → Trip w size stream backup rewind between first recover
+    (w : Kept) (size : ℕ) (stream : List ℕ) (backup : List Event) (rewind : Call) (times : ℕ) (between : List Event) (first : ℕ) (recover : List Event)
+    → Trip w size stream backup rewind times between first recover
     → handed_over w (calls backup rewind between recover) ≡ filled_up size stream

@@ -5,7 +5,7 @@ use Rattle.tape_image.specs.Image.{count, used}
 use Rattle.rules.specs.Relation.{keeps}
 use Rattle.rules.specs.Answer.{Kept}
 use Rattle.rules_moves.specs.Events.{moved_to_tape}
-use Rattle.rules_moves.specs.Sequence.{Event, Asked, ToTape, FromTape, Ended, Made, Lost, Inserted, Renumbered, StoreLent, SlotsLent, Commanded, step, runs}
+use Rattle.rules_moves.specs.Sequence.{Event, Asked, ToTape, FromTape, Ended, Made, Lost, Inserted, Renumbered, StoreLent, SlotsLent, step, runs}
 use Rattle.rules_moves.specs.Counts.{trace, records_in, sum}
 use Rattle.rules_annex.specs.Aside.{Aside, AtSize}
 
@@ -22,7 +22,6 @@ Feeds size w (Inserted image ∷ es) = Aside (Inserted image) w × Feeds size (s
 Feeds size w (Renumbered n ∷ es) = Aside (Renumbered n) w × Feeds size (step (Renumbered n) w) es
 Feeds size w (StoreLent variables ∷ es) = Aside (StoreLent variables) w × Feeds size (step (StoreLent variables) w) es
 Feeds size w (SlotsLent slots ∷ es) = Aside (SlotsLent slots) w × Feeds size (step (SlotsLent slots) w) es
-Feeds size w (Commanded room c ∷ es) = Aside (Commanded room c) w × Feeds size (step (Commanded room c) w) es
 
 -- The cartridge may be any, also an unsound one: then nothing is written. Records written are those that `seen` shows.
 abbrev pub UsedGrows : Type 0

@@ -4,8 +4,8 @@ use Rattle.xdr.specs.Choose.{choose, all_of}
 use Rattle.xdr.specs.Xdr.{be32, be32s, word, same_bytes}
 use Rattle.xdr_opaque.specs.Opaque.{all_zero, opaque_at}
 use Rattle.xdr_opaque.specs.Put.{opaque}
-use Rattle.md5.specs.Md5 as md5
-use Rattle.md5.specs.Login.{login_string, login_digest}
+use Rattle.md5_digest.specs.Md5 as md5
+use Rattle.md5_digest.specs.Login.{login_string, login_digest}
 use Rattle.wire_accounts.specs.Accounts.{is_kind, with_password, with_id, account_at, with_account, and_then, accounts_from, accounts_in, entries_of}
 use Rattle.wire_accounts.specs.Accounts.{is_digestible, is_digest, md5_matches, any_of}
 use Rattle.wire_frame.specs.Frame.{well_framed, record_bytes}

@@ -25,11 +25,10 @@ use Rattle.rules.specs.Relation.{keeps, drive_wrong}
 use Rattle.rules.specs.Answer.{Kept, Lent, Answered, Done, held, answered, outcome, request_in, tape_part, with_data, with_part, with_tape, with_changer, with_login, with_ends}
 use Rattle.rules.specs.Order.{Call}
 use Rattle.rules.specs.Calls.{opened_session, opening}
-use Rattle.rules.proofs.JudgeLaws.{accepts_any, refusal-says, carried}
+use Rattle.rules.proofs.JudgeLaws.{accepts_any, refusal_says, carried}
 use Rattle.rules.proofs.Changer.{by_slots}
-use Rattle.rules.proofs.Calls.{call-holds, kept_facts, by_opening}
-use Rattle.rules.proofs.Rmt.{rmt_holds}
-use Rattle.rules_moves.specs.Sequence.{Event, Asked, ToTape, FromTape, Ended, Made, Lost, Inserted, Renumbered, StoreLent, SlotsLent, Commanded, list_for, step, runs}
+use Rattle.rules.proofs.Calls.{call_holds, kept_facts, by_opening}
+use Rattle.rules_moves.specs.Sequence.{Event, Asked, ToTape, FromTape, Ended, Made, Lost, Inserted, Renumbered, StoreLent, SlotsLent, list_for, step, runs}
 use Rattle.rules_moves.specs.SessionLeft.{IsUnasked}
 use Rattle.rules_moves.specs.FirstSize.{after_open}
 use Rattle.rules_moves.proofs.SessionLeft.{session_left, by_asked}
@@ -48,28 +47,27 @@ module _ (P : List ℕ → Type 0) (k : Kept) (stays : P (slots_in k))
     aside : {A : Type 0} (put : A → Done) → ((p : A) → P (slots_in (put p).kept)) → (o : Outcome A) → Accepts (λ _ (d : Done). Next d.kept) (onto put o)
     aside put f o = carried (λ _ (d : Done). Next d.kept) put o (accepts_any (λ _ p. Next (put p).kept) (λ _ p. f p) o)
 
-    outcome-slots : (l : Lent) (r : List ℕ) (q : Request) → Accepts (λ _ (d : Done). Next d.kept) (outcome k l r q)
+    outcome_slots : (l : Lent) (r : List ℕ) (q : Request) → Accepts (λ _ (d : Done). Next d.kept) (outcome k l r q)
     unfolding outcome
-    outcome-slots l r Request.Unknown = refusal-says (λ _ (d : Done). Next d.kept) _
-    outcome-slots l r Request.Bad = refusal-says (λ _ (d : Done). Next d.kept) _
-    outcome-slots l r (Request.Connect q) = aside (with_login k _) (λ _. stays) _
-    outcome-slots l r (Request.Config q) = aside (with_login k _) (λ _. stays) _
-    outcome-slots l r (Request.Scsi q) =
+    outcome_slots l r Request.Unknown = refusal_says (λ _ (d : Done). Next d.kept) _
+    outcome_slots l r Request.Bad = refusal_says (λ _ (d : Done). Next d.kept) _
+    outcome_slots l r (Request.Connect q) = aside (with_login k _) (λ _. stays) _
+    outcome_slots l r (Request.Config q) = aside (with_login k _) (λ _. stays) _
+    outcome_slots l r (Request.Scsi q) =
         carried (λ _ (d : Done). Next d.kept) (with_changer k _) _
         (by_slots P k.session.tape.opened k.session.changer q (body_of r) stays (λ cdb from to _ m. moves cdb from to m))
-    outcome-slots l r (Request.Tape q) = aside (with_tape k) (λ _. stays) _
-    outcome-slots l r (Request.Data q) = aside (with_data k q _ _) (λ _. stays) _
-    outcome-slots l r (Request.Mover q) = aside (with_part k _) (λ _. stays) _
-    outcome-slots l r (Request.Joint q) = aside (with_ends k) (λ _. stays) _
+    outcome_slots l r (Request.Tape q) = aside (with_tape k) (λ _. stays) _
+    outcome_slots l r (Request.Data q) = aside (with_data k q _ _) (λ _. stays) _
+    outcome_slots l r (Request.Mover q) = aside (with_part k _) (λ _. stays) _
+    outcome_slots l r (Request.Joint q) = aside (with_ends k) (λ _. stays) _
 
-    request-slots : (l : Lent) (r : List ℕ) → Next (answered k l r).next
-    request-slots l r = call-holds Next (λ x _ h. h) (λ x h. h) k l r stays (outcome-slots l r (request_in r))
+    request_slots : (l : Lent) (r : List ℕ) → Next (answered k l r).next
+    request_slots l r = call_holds Next (λ x _ h. h) (λ x h. h) k l r stays (outcome_slots l r (request_in r))
 
-    step-slots : ((slots : List ℕ) → P (list_for slots k.session)) → (e : Event) → Next (step e k)
+    step_slots : ((slots : List ℕ) → P (list_for slots k.session)) → (e : Event) → Next (step e k)
     unfolding step
-    step-slots lent e =
-        by_asked (λ (x : Event). Next (step x k)) (λ c. request-slots c.lent c.ask.request)
-        (λ room c. subst (λ (c : Changer). P c.slots) (sym (rmt_holds.left k room c).changer) stays) lent
+    step_slots lent e =
+        by_asked (λ (x : Event). Next (step x k)) (λ c. request_slots c.lent c.ask.request) lent
         (λ x o. subst (λ (c : Changer). P c.slots) (sym (session_left k x o).changer) stays) e
 
 -- ---- lists of calls are lists of moves
@@ -78,21 +76,19 @@ record MovesOf (k : Kept) (l : List ℕ) : Type 0 where
   is : l ≡ after_moves (slots_in k) moves
 
 -- a list that is set is not one that moves gave
-not_lent : (P : Event → Type 0) → ((c : Call) → P (Asked c)) → ((room : ℕ) (c : List ℕ) → P (Commanded room c)) → ((e : Event) → IsUnasked e → P e)
-    → (e : Event) → IsOwn e → P e
-not_lent P asked said rest =
-    by_asked (λ (e : Event). IsOwn e → P e) (λ c _. asked c) (λ room c _. said room c) (λ slots o. absurd o) (λ e u _. rest e u)
+not_lent : (P : Event → Type 0) → ((c : Call) → P (Asked c)) → ((e : Event) → IsUnasked e → P e) → (e : Event) → IsOwn e → P e
+not_lent P asked rest =
+    by_asked (λ (e : Event). IsOwn e → P e) (λ c _. asked c) (λ slots o. absurd o) (λ e u _. rest e u)
 
 one_move : (k : Kept) (e : Event) → IsOwn e → MovesOf k (slots_in (step e k))
 unfolding after_moves slots_after step
 one_move k =
     let stays : MovesOf k (slots_in k) = record { moves = []; is = refl } in
     not_lent (λ (e : Event). MovesOf k (slots_in (step e k)))
-    (λ c. request-slots (MovesOf k) k stays
+    (λ c. request_slots (MovesOf k) k stays
     (λ cdb from to m.
     record { moves = record { cdb = cdb; opened = k.session.tape.opened } ∷ []; is = ap (slots_after (slots_in k)) (sym m) })
     c.lent c.ask.request)
-    (λ room c. subst (λ (c : Changer). MovesOf k c.slots) (sym (rmt_holds.left k room c).changer) stays)
     (λ e u. subst (λ (c : Changer). MovesOf k c.slots) (sym (session_left k e u).changer) stays)
 
 moves_append : (slots : List ℕ) (a b : List MoveCall) → after_moves slots (a ++ b) ≡ after_moves (after_moves slots a) b
@@ -132,7 +128,7 @@ module _ (k : Kept) (es : List Event) (o : OneSession es) where
 twice_once : (k : Kept) (e : Event) → names_none_twice (slots_in k) ≡ true → names_none_twice (slots_in (step e k)) ≡ true
 unfolding slots_after
 twice_once k e h =
-    step-slots (λ (l : List ℕ). names_none_twice l ≡ true) k h
+    step_slots (λ (l : List ℕ). names_none_twice l ≡ true) k h
     (λ cdb from to m. ap names_none_twice (ap (slots_after (slots_in k)) (sym m)) ∙ none_twice_after cdb (slots_in k) k.session.tape.opened h)
     (λ slots. by_list (λ (l : List ℕ). names_none_twice l ≡ true) slots k.session h (λ n _. n)) e
 
@@ -153,7 +149,7 @@ from_open slots time room image variables es o n c v z i e =
 drive_once : (k : Kept) (e : Event) → k.session.tape.opened ≡ true → in_drive (slots_in (step e k)) ≡ in_drive (slots_in k)
 unfolding slots_after
 drive_once k e o =
-    step-slots (λ (l : List ℕ). in_drive l ≡ in_drive (slots_in k)) k refl
+    step_slots (λ (l : List ℕ). in_drive l ≡ in_drive (slots_in k)) k refl
     (λ cdb from to m.
     let open-move = rw o at m in
     ap in_drive (ap (slots_after (slots_in k)) (sym open-move)) ∙ drive_after cdb (slots_in k))

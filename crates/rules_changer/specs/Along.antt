@@ -1,7 +1,7 @@
--- The slot list over all calls (02 No. 7): requests, commands of the remote tape protocol, moves, the method's end, connections made and lost, any images,
--- numbers and stores between them. "from one that names none twice .., passed on from call to call, each cartridge is in exactly one slot or in the
--- drive." It is said by the list alone, and not by the definitions of a request, so that these are held against it. Where a host sets the list between two
--- calls, to what another session left, it is another's from there on: `OneSession` are lists of calls without that.
+-- The slot list over all calls (02 No. 7): requests, moves, the method's end, connections made and lost, any images, numbers and stores between them. "from
+-- one that names none twice .., passed on from call to call, each cartridge is in exactly one slot or in the drive." It is said by the list alone, and not by
+-- the definitions of a request, so that these are held against it. Where a host sets the list between two calls, to what another session left, it is
+-- another's from there on: `OneSession` are lists of calls without that.
 use Rattle.std.specs.Prelude.{ℕ, true, List, [], ◌∷◌, ◌≡◌, length, get_or}
 use Rattle.changer_elements.specs.Elements.{places}
 use Rattle.changer_elements.specs.Slots.{names_none_twice, in_drive, times}
@@ -9,7 +9,7 @@ use Rattle.changer_elements.specs.MovesHold.{InOnePlace}
 use Rattle.rules.specs.Answer.{Kept}
 use Rattle.rules.specs.Relation.{keeps}
 use Rattle.rules.specs.Calls.{opening}
-use Rattle.rules_moves.specs.Sequence.{Event, Asked, ToTape, FromTape, Ended, Made, Lost, Inserted, Renumbered, StoreLent, SlotsLent, Commanded, step, runs}
+use Rattle.rules_moves.specs.Sequence.{Event, Asked, ToTape, FromTape, Ended, Made, Lost, Inserted, Renumbered, StoreLent, SlotsLent, step, runs}
 use Rattle.rules_moves.specs.FirstSize.{after_open}
 
 abbrev pub slots_in : Kept → List ℕ
@@ -32,7 +32,6 @@ IsOwn (Inserted image) = Unit {0}
 IsOwn (Renumbered n) = Unit {0}
 IsOwn (StoreLent variables) = Unit {0}
 IsOwn (SlotsLent slots) = ⊥
-IsOwn (Commanded room c) = Unit {0}
 
 abbrev pub OneSession : List Event → Type 0
 OneSession [] = Unit {0}

@@ -1,10 +1,10 @@
--- `LoginHolds` of rules, over all calls: requests, commands of the remote tape protocol, moves, the method's end, connections made and lost, any images,
--- numbers and stores between them. The newest challenge is again said by the calls alone.
+-- `LoginHolds` of rules, over all calls: requests, moves, the method's end, connections made and lost, any images, numbers and stores between them. The
+-- newest challenge is again said by the calls alone.
 use Rattle.std.specs.Prelude.{true, false, List, [], ◌∷◌, ◌≡◌}
 use Rattle.rules.specs.Answer.{Kept}
 use Rattle.rules.specs.Order.{Call}
 use Rattle.rules.specs.Login.{Newest, newest_of, is_heard, newer, LogsIn, authorized}
-use Rattle.rules_moves.specs.Sequence.{Event, Asked, ToTape, FromTape, Ended, Made, Lost, Inserted, Renumbered, StoreLent, SlotsLent, Commanded, step, runs}
+use Rattle.rules_moves.specs.Sequence.{Event, Asked, ToTape, FromTape, Ended, Made, Lost, Inserted, Renumbered, StoreLent, SlotsLent, step, runs}
 
 -- the newest challenge after an event, with one before it: only a request can give one
 unfoldable pub newer_by : Newest → Kept → Event → Newest
@@ -18,7 +18,6 @@ newer_by n k (Inserted image) = n
 newer_by n k (Renumbered number) = n
 newer_by n k (StoreLent variables) = n
 newer_by n k (SlotsLent slots) = n
-newer_by n k (Commanded room c) = n
 
 unfoldable pub newest_along : Newest → Kept → List Event → Newest
 newest_along n k [] = n

@@ -15,7 +15,7 @@ use Rattle.rules_parts.specs.Parts.{wrapped}
 use Rattle.rules.specs.MoverService.{record_number}
 use Rattle.rules.specs.Relation.{keeps}
 use Rattle.rules.specs.Answer.{Kept}
-use Rattle.rules_moves.specs.Sequence.{Event, Asked, ToTape, FromTape, Ended, Made, Lost, Inserted, Renumbered, StoreLent, SlotsLent, Commanded, step, runs}
+use Rattle.rules_moves.specs.Sequence.{Event, Asked, ToTape, FromTape, Ended, Made, Lost, Inserted, Renumbered, StoreLent, SlotsLent, step, runs}
 use Rattle.rules_moves.specs.Sequence.{Seen, Sized, Windowed, Sought, MoverStopped, DataStopped, Listened, Joined, Began, Paused, Wrote, Handed, Nothing}
 use Rattle.rules_moves.specs.Sequence.{Register, register_of, after, seen, FitsRegister, Legitimate, move_shown, made_shown, processed_by, count_of}
 use Rattle.rules_moves.specs.Counts.{trace, replay, moved_by, records_in, sum, fed_of, IsMove, IsToTape, CountsOfMoves, CountsOfRecords, CountsHold}
@@ -74,7 +74,6 @@ moves (Inserted image) w i = tt
 moves (Renumbered n) w i = tt
 moves (StoreLent variables) w i = tt
 moves (SlotsLent slots) w i = tt
-moves (Commanded room c) w i = tt
 moves (Asked c) w i = absurd i
 moves (Ended l ok) w i = absurd i
 moves (Made l mover) w i = by_made Moves _ _ _ tt tt
@@ -87,7 +86,6 @@ writes (Inserted image) w i = tt
 writes (Renumbered n) w i = tt
 writes (StoreLent variables) w i = tt
 writes (SlotsLent slots) w i = tt
-writes (Commanded room c) w i = tt
 writes (FromTape l dest) w i = absurd i
 writes (Asked c) w i = absurd i
 writes (Ended l ok) w i = absurd i

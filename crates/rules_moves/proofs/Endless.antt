@@ -20,7 +20,7 @@ use Rattle.rules_parts.specs.Parts.{window_end}
 use Rattle.rules.specs.Relation.{keeps, Legal, InWindow, MoverKept}
 use Rattle.rules.specs.Answer.{Kept}
 use Rattle.rules_parts.proofs.Ending.{end_endless, end_other}
-use Rattle.rules.proofs.Kept.{mover-kept}
+use Rattle.rules.proofs.Kept.{mover_kept}
 use Rattle.rules.proofs.Calls.{kept_facts}
 use Rattle.rules_moves.specs.declared.Move.{Move}
 use Rattle.rules_moves.specs.Moves.{pauses, idle, stream_ends, scant, writing, window_used, filling, to_tape}
@@ -47,18 +47,18 @@ not_used size offset length moved e s h =
     rw (ne_eqb moved (window_end offset length) n) (le-ltb (window_end offset length) (moved + size) (omega arith))
 
 module _ (d : Data) (m : Mover) (t : Tape) (l s : List ℕ) (last : Bool) (a : AtFour d m t l s last) where
-  at-four : to_tape d m t l s last ≡ filling d m t l s last
+  at_four : to_tape d m t l s last ≡ filling d m t l s last
   unfolding to_tape choose
-  at-four = rw (a.runs, a.sound, a.goes_on) refl
+  at_four = rw (a.runs, a.sound, a.goes_on) refl
 
   pauses_there : top < m.moved + m.size → to_tape d m t l s last ≡ keeping l (pauses end_of_window d m t)
   unfolding filling choose
-  pauses_there h = at-four ∙ rw (past_used m.size m.offset m.length m.moved a.window h) refl
+  pauses_there h = at_four ∙ rw (past_used m.size m.offset m.length m.moved a.window h) refl
 
   writes_before : 1 ≤ m.size → m.moved + m.size ≤ top → scant last (length s) m.size ≡ false → room_for l t.position m.size ≡ true
       → to_tape d m t l s last ≡ writing d m t l s
   unfolding filling choose
-  writes_before some h c r = at-four ∙ rw (not_used m.size m.offset m.length m.moved a.window some h, c, r) refl
+  writes_before some h c r = at_four ∙ rw (not_used m.size m.offset m.length m.moved a.window some h, c, r) refl
 
 -- in every other window one record more fits wherever bytes moved are not at its end
 bound_more : (s o n v : ℕ) → v % s ≡ 0 → o % s ≡ 0 → n % s ≡ 0 → v ≤ o + n → (v ≡ o + n → ⊥) → v + s ≤ o + n
@@ -111,7 +111,7 @@ unwrapped : (w : Kept) → keeps w.session ≡ true → w.session.mover.state �
     → (es : List Event) → Each IsToTape es → w.session.mover.moved + sum records_in (trace w es) * w.session.mover.size ≤ top
 unwrapped w h s o e es is =
     let m = w.session.mover in
-    let k = ((mover-kept m w.session.tape (kept_facts w.session h).mover).runs o s).to in
+    let k = ((mover_kept m w.session.tape (kept_facts w.session h).mover).runs o s).to in
     let z = end_endless m.offset m.length e in
     let b = below_top w h (omega arith) es is in
     rw (← (counts_hold.recorded w h es is).moved) b

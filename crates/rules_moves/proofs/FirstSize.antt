@@ -45,14 +45,14 @@ use Rattle.rules.specs.Answer.{Done, tape_part, with_part, with_ends, request_in
 use Rattle.rules.specs.Order.{is_one_of}
 use Rattle.rules.specs.Calls.{opening, is_number}
 use Rattle.rules_parts.proofs.Addressing.{mover_same}
-use Rattle.rules.proofs.JudgeLaws.{judged-by, accepts, carried, refuses_onto}
-use Rattle.rules.proofs.Kept.{mover-kept, kept-mover}
+use Rattle.rules.proofs.JudgeLaws.{judged_by, accepts, carried, refuses_onto}
+use Rattle.rules.proofs.Kept.{mover_kept, kept_mover}
 use Rattle.rules.proofs.Keeping.{clash, idle_free, size_kept}
 use Rattle.rules.proofs.Services.{one_of}
 use Rattle.rules.proofs.Calls.{by_call, by_opening, unopened_keeps, kept_facts, facts_kept, calls_keep}
-use Rattle.rules.proofs.Leaving.{small_number, noticed-reply}
-use Rattle.rules.proofs.Numbers.{refusal-right}
-use Rattle.rules_moves.specs.Sequence.{Event, Asked, ToTape, FromTape, Ended, Made, Lost, Inserted, Renumbered, StoreLent, SlotsLent, Commanded, step, runs, is_heard, seen}
+use Rattle.rules.proofs.Leaving.{small_number, noticed_reply}
+use Rattle.rules.proofs.Numbers.{refusal_right}
+use Rattle.rules_moves.specs.Sequence.{Event, Asked, ToTape, FromTape, Ended, Made, Lost, Inserted, Renumbered, StoreLent, SlotsLent, step, runs, is_heard, seen}
 use Rattle.rules_moves.specs.Sequence.{Seen, Sized, Windowed, Sought, MoverStopped, DataStopped, Listened, Joined, Began, Paused, Wrote, Handed, Nothing}
 use Rattle.rules_moves.specs.Sequence.{Register, register_of, after, mover_asked, data_asked, joint_asked, asked}
 use Rattle.rules_moves.specs.FirstSize.{asking_window, after_open, error_told, Unready, no_window, inside, Cause, at_listen, at_connect, at_continue}
@@ -85,54 +85,54 @@ module _ (k : Kept) (l : Lent) (r : List ℕ) where
   some_size : (n : ℕ) → Accepts (λ _ _. 1 ≤ n) (verdict k l r (Request.Mover (MoverRequest.Size n)))
   unfolding verdict outcome mover_part_step mover_step set_size
   some_size n =
-      judged-by (λ _ _. 1 ≤ n) _ _ (λ _. carried (λ _ _. 1 ≤ n) (with_part k _) _ (carried (λ _ _. 1 ≤ n) (with_mover (tape_part k)) _
+      judged_by (λ _ _. 1 ≤ n) _ _ (λ _. carried (λ _ _. 1 ≤ n) (with_part k _) _ (carried (λ _ _. 1 ≤ n) (with_mover (tape_part k)) _
       (accepts (λ _ _. 1 ≤ n) _ _ _ (λ clear. let z : n ≡ 0 → ⊥ = eqb-false n 0 (clear 1) in omega arith))))
 
-  mover-sizes : (q : MoverRequest) → is_accepted (verdict k l r (Request.Mover q)) ≡ true → Sizes (mover_asked k.session.tape.position q)
+  mover_sizes : (q : MoverRequest) → is_accepted (verdict k l r (Request.Mover q)) ≡ true → Sizes (mover_asked k.session.tape.position q)
   unfolding mover_asked
-  mover-sizes (MoverRequest.Size n) h = said (1 ≤ n) _ (some_size n) h
-  mover-sizes (MoverRequest.Window offset length) h = tt
-  mover-sizes (MoverRequest.Read offset length) h = tt
-  mover-sizes MoverRequest.Continue h = tt
-  mover-sizes MoverRequest.Stop h = tt
-  mover-sizes MoverRequest.State h = tt
-  mover-sizes (MoverRequest.Listen mode address) h = tt
+  mover_sizes (MoverRequest.Size n) h = said (1 ≤ n) _ (some_size n) h
+  mover_sizes (MoverRequest.Window offset length) h = tt
+  mover_sizes (MoverRequest.Read offset length) h = tt
+  mover_sizes MoverRequest.Continue h = tt
+  mover_sizes MoverRequest.Stop h = tt
+  mover_sizes MoverRequest.State h = tt
+  mover_sizes (MoverRequest.Listen mode address) h = tt
 
-  data-sizes : (q : DataRequest) → Sizes (data_asked q)
+  data_sizes : (q : DataRequest) → Sizes (data_asked q)
   unfolding data_asked
-  data-sizes DataRequest.Stop = tt
-  data-sizes DataRequest.State = tt
-  data-sizes (DataRequest.Backup method pairs) = tt
-  data-sizes (DataRequest.Recover method pairs) = tt
-  data-sizes DataRequest.Environment = tt
-  data-sizes (DataRequest.Listen address) = tt
+  data_sizes DataRequest.Stop = tt
+  data_sizes DataRequest.State = tt
+  data_sizes (DataRequest.Backup method pairs) = tt
+  data_sizes (DataRequest.Recover method pairs) = tt
+  data_sizes DataRequest.Environment = tt
+  data_sizes (DataRequest.Listen address) = tt
 
-  joint-sizes : (q : JointRequest) → Sizes (joint_asked k.session.tape.position q)
+  joint_sizes : (q : JointRequest) → Sizes (joint_asked k.session.tape.position q)
   unfolding joint_asked
-  joint-sizes (JointRequest.DataConnect address count) = by_test Sizes (eqb address 1) _ _ (λ _. tt) (λ _. tt)
-  joint-sizes (JointRequest.MoverConnect mode address count) = tt
-  joint-sizes JointRequest.DataAbort = tt
-  joint-sizes JointRequest.MoverAbort = tt
-  joint-sizes JointRequest.MoverClose = tt
+  joint_sizes (JointRequest.DataConnect address count) = by_test Sizes (eqb address 1) _ _ (λ _. tt) (λ _. tt)
+  joint_sizes (JointRequest.MoverConnect mode address count) = tt
+  joint_sizes JointRequest.DataAbort = tt
+  joint_sizes JointRequest.MoverAbort = tt
+  joint_sizes JointRequest.MoverClose = tt
 
-  asked-sizes : (q : Request) → is_accepted (verdict k l r q) ≡ true → Sizes (asked k q)
+  asked_sizes : (q : Request) → is_accepted (verdict k l r q) ≡ true → Sizes (asked k q)
   unfolding asked
-  asked-sizes (Request.Mover q) h = mover-sizes q h
-  asked-sizes (Request.Data q) h = data-sizes q
-  asked-sizes (Request.Joint q) h = joint-sizes q
-  asked-sizes (Request.Connect q) h = tt
-  asked-sizes (Request.Config q) h = tt
-  asked-sizes (Request.Scsi q) h = tt
-  asked-sizes (Request.Tape q) h = tt
-  asked-sizes Request.Unknown h = tt
-  asked-sizes Request.Bad h = tt
+  asked_sizes (Request.Mover q) h = mover_sizes q h
+  asked_sizes (Request.Data q) h = data_sizes q
+  asked_sizes (Request.Joint q) h = joint_sizes q
+  asked_sizes (Request.Connect q) h = tt
+  asked_sizes (Request.Config q) h = tt
+  asked_sizes (Request.Scsi q) h = tt
+  asked_sizes (Request.Tape q) h = tt
+  asked_sizes Request.Unknown h = tt
+  asked_sizes Request.Bad h = tt
 
 seen_sizes : (e : Event) (w : Kept) → Sizes (seen e w)
 unfolding seen
 seen_sizes (Asked c) w =
     let r = c.ask.request in
     by_test Sizes (is_heard w c.lent r) _ _
-    (λ _. by_test Sizes (is_accepted (verdict w c.lent r (request_in r))) _ _ (asked-sizes w c.lent r (request_in r)) (λ _. tt)) (λ _. tt)
+    (λ _. by_test Sizes (is_accepted (verdict w c.lent r (request_in r))) _ _ (asked_sizes w c.lent r (request_in r)) (λ _. tt)) (λ _. tt)
 seen_sizes (ToTape l stream last) w = by_shown Sizes _ _ _ _ tt tt tt
 seen_sizes (FromTape l dest) w = by_shown Sizes _ _ _ _ tt tt tt
 seen_sizes (Ended l ok) w = tt
@@ -142,7 +142,6 @@ seen_sizes (Inserted image) w = tt
 seen_sizes (Renumbered n) w = tt
 seen_sizes (StoreLent variables) w = tt
 seen_sizes (SlotsLent slots) w = tt
-seen_sizes (Commanded room c) w = tt
 
 size_after : (r : Register) (x : Seen) → Sizes x → 1 ≤ r.size → 1 ≤ (after r x).size
 unfolding after
@@ -187,7 +186,7 @@ some slots time room image variables es =
 most : (slots : List ℕ) (time room : ℕ) (image variables : List ℕ) (es : List Event) → (after_open slots time room image variables es).session.mover.size ≤ 32768
 most slots time room image variables es =
     let s = (after_open slots time room image variables es).session in
-    (mover-kept s.mover s.tape (kept_facts s (moves_keep.kept _ es (fresh slots time room).kept)).mover).sizes
+    (mover_kept s.mover s.tape (kept_facts s (moves_keep.kept _ es (fresh slots time room).kept)).mover).sizes
 
 -- ---- what each test's number says, where it applies, a refusal says
 abbrev Tells : (ℕ → Type 0) → List Test → Type 0
@@ -221,15 +220,15 @@ module _ (m : Mover) (n : 1 ≤ m.size) where
   sized : {A : Type 0} → eqb m.size 0 ≡ true → A
   sized h = absurd (let z = eqb-true m.size 0 h in omega arith)
 
-  offset-inside : (mode : ℕ) → offset_wrong mode m.offset ≡ true → Unready m mode
+  offset_inside : (mode : ℕ) → offset_wrong mode m.offset ≡ true → Unready m mode
   unfolding offset_wrong
-  offset-inside mode =
+  offset_inside mode =
       by_test (λ (b : Bool). b ≡ true → Unready m mode) (eqb mode 0) _ _
       (λ e h. inside (eqb-true mode 0 e) (λ z. clash (not (eqb m.offset 0)) (eq_not z) h)) (λ _ h. clash false refl h)
 
-  join-tells : (q : Request) (t : Tape) (mode : ℕ) (wrong : Bool) → (Unready m mode → Cause m q) → Tells (Means q) (join_tests m t mode wrong)
+  join_tells : (q : Request) (t : Tape) (mode : ℕ) (wrong : Bool) → (Unready m mode → Cause m q) → Tells (Means q) (join_tests m t mode wrong)
   unfolding Means
-  join-tells q t mode wrong c = (
+  join_tells q t mode wrong c = (
     other q _ 6 (λ z. omega arith),
     (
       other q _ 19 (λ z. omega arith),
@@ -239,16 +238,16 @@ module _ (m : Mover) (n : 1 ≤ m.size) where
           λ h _. sized h,
           (
             λ h _. c (no_window (eqb-true m.length 0 h)),
-            (λ h _. c (offset-inside mode h), (other q _ 9 (λ z. omega arith), (other q _ 9 (λ z. omega arith), tt))),
+            (λ h _. c (offset_inside mode h), (other q _ 9 (λ z. omega arith), (other q _ 9 (λ z. omega arith), tt))),
           ),
         ),
       ),
     ),
   )
 
-  window-refuses : (q : Request) (offset length : ℕ) → Refuses (Means q) (set_window m offset length)
+  window_refuses : (q : Request) (offset length : ℕ) → Refuses (Means q) (set_window m offset length)
   unfolding set_window Means
-  window-refuses q offset length =
+  window_refuses q offset length =
       accept_told (Means q) _ _ _ (
         other q _ 19 (λ z. omega arith),
         (
@@ -276,23 +275,23 @@ abbrev First : {A : Type 0} → Reply → A → Type 0
 First reply _ = (place_of reply ≡ 0) × (number_of reply ≡ 0)
 
 module _ (k : Kept) (l : Lent) (r : List ℕ) where
-  refusal-told : (s t m c b e a : ℕ) → b ≡ 0 → is_number e ≡ true → number_in 0 (reply_bytes s t m c (Reply.Refused b e a) []) ≡ e
+  refusal_told : (s t m c b e a : ℕ) → b ≡ 0 → is_number e ≡ true → number_in 0 (reply_bytes s t m c (Reply.Refused b e a) []) ≡ e
   unfolding place_of number_of
-  refusal-told s t m c b e a h n = rw h ((numbers.numbers_told).told s t m c (Reply.Refused 0 e a) [] (small_number e n))
+  refusal_told s t m c b e a h n = rw h ((numbers.numbers_told).told s t m c (Reply.Refused 0 e a) [] (small_number e n))
 
-  refusing-told : (s : ℕ) (q : Request) (e : ℕ) → (row_of (message_word r)).before ≡ 0 → is_number e ≡ true
+  refusing_told : (s : ℕ) (q : Request) (e : ℕ) → (row_of (message_word r)).before ≡ 0 → is_number e ≡ true
       → number_in 0 (reply_bytes s l.time (message_word r) (sequence_of r) (refusing q r e) []) ≡ e
   unfolding refusing place_of number_of
-  refusing-told s q e h n =
+  refusing_told s q e h n =
       by_test (λ (reply : Reply). number_in 0 (reply_bytes s l.time (message_word r) (sequence_of r) reply []) ≡ e) (is_unread q) _ _
-      (λ _. (numbers.numbers_told).told _ _ _ _ (Reply.Header e) [] (small_number e n)) (λ _. refusal-told _ _ _ _ _ e _ h n)
+      (λ _. (numbers.numbers_told).told _ _ _ _ (Reply.Header e) [] (small_number e n)) (λ _. refusal_told _ _ _ _ _ e _ h n)
 
-  accepted-told : (reply : Reply) (d : Done) → First reply d
+  accepted_told : (reply : Reply) (d : Done) → First reply d
       → error_told (halting l.time d.dwhy d.mwhy (replying r l.time reply d.shown d.kept)) ≡ 0
-  accepted-told reply d f =
+  accepted_told reply d f =
       let a = replying r l.time reply d.shown d.kept in
       let b = noticed l.time d.dwhy (Notice.DataHalted d.dwhy) a in
-      let same = noticed-reply k l r l.time d.mwhy (Notice.MoverHalted d.mwhy) b ∙ noticed-reply k l r l.time d.dwhy (Notice.DataHalted d.dwhy) a in
+      let same = noticed_reply k l r l.time d.mwhy (Notice.MoverHalted d.mwhy) b ∙ noticed_reply k l r l.time d.dwhy (Notice.DataHalted d.dwhy) a in
       let z = f.1 in
       let told = (numbers.numbers_told).told d.kept.session.sequence l.time (message_word r) (sequence_of r) reply d.shown (omega arith) in
       ap (number_in 0) same ∙ (rw f.0 at told) ∙ z
@@ -305,23 +304,23 @@ module _ (k : Kept) (l : Lent) (r : List ℕ) where
     refused : Refuses (λ e. e ≡ 26 → Cause k.session.mover q) (verdict k l r q)
     accepted : Accepts First (verdict k l r q)
 
-  settled-explained : (q : Request) (o : Outcome Done) → (row_of (message_word r)).before ≡ 0 → Refuses (λ e. is_number e ≡ true) o
+  settled_explained : (q : Request) (o : Outcome Done) → (row_of (message_word r)).before ≡ 0 → Refuses (λ e. is_number e ≡ true) o
       → Refuses (λ e. e ≡ 26 → Cause k.session.mover q) o → Accepts First o → Explained q (settled k l.time r q o)
   unfolding settled Refuses Accepts Explained
-  settled-explained q (refuse e) h n c a z = c (sym (refusing-told _ q e h n) ∙ z)
-  settled-explained q (accept reply d) h n c a z = absurd (let w = sym (accepted-told reply d a) ∙ z in omega arith)
+  settled_explained q (refuse e) h n c a z = c (sym (refusing_told _ q e h n) ∙ z)
+  settled_explained q (accept reply d) h n c a z = absurd (let w = sym (accepted_told reply d a) ∙ z in omega arith)
 
   none_told : (q : Request) (code : ℕ) (n : Kept) → Explained q (silent code n)
   unfolding Explained number_in word choose
   none_told q code n z = absurd (omega arith)
 
-  call-explained : (row_of (message_word r)).before ≡ 0 → Asks (request_in r) → Explained (request_in r) (answered k l r)
+  call_explained : (row_of (message_word r)).before ≡ 0 → Asks (request_in r) → Explained (request_in r) (answered k l r)
   unfolding judged
-  call-explained h a =
+  call_explained h a =
       let q = request_in r in
       by_call (Explained q) k l r (λ code. none_told q code k) (none_told q 0 _)
       (by_test (Explained q) (is_close q) _ _ (λ _. none_told q 0 _)
-      (λ _. settled-explained q (verdict k l r q) h (refusal-right k l r q) a.refused a.accepted))
+      (λ _. settled_explained q (verdict k l r q) h (refusal_right k l r q) a.refused a.accepted))
 
 -- what a listen answers has its number first
 listening_first : (address : ℕ) → (place_of (listening address) ≡ 0) × (number_of (listening address) ≡ 0)
@@ -331,24 +330,24 @@ listening_first address =
 
 -- ---- what a message's body is read as, where it decodes
 module _ (P : Request → Type 0) (b : List ℕ) where
-  listen-read : ((mode address : ℕ) → P (Request.Mover (MoverRequest.Listen mode address))) → P Request.Bad
+  listen_read : ((mode address : ℕ) → P (Request.Mover (MoverRequest.Listen mode address))) → P Request.Bad
       → P (decoded (Message.Mover MoverKind.Listen) b)
   unfolding decoded mover_body
-  listen-read h z = by_test P _ _ _ (λ _. h _ _) (λ _. z)
+  listen_read h z = by_test P _ _ _ (λ _. h _ _) (λ _. z)
 
-  continue-read : P (Request.Mover MoverRequest.Continue) → P Request.Bad → P (decoded (Message.Mover MoverKind.Continue) b)
+  continue_read : P (Request.Mover MoverRequest.Continue) → P Request.Bad → P (decoded (Message.Mover MoverKind.Continue) b)
   unfolding decoded mover_body
-  continue-read h z = by_test P _ _ _ (λ _. h) (λ _. z)
+  continue_read h z = by_test P _ _ _ (λ _. h) (λ _. z)
 
-  window-read : ((offset length : ℕ) → P (Request.Mover (MoverRequest.Window offset length))) → P Request.Bad
+  window_read : ((offset length : ℕ) → P (Request.Mover (MoverRequest.Window offset length))) → P Request.Bad
       → P (decoded (Message.Mover MoverKind.Window) b)
   unfolding decoded mover_body
-  window-read h z = by_test P _ _ _ (λ _. h _ _) (λ _. z)
+  window_read h z = by_test P _ _ _ (λ _. h _ _) (λ _. z)
 
-  connect-read : ((mode address count : ℕ) → P (Request.Joint (JointRequest.MoverConnect mode address count))) → P Request.Bad
+  connect_read : ((mode address count : ℕ) → P (Request.Joint (JointRequest.MoverConnect mode address count))) → P Request.Bad
       → P (decoded (Message.Joint JointKind.MoverConnect) b)
   unfolding decoded joint_body
-  connect-read h z = by_test P _ _ _ (λ _. h _ _ _) (λ _. z)
+  connect_read h z = by_test P _ _ _ (λ _. h _ _ _) (λ _. z)
 
 -- ---- the four requests, on a session that has a record size
 module _ (k : Kept) (l : Lent) (r : List ℕ) (n : 1 ≤ k.session.mover.size) where
@@ -356,62 +355,62 @@ module _ (k : Kept) (l : Lent) (r : List ℕ) (n : 1 ≤ k.session.mover.size) w
   Mean q e = e ≡ 26 → Cause k.session.mover q
 
   -- behind the test of the login
-  logged-in : (q : Request) (o : Outcome Done) (b : Bool) → Refuses (Mean q) o → Refuses (Mean q) (judge (test b 4 ∷ []) o)
-  logged-in q o b h = refuses_told (Mean q) _ o (λ _ z. absurd (omega arith), tt) h
+  logged_in : (q : Request) (o : Outcome Done) (b : Bool) → Refuses (Mean q) o → Refuses (Mean q) (judge (test b 4 ∷ []) o)
+  logged_in q o b h = refuses_told (Mean q) _ o (λ _ z. absurd (omega arith), tt) h
 
   mover_asks : (q : MoverRequest) → Refuses (Mean (Request.Mover q)) (mover_step k.session.mover k.session.tape q l.addresses)
       → Accepts First (mover_step k.session.mover k.session.tape q l.addresses) → Asks k l r (Request.Mover q)
   unfolding verdict outcome mover_part_step
   mover_asks q h a =
       record {
-        refused = logged-in (Request.Mover q) _ _ (refuses_onto (Mean (Request.Mover q)) (with_part k _) _ (refuses_onto (Mean (Request.Mover q)) (with_mover (tape_part k)) _ h));
-        accepted = judged-by First _ _ (λ _. carried First (with_part k _) _ (carried First (with_mover (tape_part k)) _ a));
+        refused = logged_in (Request.Mover q) _ _ (refuses_onto (Mean (Request.Mover q)) (with_part k _) _ (refuses_onto (Mean (Request.Mover q)) (with_mover (tape_part k)) _ h));
+        accepted = judged_by First _ _ (λ _. carried First (with_part k _) _ (carried First (with_mover (tape_part k)) _ a));
       }
 
-  joint-asks : (q : JointRequest) → Refuses (Mean (Request.Joint q)) (joint_step k.session.source k.session.mover k.session.tape q l.made)
+  joint_asks : (q : JointRequest) → Refuses (Mean (Request.Joint q)) (joint_step k.session.source k.session.mover k.session.tape q l.made)
       → Accepts First (joint_step k.session.source k.session.mover k.session.tape q l.made) → Asks k l r (Request.Joint q)
   unfolding verdict outcome
-  joint-asks q h a =
+  joint_asks q h a =
       record {
-        refused = logged-in (Request.Joint q) _ _ (refuses_onto (Mean (Request.Joint q)) (with_ends k) _ h);
-        accepted = judged-by First _ _ (λ _. carried First (with_ends k) _ a);
+        refused = logged_in (Request.Joint q) _ _ (refuses_onto (Mean (Request.Joint q)) (with_ends k) _ h);
+        accepted = judged_by First _ _ (λ _. carried First (with_ends k) _ a);
       }
 
   -- a body that does not decode
-  bad-asks : Asks k l r Request.Bad
+  bad_asks : Asks k l r Request.Bad
   unfolding verdict outcome Refuses Accepts
-  bad-asks =
+  bad_asks =
       record {
-        refused = logged-in Request.Bad _ _ (λ z. absurd (omega arith));
-        accepted = judged-by First _ (refuse 18) (λ _. tt);
+        refused = logged_in Request.Bad _ _ (λ z. absurd (omega arith));
+        accepted = judged_by First _ (refuse 18) (λ _. tt);
       }
 
-  window-asks : (offset length : ℕ) → Asks k l r (Request.Mover (MoverRequest.Window offset length))
+  window_asks : (offset length : ℕ) → Asks k l r (Request.Mover (MoverRequest.Window offset length))
   unfolding mover_step set_window place_of number_of Means
-  window-asks offset length = mover_asks _ (window-refuses k.session.mover n _ offset length) (accepts First _ _ _ (λ _. (refl, refl)))
+  window_asks offset length = mover_asks _ (window_refuses k.session.mover n _ offset length) (accepts First _ _ _ (λ _. (refl, refl)))
 
-  listen-asks : (mode address : ℕ) → Asks k l r (Request.Mover (MoverRequest.Listen mode address))
+  listen_asks : (mode address : ℕ) → Asks k l r (Request.Mover (MoverRequest.Listen mode address))
   unfolding mover_step mover_listen place_of number_of Means
-  listen-asks mode address =
-      mover_asks _ (accept_told (Mean _) _ _ _ (join-tells k.session.mover n _ k.session.tape mode _ (at_listen mode address)))
+  listen_asks mode address =
+      mover_asks _ (accept_told (Mean _) _ _ _ (join_tells k.session.mover n _ k.session.tape mode _ (at_listen mode address)))
       (accepts First _ _ _ (λ _. listening_first address))
 
-  continue-asks : Asks k l r (Request.Mover MoverRequest.Continue)
+  continue_asks : Asks k l r (Request.Mover MoverRequest.Continue)
   unfolding mover_step mover_continue place_of number_of
-  continue-asks =
+  continue_asks =
       mover_asks _ (accept_told (Mean (Request.Mover MoverRequest.Continue)) _ _ _ (
         λ _ z. absurd (omega arith),
         (λ _ z. absurd (omega arith), (λ _ z. absurd (omega arith), (λ h _. at_continue (eqb-true k.session.mover.length 0 h), tt))),
       )) (accepts First _ _ _ (λ _. (refl, refl)))
 
-  connect-asks : (mode address count : ℕ) → Asks k l r (Request.Joint (JointRequest.MoverConnect mode address count))
+  connect_asks : (mode address count : ℕ) → Asks k l r (Request.Joint (JointRequest.MoverConnect mode address count))
   unfolding joint_step mover_connect place_of number_of Means
-  connect-asks mode address count =
+  connect_asks mode address count =
       let q = Request.Joint (JointRequest.MoverConnect mode address count) in
       let tests = join_tests k.session.mover k.session.tape mode (connect_wrong address count) in
       let listening = test (unmet address (data_awaits k.session.source) l.made) other_not_listening ∷ [] in
-      let tells = join-tells k.session.mover n q k.session.tape mode (connect_wrong address count) (at_connect mode address count) in
-      joint-asks (JointRequest.MoverConnect mode address count)
+      let tells = join_tells k.session.mover n q k.session.tape mode (connect_wrong address count) (at_connect mode address count) in
+      joint_asks (JointRequest.MoverConnect mode address count)
       (accept_told (Mean q) (tests ++ listening) _ _ (tells_more (Mean q) tests listening tells (λ _ z. absurd (omega arith), tt)))
       (accepts First _ _ _ (λ _. (refl, refl)))
 
@@ -419,32 +418,32 @@ module _ (k : Kept) (l : Lent) (r : List ℕ) (n : 1 ≤ k.session.mover.size) w
   AsksAs : ℕ → Type 0
   AsksAs message = ((row_of message).before ≡ 0) × ((body : List ℕ) → Asks k l r (decoded (message_of message) body))
 
-  each-asks : (message : ℕ) → is_one_of asking_window message ≡ true → AsksAs message
+  each_asks : (message : ℕ) → is_one_of asking_window message ≡ true → AsksAs message
   unfolding AsksAs row_of look choose
-  each-asks =
+  each_asks =
       let P = Asks k l r in
       one_of AsksAs asking_window (
-        (refl, λ b. listen-read P b listen-asks bad-asks),
+        (refl, λ b. listen_read P b listen_asks bad_asks),
         (
-          (refl, λ b. continue-read P b continue-asks bad-asks),
-          ((refl, λ b. window-read P b window-asks bad-asks), ((refl, λ b. connect-read P b connect-asks bad-asks), tt)),
+          (refl, λ b. continue_read P b continue_asks bad_asks),
+          ((refl, λ b. window_read P b window_asks bad_asks), ((refl, λ b. connect_read P b connect_asks bad_asks), tt)),
         ),
       )
 
   explained : is_one_of asking_window (message_word r) ≡ true → error_told (answered k l r) ≡ 26 → Cause k.session.mover (request_in r)
   unfolding AsksAs Explained
-  explained h z = let a = each-asks (message_word r) h in call-explained k l r a.0 (a.1 (body_of r)) z
+  explained h z = let a = each_asks (message_word r) h in call_explained k l r a.0 (a.1 (body_of r)) z
 
   -- a set window has no cause, nor has a body that does not decode
-  window-cause : (message : ℕ) (body : List ℕ) → message ≡ 0xA05 → Cause k.session.mover (decoded (message_of message) body) → ⊥
+  window_cause : (message : ℕ) (body : List ℕ) → message ≡ 0xA05 → Cause k.session.mover (decoded (message_of message) body) → ⊥
   unfolding row_of look choose
-  window-cause message body e =
+  window_cause message body e =
       let m = k.session.mover in
-      rw e (window-read (λ (q : Request). Cause m q → ⊥) body (λ offset length c. not_window m _ c offset length refl) (λ c. not_bad m _ c refl))
+      rw e (window_read (λ (q : Request). Cause m q → ⊥) body (λ offset length c. not_window m _ c offset length refl) (λ c. not_bad m _ c refl))
 
   never : message_word r ≡ 0xA05 → error_told (answered k l r) ≡ 26 → ⊥
   unfolding is_one_of choose
-  never e z = window-cause (message_word r) (body_of r) e (explained (rw e refl) z)
+  never e z = window_cause (message_word r) (body_of r) e (explained (rw e refl) z)
 
 -- ---- a size 0 handed in
 unsized_kept : (s : Session) → keeps s ≡ true → s.mover.state ≡ 0 → keeps (unsized s) ≡ true
@@ -453,7 +452,7 @@ unsized_kept s h i =
     facts_kept (unsized s)
     (record {
       source = f.source;
-      mover = kept-mover (unsized s).mover s.tape (size_kept s.mover s.tape 0 i (idle_free s.mover.state i) (omega arith) (mover-kept s.mover s.tape f.mover));
+      mover = kept_mover (unsized s).mover s.tape (size_kept s.mover s.tape 0 i (idle_free s.mover.state i) (omega arith) (mover_kept s.mover s.tape f.mover));
       drive = f.drive;
       names = f.names;
       joined = rw (mover_same s.mover (unsized s).mover refl refl) f.joined;
@@ -467,19 +466,19 @@ module _ (k : Kept) (l : Lent) (r : List ℕ) (u : Unsized k l r) where
       let w = calls_keep.refusals.requests k l r 26 u.heard v in
       w ∙ rw (e, a) refl
 
-  window-26 : (offset length : ℕ) → request_in r ≡ Request.Mover (MoverRequest.Window offset length) → busy k.session.mover.state ≡ false → Gets26 k l r
+  window_26 : (offset length : ℕ) → request_in r ≡ Request.Mover (MoverRequest.Window offset length) → busy k.session.mover.state ≡ false → Gets26 k l r
   unfolding is_unread is_locked needs_login outcome mover_part_step mover_step set_window judge onto choose
-  window-26 offset length e b = gets _ e refl (rw u.known) (rw (b, eq-eqb k.session.mover.size 0 u.size) refl)
+  window_26 offset length e b = gets _ e refl (rw u.known) (rw (b, eq-eqb k.session.mover.size 0 u.size) refl)
 
   module _ (mode : ℕ) (j : MayJoin k.session mode) where
-    listen-26 : (address : ℕ) → request_in r ≡ Request.Mover (MoverRequest.Listen mode address) → Gets26 k l r
+    listen_26 : (address : ℕ) → request_in r ≡ Request.Mover (MoverRequest.Listen mode address) → Gets26 k l r
     unfolding is_unread is_locked needs_login outcome mover_part_step mover_step mover_listen judge onto choose
-    listen-26 address e =
+    listen_26 address e =
         gets _ e refl (rw u.known) (rw (yes_not j.opened, eq_not j.idle, j.writes, eq-eqb k.session.mover.size 0 u.size) refl)
 
-    connect-26 : (address count : ℕ) → request_in r ≡ Request.Joint (JointRequest.MoverConnect mode address count) → Gets26 k l r
+    connect_26 : (address count : ℕ) → request_in r ≡ Request.Joint (JointRequest.MoverConnect mode address count) → Gets26 k l r
     unfolding is_unread is_locked needs_login outcome joint_step mover_connect judge onto choose
-    connect-26 address count e =
+    connect_26 address count e =
         gets _ e refl (rw u.known) (rw (yes_not j.opened, eq_not j.idle, j.writes, eq-eqb k.session.mover.size 0 u.size) refl)
 
 handed_in : HandedIn
@@ -487,9 +486,9 @@ handed_in =
     record {
       kept = unsized_kept;
       never = λ s h i image variables l r z. calls_keep.never (held (unsized s) image variables) l r (unsized_kept s h i) z;
-      window = λ k l r offset length u e b. window-26 k l r u offset length e b;
-      listen = λ k l r mode address u e j. listen-26 k l r u mode j address e;
-      connect = λ k l r mode address count u e j. connect-26 k l r u mode j address count e;
+      window = λ k l r offset length u e b. window_26 k l r u offset length e b;
+      listen = λ k l r mode address u e j. listen_26 k l r u mode j address e;
+      connect = λ k l r mode address count u e j. connect_26 k l r u mode j address count e;
     }
 
 pub first_size : FirstSize

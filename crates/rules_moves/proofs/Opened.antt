@@ -23,71 +23,71 @@ pub record SameOpen (t : Tape) (mv : Move) : Type 0 where
   pub writable : mv.tape.writable ≡ t.writable
 
 module _ (d : Data) (m : Mover) (t : Tape) where
-  ofStep : Step Move → Type 0
-  ofStep st = SameOpen t st.gives
+  of_step : Step Move → Type 0
+  of_step st = SameOpen t st.gives
 
-  ofHanding : Handing → Type 0
-  ofHanding h = SameOpen t h.move
+  of_handing : Handing → Type 0
+  of_handing h = SameOpen t h.move
 
-  halts-open : (dwhy mwhy : ℕ) → SameOpen t (halts_with dwhy mwhy d m t)
+  halts_open : (dwhy mwhy : ℕ) → SameOpen t (halts_with dwhy mwhy d m t)
   unfolding halts_with
-  halts-open dwhy mwhy = by_test (SameOpen t) (by_tcp m.address) _ _ (λ _. record { opened = refl; writable = refl }) (λ _. record { opened = refl; writable = refl })
+  halts_open dwhy mwhy = by_test (SameOpen t) (by_tcp m.address) _ _ (λ _. record { opened = refl; writable = refl }) (λ _. record { opened = refl; writable = refl })
 
-  filling-open : (l s : List ℕ) (last : Bool) → ofStep (filling d m t l s last)
-  unfolding filling ofStep
-  filling-open l s last =
-      by_test ofStep (window_used m.size m.offset m.length m.moved) _ _ (λ _. record { opened = refl; writable = refl })
-      (λ _. by_test ofStep (scant last (length s) m.size) _ _ (λ _. record { opened = refl; writable = refl })
-      (λ _. by_test ofStep (not (room_for l t.position m.size)) _ _ (λ _. record { opened = refl; writable = refl })
+  filling_open : (l s : List ℕ) (last : Bool) → of_step (filling d m t l s last)
+  unfolding filling of_step
+  filling_open l s last =
+      by_test of_step (window_used m.size m.offset m.length m.moved) _ _ (λ _. record { opened = refl; writable = refl })
+      (λ _. by_test of_step (scant last (length s) m.size) _ _ (λ _. record { opened = refl; writable = refl })
+      (λ _. by_test of_step (not (room_for l t.position m.size)) _ _ (λ _. record { opened = refl; writable = refl })
       (λ _. record { opened = refl; writable = refl })))
 
-  pub to-open : (l s : List ℕ) (last : Bool) → SameOpen t (to_tape d m t l s last).gives
-  unfolding to_tape ofStep
-  to-open l s last =
-      by_test ofStep (idle 0 1 d m) _ _ (λ _. record { opened = refl; writable = refl })
-      (λ _. by_test ofStep (faulty l t.position) _ _ (λ _. halts-open 4 5)
-      (λ _. by_test ofStep (stream_ends last (length s)) _ _ (λ _. halts-open 1 1) (λ _. filling-open l s last)))
+  pub to_open : (l s : List ℕ) (last : Bool) → SameOpen t (to_tape d m t l s last).gives
+  unfolding to_tape of_step
+  to_open l s last =
+      by_test of_step (idle 0 1 d m) _ _ (λ _. record { opened = refl; writable = refl })
+      (λ _. by_test of_step (faulty l t.position) _ _ (λ _. halts_open 4 5)
+      (λ _. by_test of_step (stream_ends last (length s)) _ _ (λ _. halts_open 1 1) (λ _. filling_open l s last)))
 
-  reading-open : (i : ℕ) (l b : List ℕ) → ofHanding (reading i d m t l b)
-  unfolding reading ofHanding
-  reading-open i l b = by_test ofHanding (not (eqb (entry_len l i) m.size)) _ _ (λ _. halts-open 4 5) (λ _. record { opened = refl; writable = refl })
+  reading_open : (i : ℕ) (l b : List ℕ) → of_handing (reading i d m t l b)
+  unfolding reading of_handing
+  reading_open i l b = by_test of_handing (not (eqb (entry_len l i) m.size)) _ _ (λ _. halts_open 4 5) (λ _. record { opened = refl; writable = refl })
 
-  found-open : (f : Found) (l b : List ℕ) → ofHanding (on_found f d m t l b)
-  unfolding on_found ofHanding
-  found-open (Found.Target i) l b = reading-open i l b
-  found-open (Found.Mark j) l b = record { opened = refl; writable = refl }
-  found-open Found.End l b = record { opened = refl; writable = refl }
+  found_open : (f : Found) (l b : List ℕ) → of_handing (on_found f d m t l b)
+  unfolding on_found of_handing
+  found_open (Found.Target i) l b = reading_open i l b
+  found_open (Found.Mark j) l b = record { opened = refl; writable = refl }
+  found_open Found.End l b = record { opened = refl; writable = refl }
 
-  seeking-open : (l b : List ℕ) → ofHanding (seeking d m t l b)
-  unfolding seeking ofHanding
-  seeking-open l b =
-      by_test ofHanding (outside m.seek m.offset m.length) _ _ (λ _. record { opened = refl; writable = refl }) (λ _. found-open (sought m l) l b)
+  seeking_open : (l b : List ℕ) → of_handing (seeking d m t l b)
+  unfolding seeking of_handing
+  seeking_open l b =
+      by_test of_handing (outside m.seek m.offset m.length) _ _ (λ _. record { opened = refl; writable = refl }) (λ _. found_open (sought m l) l b)
 
   pub from_open : (l b : List ℕ) → SameOpen t (from_tape d m t l b).move
-  unfolding from_tape ofHanding
+  unfolding from_tape of_handing
   from_open l b =
-      by_test ofHanding (idle 1 2 d m) _ _ (λ _. record { opened = refl; writable = refl })
-      (λ _. by_test ofHanding (faulty l t.position) _ _ (λ _. halts-open 4 5)
-      (λ _. by_test ofHanding (eqb m.left 0) _ _ (λ _. record { opened = refl; writable = refl })
-      (λ _. by_test ofHanding (eqb (length b) 0) _ _ (λ _. record { opened = refl; writable = refl }) (λ _. seeking-open l b))))
+      by_test of_handing (idle 1 2 d m) _ _ (λ _. record { opened = refl; writable = refl })
+      (λ _. by_test of_handing (faulty l t.position) _ _ (λ _. halts_open 4 5)
+      (λ _. by_test of_handing (eqb m.left 0) _ _ (λ _. record { opened = refl; writable = refl })
+      (λ _. by_test of_handing (eqb (length b) 0) _ _ (λ _. record { opened = refl; writable = refl }) (λ _. seeking_open l b))))
 
-  pub end-open : (ok : Bool) → SameOpen t (method_end ok d m t)
+  pub end_open : (ok : Bool) → SameOpen t (method_end ok d m t)
   unfolding method_end
-  end-open ok =
+  end_open ok =
       by_test (SameOpen t) (eqb d.state 1) _ _
       (λ _. by_test (SameOpen t) (by_tcp d.address) _ _ (λ _. record { opened = refl; writable = refl }) (λ _. record { opened = refl; writable = refl }))
       (λ _. record { opened = refl; writable = refl })
 
-  pub made-open : (mover : Bool) → SameOpen t (made_at mover d m t)
+  pub made_open : (mover : Bool) → SameOpen t (made_at mover d m t)
   unfolding made_at
-  made-open true =
+  made_open true =
       by_test (SameOpen t) (at_tcp m.address (eqb m.state 1)) _ _ (λ _. record { opened = refl; writable = refl }) (λ _. record { opened = refl; writable = refl })
-  made-open false =
+  made_open false =
       by_test (SameOpen t) (at_tcp d.address (eqb d.state 3)) _ _ (λ _. record { opened = refl; writable = refl }) (λ _. record { opened = refl; writable = refl })
 
-  pub lost-open : (mover : Bool) → SameOpen t (lost_at mover d m t)
+  pub lost_open : (mover : Bool) → SameOpen t (lost_at mover d m t)
   unfolding lost_at
-  lost-open true =
+  lost_open true =
       by_test (SameOpen t) (at_tcp m.address (mover_joined m.state)) _ _ (λ _. record { opened = refl; writable = refl }) (λ _. record { opened = refl; writable = refl })
-  lost-open false =
+  lost_open false =
       by_test (SameOpen t) (at_tcp d.address (data_joined d.state)) _ _ (λ _. record { opened = refl; writable = refl }) (λ _. record { opened = refl; writable = refl })

@@ -19,22 +19,21 @@ use Rattle.rules_parts.specs.Names.{least_room}
 use Rattle.rules.specs.Relation.{drive_wrong, keeps}
 use Rattle.rules.specs.Answer.{Kept, Lent, Answered, guarded, noticed, silent}
 use Rattle.rules.specs.Calls.{Unmoved}
-use Rattle.rules.proofs.Kept.{mover-kept}
+use Rattle.rules.proofs.Kept.{mover_kept}
 use Rattle.rules.proofs.Keeping.{clash}
 use Rattle.rules.proofs.Guarding.{by_guard}
 use Rattle.rules.proofs.Calls.{kept_facts, facts_kept, calls_keep}
-use Rattle.rules.proofs.Rmt.{rmt_holds}
 use Rattle.rules_moves.specs.declared.Move.{Move}
 use Rattle.rules_moves.specs.Moves.{Handing, to_tape, from_tape, method_end, made_at, lost_at}
 use Rattle.rules_moves.specs.Events.{Moving, idling, announced, moved, moved_to_tape, moved_from_tape, method_ended, connection_made, connection_lost}
-use Rattle.rules_moves.specs.Sequence.{Event, Asked, ToTape, FromTape, Ended, Made, Lost, Inserted, Renumbered, StoreLent, SlotsLent, Commanded, renumbered, may_lend, list_for, with_list, step, runs, Wrote, Handed, parts_register, register_of, after, FitsRegister, Legitimate}
-use Rattle.rules_moves.specs.Sequence.{made_shown, to_tape_shown, from_tape_shown, seen, image_after, dest_after, count_of, ToTapeLeaves, FromTapeLeaves, CommandDoes, Leaves, Inside, finished, more, WindowHolds}
+use Rattle.rules_moves.specs.Sequence.{Event, Asked, ToTape, FromTape, Ended, Made, Lost, Inserted, Renumbered, StoreLent, SlotsLent, renumbered, may_lend, list_for, with_list, step, runs, Wrote, Handed, register_of, after, FitsRegister, Legitimate}
+use Rattle.rules_moves.specs.Sequence.{made_shown, to_tape_shown, from_tape_shown, seen, image_after, dest_after, count_of, ToTapeLeaves, FromTapeLeaves, Leaves, Inside, finished, more, WindowHolds}
 use Rattle.rules_moves.specs.Keeping.{Idle, Guards, Sounds, MovesKeep}
 use Rattle.rules_moves.specs.SessionLeft.{SameRest}
-use Rattle.rules_moves.proofs.Asking.{asked-left}
-use Rattle.rules_moves.proofs.Opened.{to-open, from_open, end-open, made-open, lost-open}
+use Rattle.rules_moves.proofs.Asking.{asked_left}
+use Rattle.rules_moves.proofs.Opened.{to_open, from_open, end_open, made_open, lost_open}
 use Rattle.rules_moves.proofs.SessionLeft.{announced_left}
-use Rattle.rules_moves.proofs.Moving.{PartsKept, shown-still, ToTurn, to-turn, FromTurn, from-turn, end_turn, shown-same, made-turn, lost-turn}
+use Rattle.rules_moves.proofs.Moving.{PartsKept, shown_still, ToTurn, to_turn, FromTurn, from_turn, end_turn, shown_same, made_turn, lost_turn}
 
 -- ---- an answer that carries a move's parts
 pub record Carries (mv : Move) (image : List ℕ) (a : Answered) : Type 0 where
@@ -114,13 +113,13 @@ module _ (w : Kept) (stream : List ℕ) (h : keeps w.session ≡ true) where
   to_idle : (code : ℕ) → ToCall w stream (idling code w [])
   unfolding after image_after count_of
   to_idle code =
-      let e = shown-still w.session.mover (Wrote w.session.mover.size 0) in
+      let e = shown_still w.session.mover (Wrote w.session.mover.size 0) in
       record { fits = rw e tt; register = rw e refl; leaves = record { image = rw e refl; taken = rw e refl; there = omega arith }; kept = h; sound = λ k. k }
 
-  to-moved : (st : Step Move) (a : Answered) → Carries st.gives st.image a → SameRest w a.next
+  to_moved : (st : Step Move) (a : Answered) → Carries st.gives st.image a → SameRest w a.next
       → ToTurn w.session.source w.session.mover w.session.tape w.image stream st
       → ToCall w stream (record { answer = a; count = st.gives.count; dest = [] })
-  to-moved st a c rest t =
+  to_moved st a c rest t =
       record {
         fits = rw c.mover t.turn.fits;
         register = rw (c.source, c.mover) t.turn.register;
@@ -129,15 +128,15 @@ module _ (w : Kept) (stream : List ℕ) (h : keeps w.session ≡ true) where
         sound = λ k. rw c.image_end (t.sound k);
       }
 
-  to-call : (l : Lent) (last : Bool) → ToCall w stream (moved_to_tape w l stream last)
+  to_call : (l : Lent) (last : Bool) → ToCall w stream (moved_to_tape w l stream last)
   unfolding moved_to_tape
-  to-call l last =
+  to_call l last =
       let s = w.session in
       let st = to_tape s.source s.mover s.tape w.image stream last in
       by_guard (ToCall w stream) s l.room _ _ to_idle
-      (λ _. to-moved st (announced w l st.gives st.image) (announced_carries w l st.gives st.image)
-      (announced_left w l st.gives st.image (to-open s.source s.mover s.tape w.image stream last))
-      (to-turn s.source s.mover s.tape w.image stream (parts_kept s h) last))
+      (λ _. to_moved st (announced w l st.gives st.image) (announced_carries w l st.gives st.image)
+      (announced_left w l st.gives st.image (to_open s.source s.mover s.tape w.image stream last))
+      (to_turn s.source s.mover s.tape w.image stream (parts_kept s h) last))
 
 -- ---- a move from tape, as a call
 record FromCall (w : Kept) (dest : List ℕ) (e : Moving) : Type 0 where
@@ -150,7 +149,7 @@ module _ (w : Kept) (dest : List ℕ) (h : keeps w.session ≡ true) where
   from_idle : (code : ℕ) → FromCall w dest (idling code w dest)
   unfolding after dest_after count_of
   from_idle code =
-      let e = shown-still w.session.mover (Handed 0) in
+      let e = shown_still w.session.mover (Handed 0) in
       record {
         fits = rw e tt;
         register = rw e refl;
@@ -158,10 +157,10 @@ module _ (w : Kept) (dest : List ℕ) (h : keeps w.session ≡ true) where
         kept = h;
       }
 
-  from-moved : (st : Handing) (a : Answered) → Carries st.move w.image a → SameRest w a.next
+  from_moved : (st : Handing) (a : Answered) → Carries st.move w.image a → SameRest w a.next
       → FromTurn w.session.source w.session.mover w.session.tape w.image dest st
       → FromCall w dest (record { answer = a; count = st.move.count; dest = st.dest })
-  from-moved st a c rest t =
+  from_moved st a c rest t =
       record {
         fits = rw c.mover t.turn.fits;
         register = rw (c.source, c.mover) t.turn.register;
@@ -175,15 +174,15 @@ module _ (w : Kept) (dest : List ℕ) (h : keeps w.session ≡ true) where
         kept = carried_kept w h st.move w.image a c rest t.kept;
       }
 
-  from-call : (l : Lent) → FromCall w dest (moved_from_tape w l dest)
+  from_call : (l : Lent) → FromCall w dest (moved_from_tape w l dest)
   unfolding moved_from_tape
-  from-call l =
+  from_call l =
       let s = w.session in
       let st = from_tape s.source s.mover s.tape w.image dest in
       by_guard (FromCall w dest) s l.room _ _ from_idle
-      (λ _. from-moved st (announced w l st.move w.image) (announced_carries w l st.move w.image)
+      (λ _. from_moved st (announced w l st.move w.image) (announced_carries w l st.move w.image)
       (announced_left w l st.move w.image (from_open s.source s.mover s.tape w.image dest))
-      (from-turn s.source s.mover s.tape w.image dest (parts_kept s h)))
+      (from_turn s.source s.mover s.tape w.image dest (parts_kept s h)))
 
 -- ---- the method's end, as a call
 record EndCall (w : Kept) (a : Answered) : Type 0 where
@@ -197,7 +196,7 @@ end_call w h l ok =
     let s = w.session in
     let mv = method_end ok s.source s.mover s.tape in
     let c = announced_carries w l mv w.image in
-    let rest = announced_left w l mv w.image (end-open s.source s.mover s.tape ok) in
+    let rest = announced_left w l mv w.image (end_open s.source s.mover s.tape ok) in
     let t = end_turn ok s.source s.mover s.tape (parts_kept s h) in
     by_guard (EndCall w) s l.room _ _ (λ _. record { register = refl; image_end = refl; kept = h })
     (λ _. record { register = rw (c.source, c.mover) t.register; image_end = c.image_end; kept = carried_kept w h mv w.image _ c rest t.kept })
@@ -215,9 +214,9 @@ made_call w h l mover =
     let s = w.session in
     let mv = made_at mover s.source s.mover s.tape in
     let c = announced_carries w l mv w.image in
-    let rest = announced_left w l mv w.image (made-open s.source s.mover s.tape mover) in
-    let t = made-turn s.source s.mover s.tape (parts_kept s h) mover in
-    let e = shown-same s.source s.mover s.tape (parts_kept s h) in
+    let rest = announced_left w l mv w.image (made_open s.source s.mover s.tape mover) in
+    let t = made_turn s.source s.mover s.tape (parts_kept s h) mover in
+    let e = shown_same s.source s.mover s.tape (parts_kept s h) in
     by_guard (MadeCall w) s l.room _ _ (λ _. record { register = rw e refl; fits = rw e tt; image_end = refl; kept = h })
     (λ _. record {
       register = rw (c.source, c.mover) t.register;
@@ -232,8 +231,8 @@ lost_call w h l mover =
     let s = w.session in
     let mv = lost_at mover s.source s.mover s.tape in
     let c = announced_carries w l mv w.image in
-    let rest = announced_left w l mv w.image (lost-open s.source s.mover s.tape mover) in
-    let t = lost-turn s.source s.mover s.tape (parts_kept s h) mover in
+    let rest = announced_left w l mv w.image (lost_open s.source s.mover s.tape mover) in
+    let t = lost_turn s.source s.mover s.tape (parts_kept s h) mover in
     by_guard (EndCall w) s l.room _ _ (λ _. record { register = refl; image_end = refl; kept = h })
     (λ _. record { register = rw (c.source, c.mover) t.register; image_end = c.image_end; kept = carried_kept w h mv w.image _ c rest t.kept })
 
@@ -309,17 +308,6 @@ lent_kept slots s h =
       joined = f.joined;
     })
 
--- ---- a command of the remote tape protocol
-command_does : (w : Kept) (room : ℕ) (c : List ℕ) → CommandDoes room c w (step (Commanded room c) w)
-unfolding step
-command_does w room c =
-    record {
-      leaves = rmt_holds.left w room c;
-      as_tape = λ l r q same heard is says.
-          let a = rmt_holds.as_tape w l r c q heard is says in
-          (rw (← same) a.tape, rw (← same) a.image);
-    }
-
 -- ---- any call
 pub record Stepped (w : Kept) (e : Event) : Type 0 where
   pub fits : FitsRegister (register_of w.session) (seen e w)
@@ -332,7 +320,7 @@ pub stepped : (w : Kept) → keeps w.session ≡ true → (e : Event) → Steppe
 unfolding seen step after
 stepped w h (Asked c) =
     let r = c.ask.request in
-    let a = asked-left w c.lent r in
+    let a = asked_left w c.lent r in
     record {
       fits = a.1;
       register = a.0;
@@ -341,10 +329,10 @@ stepped w h (Asked c) =
       sound = λ k _. calls_keep.sound w c.lent r k;
     }
 stepped w h (ToTape l stream last) =
-    let t = to-call w stream h l last in
+    let t = to_call w stream h l last in
     record { fits = t.fits; register = t.register; leaves = t.leaves; kept = t.kept; sound = λ k _. t.sound k }
 stepped w h (FromTape l dest) =
-    let t = from-call w dest h l in
+    let t = from_call w dest h l in
     record { fits = t.fits; register = t.register; leaves = t.leaves; kept = t.kept; sound = λ k _. rw t.leaves.image k }
 stepped w h (Ended l ok) =
     let t = end_call w h l ok in
@@ -388,18 +376,9 @@ stepped w h (SlotsLent slots) =
       kept = lent_kept slots w.session h;
       sound = λ k _. k;
     }
-stepped w h (Commanded room c) =
-    let f = rmt_holds.left w room c in
-    record {
-      fits = tt;
-      register = λ i. parts_register (f.source i) (f.mover i);
-      leaves = command_does w room c;
-      kept = rmt_holds.kept w room c h;
-      sound = λ k _. rmt_holds.sound w room c k;
-    }
 
 pub legitimate : (s : Session) → keeps s ≡ true → Legitimate (register_of s)
-legitimate s h = (mover-kept s.mover s.tape (kept_facts s h).mover).window
+legitimate s h = (mover_kept s.mover s.tape (kept_facts s h).mover).window
 
 pub window_holds : WindowHolds
 window_holds w h [] = finished refl

@@ -3,14 +3,13 @@ use Prim.Native.Nat.{ℕ}
 use mathlib.Core.List.{List}
 use mathlib.Core.Path.{◌≡◌, refl}
 use Rattle.rules.specs.Answer.{Kept, Lent}
-use Rattle.rules.proofs.Calls.{noticed-holds}
-use Rattle.rules.proofs.Rmt.{rmt_holds}
+use Rattle.rules.proofs.Calls.{noticed_holds}
 use Rattle.rules_moves.specs.declared.Move.{Move}
 use Rattle.rules_moves.specs.Events.{announced}
-use Rattle.rules_moves.specs.Sequence.{Event, Asked, ToTape, FromTape, Ended, Made, Lost, Inserted, Renumbered, StoreLent, SlotsLent, Commanded, step}
+use Rattle.rules_moves.specs.Sequence.{Event, Asked, ToTape, FromTape, Ended, Made, Lost, Inserted, Renumbered, StoreLent, SlotsLent, step}
 use Rattle.rules_moves.specs.StoreLeft.{IsUnlent, StoreLeft}
 use Rattle.rules_moves.proofs.Opened.{SameOpen}
-use Rattle.rules_moves.proofs.Unasked.{to-tape-holds, from-tape-holds, ended-holds, made_holds, lost-holds}
+use Rattle.rules_moves.proofs.Unasked.{to_tape_holds, from_tape_holds, ended_holds, made_holds, lost_holds}
 
 module _ (k : Kept) where
   Left : Kept → Type 0
@@ -19,22 +18,21 @@ module _ (k : Kept) where
   announced_left : (l : Lent) (mv : Move) (image : List ℕ) → SameOpen k.session.tape mv → Left (announced k l mv image).next
   unfolding Left
   announced_left l mv image _ =
-      let told = noticed-holds Left (λ x _ h. h) (λ x h. h) l.time in
+      let told = noticed_holds Left (λ x _ h. h) (λ x h. h) l.time in
       told _ _ _ (told _ _ _ (told _ _ _ refl))
 
   left : (e : Event) → IsUnlent e → Left (step e k)
   unfolding step Left
   left (Asked c) o = absurd o
-  left (ToTape l stream last) o = to-tape-holds Left k refl announced_left l stream last
-  left (FromTape l dest) o = from-tape-holds Left k refl announced_left l dest
-  left (Ended l ok) o = ended-holds Left k refl announced_left l ok
+  left (ToTape l stream last) o = to_tape_holds Left k refl announced_left l stream last
+  left (FromTape l dest) o = from_tape_holds Left k refl announced_left l dest
+  left (Ended l ok) o = ended_holds Left k refl announced_left l ok
   left (Made l mover) o = made_holds Left k refl announced_left l mover
-  left (Lost l mover) o = lost-holds Left k refl announced_left l mover
+  left (Lost l mover) o = lost_holds Left k refl announced_left l mover
   left (Inserted image) o = refl
   left (Renumbered n) o = refl
   left (StoreLent variables) o = absurd o
   left (SlotsLent slots) o = refl
-  left (Commanded room c) o = (rmt_holds.left k room c).variables
 
 pub store_left : StoreLeft
 unfolding Left

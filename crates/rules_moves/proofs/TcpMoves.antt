@@ -37,27 +37,27 @@ module _ (m : Mover) (t : Tape) (a : m.address ≡ 1) where
     alike : (r q : Move) → r.mover ≡ q.mover → r.tape ≡ q.tape → r.count ≡ q.count → r.pause ≡ q.pause → r.mwhy ≡ q.mwhy → r.dwhy ≡ q.dwhy → SameMove r q
     alike r q e1 e2 e3 e4 e5 e6 = record { mover = e1; tape = e2; count = e3; pause = e4; mwhy = e5; dwhy = e6 }
 
-    halts-alike : (dwhy mwhy : ℕ) → SameMove (halts_with dwhy mwhy d m t) (halts_with dwhy mwhy c m t)
-    halts-alike dwhy mwhy =
+    halts_alike : (dwhy mwhy : ℕ) → SameMove (halts_with dwhy mwhy d m t) (halts_with dwhy mwhy c m t)
+    halts_alike dwhy mwhy =
         let p = down d dwhy mwhy in
         let q = down c dwhy mwhy in
         alike _ _ (p.mover ∙ sym q.mover) (p.tape ∙ sym q.tape) (p.quiet.count ∙ sym q.quiet.count) (p.quiet.pause ∙ sym q.quiet.pause)
         (p.mwhy ∙ sym q.mwhy) (p.dwhy ∙ sym q.dwhy)
 
-    idle-alike : (mode operation : ℕ) → idle mode operation d m ≡ idle mode operation c m
+    idle_alike : (mode operation : ℕ) → idle mode operation d m ≡ idle mode operation c m
     unfolding idle choose
-    idle-alike mode operation = rw (eq-eqb m.address 1 a) refl
+    idle_alike mode operation = rw (eq-eqb m.address 1 a) refl
 
     Steps : Step Move → Step Move → Type 0
     Steps x y = SameMove x.gives y.gives × (x.image ≡ y.image)
 
-    to-alike : (l s : List ℕ) (last : Bool) → Steps (to_tape d m t l s last) (to_tape c m t l s last)
+    to_alike : (l s : List ℕ) (last : Bool) → Steps (to_tape d m t l s last) (to_tape c m t l s last)
     unfolding to_tape filling Steps
-    to-alike l s last =
-        rw (idle-alike 0 1)
+    to_alike l s last =
+        rw (idle_alike 0 1)
         (both Steps _ _ _ _ _ (alike _ _ refl refl refl refl refl refl, refl)
-        (both Steps _ _ _ _ _ (halts-alike 4 5, refl)
-        (both Steps _ _ _ _ _ (halts-alike 1 1, refl)
+        (both Steps _ _ _ _ _ (halts_alike 4 5, refl)
+        (both Steps _ _ _ _ _ (halts_alike 1 1, refl)
         (both Steps _ _ _ _ _ (alike _ _ refl refl refl refl refl refl, refl)
         (both Steps _ _ _ _ _ (alike _ _ refl refl refl refl refl refl, refl)
         (both Steps _ _ _ _ _ (alike _ _ refl refl refl refl refl refl, refl) (alike _ _ refl refl refl refl refl refl, refl)))))))
@@ -67,39 +67,39 @@ module _ (m : Mover) (t : Tape) (a : m.address ≡ 1) where
 
     found_alike : (f : Found) (l b : List ℕ) → Hands (on_found f d m t l b) (on_found f c m t l b)
     unfolding on_found reading Hands
-    found_alike (Found.Target i) l b = both Hands _ _ _ _ _ (halts-alike 4 5, refl) (alike _ _ refl refl refl refl refl refl, refl)
+    found_alike (Found.Target i) l b = both Hands _ _ _ _ _ (halts_alike 4 5, refl) (alike _ _ refl refl refl refl refl refl, refl)
     found_alike (Found.Mark j) l b = (alike _ _ refl refl refl refl refl refl, refl)
     found_alike Found.End l b = (alike _ _ refl refl refl refl refl refl, refl)
 
-    from-alike : (l b : List ℕ) → Hands (from_tape d m t l b) (from_tape c m t l b)
+    from_alike : (l b : List ℕ) → Hands (from_tape d m t l b) (from_tape c m t l b)
     unfolding from_tape seeking Hands
-    from-alike l b =
-        rw (idle-alike 1 2)
+    from_alike l b =
+        rw (idle_alike 1 2)
         (both Hands _ _ _ _ _ (alike _ _ refl refl refl refl refl refl, refl)
-        (both Hands _ _ _ _ _ (halts-alike 4 5, refl)
+        (both Hands _ _ _ _ _ (halts_alike 4 5, refl)
         (both Hands _ _ _ _ _ (alike _ _ refl refl refl refl refl refl, refl)
         (both Hands _ _ _ _ _ (alike _ _ refl refl refl refl refl refl, refl)
         (both Hands _ _ _ _ _ (alike _ _ refl refl refl refl refl refl, refl) (found_alike (sought m l) l b))))))
 
   module _ (d : Data) (s : m.state ≡ 2) (mode operation : ℕ) (e : m.mode ≡ mode) where
-    runs-now : idle mode operation d m ≡ false
+    runs_now : idle mode operation d m ≡ false
     unfolding idle choose
-    runs-now = rw (eq-eqb m.state 2 s, eq-eqb m.mode mode e, eq-eqb m.address 1 a) refl
+    runs_now = rw (eq-eqb m.state 2 s, eq-eqb m.mode mode e, eq-eqb m.address 1 a) refl
 
 to_faults : (d : Data) (m : Mover) (t : Tape) (l s : List ℕ) (last : Bool) → m.address ≡ 1 → m.state ≡ 2 → m.mode ≡ 0 → faulty l t.position ≡ true
     → MoverDown 5 d m t (to_tape d m t l s last).gives
 unfolding to_tape choose
-to_faults d m t l s last a e o f = rw (runs-now m t a d e 0 1 o, f) (down m t a d 4 5)
+to_faults d m t l s last a e o f = rw (runs_now m t a d e 0 1 o, f) (down m t a d 4 5)
 
 to_ends : (d : Data) (m : Mover) (t : Tape) (l s : List ℕ) (last : Bool) → m.address ≡ 1 → m.state ≡ 2 → m.mode ≡ 0 → faulty l t.position ≡ false
     → stream_ends last (length s) ≡ true → MoverDown 1 d m t (to_tape d m t l s last).gives
 unfolding to_tape choose
-to_ends d m t l s last a e o f n = rw (runs-now m t a d e 0 1 o, f, n) (down m t a d 1 1)
+to_ends d m t l s last a e o f n = rw (runs_now m t a d e 0 1 o, f, n) (down m t a d 1 1)
 
 from_faults : (d : Data) (m : Mover) (t : Tape) (l b : List ℕ) → m.address ≡ 1 → m.state ≡ 2 → m.mode ≡ 1 → faulty l t.position ≡ true
     → MoverDown 5 d m t (from_tape d m t l b).move
 unfolding from_tape choose
-from_faults d m t l b a e o f = rw (runs-now m t a d e 1 2 o, f) (down m t a d 4 5)
+from_faults d m t l b a e o f = rw (runs_now m t a d e 1 2 o, f) (down m t a d 4 5)
 
 other_length : (i : ℕ) (d : Data) (m : Mover) (t : Tape) (l b : List ℕ) → m.address ≡ 1 → (entry_len l i ≡ m.size → ⊥)
     → MoverDown 5 d m t (reading i d m t l b).move
@@ -124,8 +124,8 @@ moving : TcpMoving
 unfolding Steps Hands
 moving =
     record {
-      to_asks = λ d c m t l s last a. to-alike m t a d c l s last;
-      from_asks = λ d c m t l b a. from-alike m t a d c l b;
+      to_asks = λ d c m t l s last a. to_alike m t a d c l s last;
+      from_asks = λ d c m t l b a. from_alike m t a d c l b;
       to_faults = to_faults;
       to_ends = to_ends;
       from_faults = from_faults;

@@ -9,7 +9,7 @@ use Rattle.wire_requests.specs.declared.Request.TheVariants as Request
 use Rattle.rules.specs.Relation.{keeps}
 use Rattle.rules.specs.Answer.{Kept, request_in}
 use Rattle.rules_moves.specs.FirstSize.{after_open}
-use Rattle.rules_moves.specs.Sequence.{Event, Asked, ToTape, FromTape, Ended, Made, Lost, Inserted, Renumbered, StoreLent, SlotsLent, Commanded, step, runs}
+use Rattle.rules_moves.specs.Sequence.{Event, Asked, ToTape, FromTape, Ended, Made, Lost, Inserted, Renumbered, StoreLent, SlotsLent, step, runs}
 
 -- ---- whose a call is
 unfoldable pub joint_of_mover : JointRequest → Bool
@@ -42,7 +42,7 @@ SourceAsks (Request.Tape q) = ⊥
 SourceAsks Request.Unknown = ⊥
 SourceAsks Request.Bad = ⊥
 
--- the moves are the mover's, the method's end is the data end's. Commands of the remote tape protocol are of the tape, which is with the mover
+-- the moves are the mover's, the method's end is the data end's
 abbrev pub OfMover : Event → Type 0
 OfMover (Asked c) = MoverAsks (request_in c.ask.request)
 OfMover (ToTape l stream last) = Unit {0}
@@ -54,7 +54,6 @@ OfMover (Inserted image) = ⊥
 OfMover (Renumbered n) = ⊥
 OfMover (StoreLent variables) = ⊥
 OfMover (SlotsLent slots) = ⊥
-OfMover (Commanded room c) = Unit {0}
 
 abbrev pub OfSource : Event → Type 0
 OfSource (Asked c) = SourceAsks (request_in c.ask.request)
@@ -67,7 +66,6 @@ OfSource (Inserted image) = ⊥
 OfSource (Renumbered n) = ⊥
 OfSource (StoreLent variables) = ⊥
 OfSource (SlotsLent slots) = ⊥
-OfSource (Commanded room c) = ⊥
 
 -- ---- calls of one end, each while that end is by TCP
 abbrev pub MoverAlong : Kept → List Event → Type 0

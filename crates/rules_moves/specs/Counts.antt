@@ -9,7 +9,7 @@ use Rattle.rules_parts.specs.Parts.{wrapped}
 use Rattle.rules.specs.MoverService.{record_number}
 use Rattle.rules.specs.Relation.{keeps}
 use Rattle.rules.specs.Answer.{Kept}
-use Rattle.rules_moves.specs.Sequence.{Event, Asked, ToTape, FromTape, Ended, Made, Lost, Inserted, Renumbered, StoreLent, SlotsLent, Commanded, step, runs}
+use Rattle.rules_moves.specs.Sequence.{Event, Asked, ToTape, FromTape, Ended, Made, Lost, Inserted, Renumbered, StoreLent, SlotsLent, step, runs}
 use Rattle.rules_moves.specs.Sequence.{Seen, Sized, Windowed, Sought, MoverStopped, DataStopped, Listened, Joined, Began, Paused, Wrote, Handed, Nothing, Register, register_of, after, seen, count_of}
 
 -- what is seen of a list of calls, and the register that is replayed from it
@@ -54,7 +54,6 @@ unfoldable pub sum : (Seen → ℕ) → List Seen → ℕ
 sum f [] = 0
 sum f (x ∷ xs) = f x + sum f xs
 
--- a command of the remote tape protocol is no move, but it may stand among them: it adds to no count
 abbrev pub IsMove : Event → Type 0
 IsMove (ToTape l stream last) = Unit {0}
 IsMove (FromTape l dest) = Unit {0}
@@ -66,7 +65,6 @@ IsMove (Inserted image) = Unit {0}
 IsMove (Renumbered n) = Unit {0}
 IsMove (StoreLent variables) = Unit {0}
 IsMove (SlotsLent slots) = Unit {0}
-IsMove (Commanded room c) = Unit {0}
 
 abbrev pub IsToTape : Event → Type 0
 IsToTape (ToTape l stream last) = Unit {0}
@@ -79,18 +77,17 @@ IsToTape (Inserted image) = Unit {0}
 IsToTape (Renumbered n) = Unit {0}
 IsToTape (StoreLent variables) = Unit {0}
 IsToTape (SlotsLent slots) = Unit {0}
-IsToTape (Commanded room c) = Unit {0}
 
 -- of n bytes moved, those that the data end has processed: none by a mover joined by TCP
 unfoldable pub fed_of : ℕ → ℕ → ℕ
 fed_of address n = choose (eqb address tcp_address) 0 n
 
--- after moves either way, connections made and lost, and commands of the remote tape protocol: `count_of` is what each call told as taken or handed over
+-- after moves either way, and connections made and lost: `count_of` is what each call told as taken or handed over
 pub record CountsOfMoves (w : Kept) (es : List Event) : Type 0 where
   pub moved : wrapped (runs w es).session.mover.moved ≡ wrapped (w.session.mover.moved + sum moved_by (trace w es))
   pub processed : wrapped (runs w es).session.source.processed ≡ wrapped (w.session.source.processed + fed_of w.session.mover.address (sum count_of (trace w es)))
 
--- after moves to tape, whatever a command writes between them: no count wraps, and the record number goes up by one a record
+-- after moves to tape: no count wraps, and the record number goes up by one a record
 pub record CountsOfRecords (w : Kept) (es : List Event) : Type 0 where
   pub size : (runs w es).session.mover.size ≡ w.session.mover.size
   pub moved : (runs w es).session.mover.moved ≡ w.session.mover.moved + sum records_in (trace w es) * w.session.mover.size

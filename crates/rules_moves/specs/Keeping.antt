@@ -9,7 +9,7 @@ use Rattle.rules.specs.Relation.{keeps}
 use Rattle.rules.specs.Answer.{Kept, Lent}
 use Rattle.rules.specs.Calls.{Unmoved}
 use Rattle.rules_moves.specs.Events.{Moving, moved_to_tape, moved_from_tape, method_ended, connection_made, connection_lost}
-use Rattle.rules_moves.specs.Sequence.{Event, Asked, ToTape, FromTape, Ended, Made, Lost, Inserted, Renumbered, StoreLent, SlotsLent, Commanded, runs}
+use Rattle.rules_moves.specs.Sequence.{Event, Asked, ToTape, FromTape, Ended, Made, Lost, Inserted, Renumbered, StoreLent, SlotsLent, runs}
 
 -- nothing is sent or moved, and session, image, store and destination are as they were
 pub record Idle (k : Kept) (dest : List ℕ) (e : Moving) : Type 0 where
@@ -39,7 +39,6 @@ Sounds (Lost l mover) = Unit {0}
 Sounds (Renumbered n) = Unit {0}
 Sounds (StoreLent variables) = Unit {0}
 Sounds (SlotsLent slots) = Unit {0}
-Sounds (Commanded room c) = Unit {0}
 
 pub record MovesKeep : Type 0 where
   pub to_tape_lem : (k : Kept) (l : Lent) (stream : List ℕ) (last : Bool)
@@ -48,6 +47,6 @@ pub record MovesKeep : Type 0 where
   pub method : (k : Kept) (l : Lent) (ok : Bool) → Guards k l (method_ended k l ok).code (Unmoved k (method_ended k l ok))
   pub made : (k : Kept) (l : Lent) (mover : Bool) → Guards k l (connection_made k l mover).code (Unmoved k (connection_made k l mover))
   pub lost : (k : Kept) (l : Lent) (mover : Bool) → Guards k l (connection_lost k l mover).code (Unmoved k (connection_lost k l mover))
-  -- every call, commands of the remote tape protocol too, keeps the relation, so that none is refused with 1002 after it, and leaves a sound image sound; and so do lists of calls
+  -- every call keeps the relation, so that none is refused with 1002 after it, and leaves a sound image sound; and so do lists of calls
   pub kept : (w : Kept) (es : List Event) → keeps w.session ≡ true → keeps (runs w es).session ≡ true
   pub sound : (w : Kept) (es : List Event) → keeps w.session ≡ true → is_sound w.image ≡ true → Each Sounds es → is_sound (runs w es).image ≡ true

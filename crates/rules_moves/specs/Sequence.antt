@@ -1,4 +1,4 @@
--- What holds over any sequence of calls (demand 2): requests, commands of the remote tape protocol, moves, the method's end, connections made and lost, in any order, with any image and any store handed to any of them,
+-- What holds over any sequence of calls (demand 2): requests, moves, the method's end, connections made and lost, in any order, with any image and any store handed to any of them,
 -- and the number of the next message set to any between them, and the slot list to one that a host may set.
 -- What is seen of each call is a value; a register, which is replayed from what was seen and from nothing else, says which window is in
 -- force, what the counts are and what is read next from where; and each thing seen must fit the register.
@@ -8,17 +8,15 @@ use Rattle.xdr.specs.Choose.{choose}
 use Rattle.xdr.specs.Xdr.{overlay}
 use Rattle.tape_image.specs.Image.{count, entry_len, entry_bytes}
 use Rattle.tape_writing.specs.Writing.{written, fill_to}
-use Rattle.wire_frame.specs.Frame.{well_framed, kind_of, body_of}
+use Rattle.wire_frame.specs.Frame.{well_framed, kind_of}
 use Rattle.wire_requests.specs.declared.DataRequest.{DataRequest}
 use Rattle.wire_requests.specs.declared.DataRequest.TheVariants as DataRequest
 use Rattle.wire_requests.specs.declared.MoverRequest.{MoverRequest}
 use Rattle.wire_requests.specs.declared.MoverRequest.TheVariants as MoverRequest
 use Rattle.wire_requests.specs.declared.JointRequest.{JointRequest}
 use Rattle.wire_requests.specs.declared.JointRequest.TheVariants as JointRequest
-use Rattle.wire_requests.specs.declared.TapeRequest.{TapeRequest}
 use Rattle.wire_requests.specs.declared.Request.{Request}
 use Rattle.wire_requests.specs.declared.Request.TheVariants as Request
-use Rattle.wire_rmt.specs.Commands.{rmt_command}
 use Rattle.rules_parts.specs.declared.types.Data.{Data}
 use Rattle.rules_parts.specs.declared.types.Mover.{Mover}
 use Rattle.rules_parts.specs.declared.types.Session.{Session}
@@ -29,9 +27,6 @@ use Rattle.changer_elements.specs.Slots.{names_none_twice, in_drive}
 use Rattle.rules.specs.Relation.{keeps, Legal}
 use Rattle.rules.specs.Answer.{Kept, Lent, held, guarded, room_of, verdict, answered, request_in}
 use Rattle.rules.specs.Order.{Call}
-use Rattle.rules.specs.Calls.{Heard}
-use Rattle.rules.specs.Rmt.{commanded}
-use Rattle.rules.specs.RmtHolds.{CommandLeaves, SaysSame}
 use Rattle.rules_moves.specs.Events.{Moving, moved_to_tape, moved_from_tape, method_ended, connection_made, connection_lost}
 
 -- ---- the calls
@@ -52,8 +47,6 @@ pub data Event : Type 0 where
   StoreLent : List ℕ → Event
   -- the host sets the slot list, to what a call of another session left: "The slot list is one record, used by one session at a time"
   SlotsLent : List ℕ → Event
-  -- 02 No. 5: the length of the output, and a command of the remote tape protocol
-  Commanded : ℕ → List ℕ → Event
 
 abbrev pub renumbered : ℕ → Session → Session
 renumbered n s =
@@ -83,7 +76,6 @@ step (Inserted image) w = held w.session image w.variables
 step (Renumbered n) w = held (renumbered n w.session) w.image w.variables
 step (StoreLent variables) w = held w.session w.image variables
 step (SlotsLent slots) w = held (with_list slots w.session) w.image w.variables
-step (Commanded room c) w = (commanded w room c).next
 
 unfoldable pub runs : Kept → List Event → Kept
 runs w [] = w
@@ -181,7 +173,6 @@ seen (Inserted image) w = Nothing
 seen (Renumbered n) w = Nothing
 seen (StoreLent variables) w = Nothing
 seen (SlotsLent slots) w = Nothing
-seen (Commanded room c) w = Nothing
 
 -- ---- the register: the record size, the window in force (of length 0 there is none), bytes moved and processed; the seek position and the
 -- bytes left to read; the origin, the tape position that stands for the window's offset; and the type of the mover's address
@@ -400,12 +391,6 @@ pub record LentLeaves (slots : List ℕ) (w v : Kept) : Type 0 where
   pub image : v.image ≡ w.image
   pub variables : v.variables ≡ w.variables
 
--- a command does to the tape and the cartridge what a heard TAPE request does that says the same, and leaves all else
-pub record CommandDoes (room : ℕ) (c : List ℕ) (w v : Kept) : Type 0 where
-  pub leaves : CommandLeaves w v
-  pub as_tape : (l : Lent) (r : List ℕ) (q : TapeRequest) → l.room ≡ room → Heard w l r → request_in r ≡ Request.Tape q → SaysSame (body_of r) c q (rmt_command c)
-      → (v.session.tape ≡ (answered w l r).next.session.tape) × (v.image ≡ (answered w l r).next.image)
-
 abbrev pub Leaves : Register → Kept → Event → Type 0
 Leaves r w (ToTape l stream last) = ToTapeLeaves w stream (moved_to_tape w l stream last)
 Leaves r w (FromTape l dest) = FromTapeLeaves r w dest (moved_from_tape w l dest)
@@ -417,7 +402,6 @@ Leaves r w (Inserted image) = Unit {0}
 Leaves r w (Renumbered n) = RenumberedLeaves n w (step (Renumbered n) w)
 Leaves r w (StoreLent variables) = Unit {0}
 Leaves r w (SlotsLent slots) = LentLeaves slots w (step (SlotsLent slots) w)
-Leaves r w (Commanded room c) = CommandDoes room c w (step (Commanded room c) w)
 
 -- ---- the theorem: at every call of the list the register is the session's, its window is legitimate, and what is seen fits it and is all
 -- that the call did

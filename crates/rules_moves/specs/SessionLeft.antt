@@ -2,10 +2,9 @@
 -- the changer with its slot list, and whether the tape is open, and for what. So none of them lets anybody in, logs out, or moves a cartridge.
 use Rattle.std.specs.Prelude.{◌≡◌}
 use Rattle.rules.specs.Answer.{Kept}
-use Rattle.rules_moves.specs.Sequence.{Event, Asked, ToTape, FromTape, Ended, Made, Lost, Inserted, Renumbered, StoreLent, SlotsLent, Commanded, step}
+use Rattle.rules_moves.specs.Sequence.{Event, Asked, ToTape, FromTape, Ended, Made, Lost, Inserted, Renumbered, StoreLent, SlotsLent, step}
 
--- all but requests, a slot list that is set, which changes that list and nothing else (`LentLeaves`), and commands of the remote tape protocol, which open
--- and close the tape, move it and write to it, and change nothing else (`CommandDoes`)
+-- all but requests, and but a slot list that is set, which changes that list and nothing else (`LentLeaves`)
 abbrev pub IsUnasked : Event → Type 0
 IsUnasked (Asked c) = ⊥
 IsUnasked (ToTape l stream last) = Unit {0}
@@ -17,7 +16,6 @@ IsUnasked (Inserted image) = Unit {0}
 IsUnasked (Renumbered n) = Unit {0}
 IsUnasked (StoreLent variables) = Unit {0}
 IsUnasked (SlotsLent slots) = ⊥
-IsUnasked (Commanded room c) = ⊥
 
 -- all of the session but the number of the next message, the two ends and the tape's position
 pub record SameRest (k n : Kept) : Type 0 where

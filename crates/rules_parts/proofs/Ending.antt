@@ -40,12 +40,12 @@ module _ (size offset length : ℕ) where
       let a = none_of _ (unless (eqb length endless) _ h e) in
       record { whole = λ _. is a.0; starts = rw (end_other offset length n) (omega arith); fits = rw (end_other offset length n) (past_top offset length a.1) }
 
-  pub length-right : length_wrong size offset length ≡ false → LengthRight size offset length
-  length-right h = by_length h (eqb length endless) refl
+  pub length_right : length_wrong size offset length ≡ false → LengthRight size offset length
+  length_right h = by_length h (eqb length endless) refl
 
-  pub right-length : LengthRight size offset length → length_wrong size offset length ≡ false
+  pub right_length : LengthRight size offset length → length_wrong size offset length ≡ false
   unfolding length_wrong
-  right-length r =
+  right_length r =
       by_test (λ (b : Bool). b ≡ false) (eqb length endless) _ _
       (λ e. le-ltb top offset (rw (end_endless offset length (eqb-true length endless e)) at r.starts))
       (λ e. let n = eqb-false length endless e in none (eq_not (r.whole n)) (no_past offset length (rw (end_other offset length n) at r.fits)))

@@ -2,7 +2,7 @@
 use Prim.Native.Nat.{ℕ}
 use mathlib.Core.Bool.{Bool, true, false, not}
 use mathlib.Core.List.{List, [], ◌∷◌, ◌++◌, append-nil}
-use mathlib.Core.Path.{◌≡◌, refl, sym, ◌∙◌, ap, subst}
+use mathlib.Core.Path.{◌≡◌, refl, sym, ◌∙◌, ap}
 use native.Mathlib.Omega.{arith}
 use lib.Dec.{eqb}
 use borrow.Author.Tests.{eqb-true}
@@ -14,8 +14,8 @@ use Rattle.xdr.proofs.Tests.{by_test, unless, is, yes}
 use Rattle.tape_ops.specs.Step.{Step}
 use Rattle.wire_pairs.specs.Pairs.{Pair, pair, pairs_from, pair_bytes, texts_of, separator_name, separator, with_separator, is_named}
 use Rattle.wire_pairs.specs.Store.{fits, storing, emptied, is_laid, kept_pairs, environment_of}
-use Rattle.wire_pairs.proofs.Back.{storing-length, start-leaves}
-use Rattle.wire_pairs.proofs.Stopped.{stop-leaves}
+use Rattle.wire_pairs.proofs.Back.{storing_length, start_leaves}
+use Rattle.wire_pairs.proofs.Stopped.{stop_leaves}
 use Rattle.wire_frame.specs.Frame.{body_of, message_word, sequence_of}
 use Rattle.wire_layouts.specs.declared.Text.{Text}
 use Rattle.wire_requests.specs.declared.Pairs.{Pairs}
@@ -30,8 +30,7 @@ use Rattle.wire_replies.specs.declared.Reply.TheVariants as Reply
 use Rattle.wire_replies.specs.Replies.{body_bytes, shape_of, header_error, reply_bytes}
 use Rattle.wire_replies.specs.Numbers.{body_in}
 use Rattle.wire_replies.proofs.Laws.{opaques_texts}
-use Rattle.wire_replies.proofs.Numbers.{body-sent}
-use Rattle.rules_parts.specs.declared.types.Login.{Login}
+use Rattle.wire_replies.proofs.Numbers.{body_sent}
 use Rattle.rules_parts.specs.declared.types.Data.{Data}
 use Rattle.rules_parts.specs.declared.types.Mover.{Mover}
 use Rattle.rules_parts.specs.declared.types.Tape.{Tape}
@@ -45,21 +44,20 @@ use Rattle.rules.specs.declared.Ends.{Ends}
 use Rattle.rules.specs.Joint.{data_awaits, data_connect, mover_connect, data_aborted, data_abort, mover_aborted, mover_abort, mover_closed, mover_close, joint_step}
 use Rattle.rules.specs.Answer.{Kept, Lent, Answered, Done, silent, guarded, answered, judged, is_close, settled, verdict, is_locked, needs_login, outcome, noticed, request_in}
 use Rattle.rules.specs.Answer.{with_data, with_part, with_tape, with_changer, with_login, with_ends}
-use Rattle.rules.specs.Order.{Call, run_calls}
+use Rattle.rules.specs.Order.{Call, run}
 use Rattle.rules.specs.Calls.{Heard}
 use Rattle.rules.specs.Login.{authorized}
-use Rattle.rules.proofs.JudgeLaws.{judged-by, accepts, accepts_any, accepts_map, refusal-says, carried}
+use Rattle.rules.proofs.JudgeLaws.{judged_by, accepts, accepts_any, accepts_map, refusal_says, carried}
 use Rattle.rules.proofs.Guarding.{by_guard}
-use Rattle.rules.proofs.Calls.{noticed-holds, call-stored, heard}
+use Rattle.rules.proofs.Calls.{noticed_holds, call_stored, heard}
 use Rattle.rules.proofs.Environment.{next_is, environment_body}
-use Rattle.rules.proofs.Rmt.{rmt_holds}
 use Rattle.rules.proofs.Leaving.{calls_leave}
 use Rattle.rules_moves.specs.declared.Move.{Move}
 use Rattle.rules_moves.specs.declared.Found.{Found}
 use Rattle.rules_moves.specs.declared.Found.TheVariants as Found
 use Rattle.rules_moves.specs.Moves.{Handing, fed_with, halts_with, filling, to_tape, reading, on_found, seeking, sought, from_tape, method_end, at_tcp, made_at, lost_at}
 use Rattle.rules_moves.specs.Events.{Moving, announced, moved_to_tape, moved_from_tape, method_ended, connection_made, connection_lost}
-use Rattle.rules_moves.specs.Sequence.{Event, Asked, ToTape, FromTape, Ended, Made, Lost, Inserted, Renumbered, StoreLent, SlotsLent, Commanded, step, runs}
+use Rattle.rules_moves.specs.Sequence.{Event, Asked, ToTape, FromTape, Ended, Made, Lost, Inserted, Renumbered, StoreLent, SlotsLent, step, runs}
 use Rattle.rules_variables.specs.Variables.{Started, Stopped, AsksFor, NoStart, Between, NoData, Quiet, Along, giving, body_answered, after, VariablesHold}
 
 -- ---- a move leaves a data end that has run ACTIVE or HALTED
@@ -90,64 +88,64 @@ module _ (d : Data) (m : Mover) (t : Tape) (s : Ran d) where
   MoveRan : Move → Type 0
   MoveRan mv = Ran mv.source
 
-  halts-ran : (dwhy mwhy : ℕ) → MoveRan (halts_with dwhy mwhy d m t)
+  halts_ran : (dwhy mwhy : ℕ) → MoveRan (halts_with dwhy mwhy d m t)
   unfolding halts_with MoveRan
-  halts-ran dwhy mwhy = by_test MoveRan (eqb m.address 1) _ _ (λ _. s) (λ _. halted_ran _ refl)
+  halts_ran dwhy mwhy = by_test MoveRan (eqb m.address 1) _ _ (λ _. s) (λ _. halted_ran _ refl)
 
-  fed-ran : (n : ℕ) → Ran (fed_with m n d)
+  fed_ran : (n : ℕ) → Ran (fed_with m n d)
   unfolding fed_with
-  fed-ran n = by_test Ran (eqb m.address 1) d (data_fed n d) (λ _. s) (λ _. record { run = s.run })
+  fed_ran n = by_test Ran (eqb m.address 1) d (data_fed n d) (λ _. s) (λ _. record { run = s.run })
 
   StepRan : Step Move → Type 0
   StepRan st = MoveRan st.gives
 
-  to-ran : (l stream : List ℕ) (last : Bool) → StepRan (to_tape d m t l stream last)
+  to_ran : (l stream : List ℕ) (last : Bool) → StepRan (to_tape d m t l stream last)
   unfolding to_tape filling StepRan MoveRan
-  to-ran l stream last =
+  to_ran l stream last =
       by_test StepRan _ _ _ (λ _. s)
-      (λ _. by_test StepRan _ _ _ (λ _. halts-ran 4 5)
-      (λ _. by_test StepRan _ _ _ (λ _. halts-ran 1 1)
+      (λ _. by_test StepRan _ _ _ (λ _. halts_ran 4 5)
+      (λ _. by_test StepRan _ _ _ (λ _. halts_ran 1 1)
       (λ _. by_test StepRan _ _ _ (λ _. s)
       (λ _. by_test StepRan _ _ _ (λ _. s)
-      (λ _. by_test StepRan _ _ _ (λ _. s) (λ _. fed-ran _))))))
+      (λ _. by_test StepRan _ _ _ (λ _. s) (λ _. fed_ran _))))))
 
   HandingRan : Handing → Type 0
   HandingRan st = MoveRan st.move
 
-  found-ran : (f : Found) (l b : List ℕ) → HandingRan (on_found f d m t l b)
+  found_ran : (f : Found) (l b : List ℕ) → HandingRan (on_found f d m t l b)
   unfolding on_found reading HandingRan MoveRan
-  found-ran (Found.Target i) l b = by_test HandingRan _ _ _ (λ _. halts-ran 4 5) (λ _. fed-ran _)
-  found-ran (Found.Mark j) l b = s
-  found-ran Found.End l b = s
+  found_ran (Found.Target i) l b = by_test HandingRan _ _ _ (λ _. halts_ran 4 5) (λ _. fed_ran _)
+  found_ran (Found.Mark j) l b = s
+  found_ran Found.End l b = s
 
-  from-ran : (l b : List ℕ) → HandingRan (from_tape d m t l b)
+  from_ran : (l b : List ℕ) → HandingRan (from_tape d m t l b)
   unfolding from_tape seeking HandingRan MoveRan
-  from-ran l b =
+  from_ran l b =
       by_test HandingRan _ _ _ (λ _. s)
-      (λ _. by_test HandingRan _ _ _ (λ _. halts-ran 4 5)
+      (λ _. by_test HandingRan _ _ _ (λ _. halts_ran 4 5)
       (λ _. by_test HandingRan _ _ _ (λ _. s)
       (λ _. by_test HandingRan _ _ _ (λ _. s)
-      (λ _. by_test HandingRan _ _ _ (λ _. s) (λ _. found-ran (sought m l) l b)))))
+      (λ _. by_test HandingRan _ _ _ (λ _. s) (λ _. found_ran (sought m l) l b)))))
 
-  end-ran : (ok : Bool) → MoveRan (method_end ok d m t)
+  end_ran : (ok : Bool) → MoveRan (method_end ok d m t)
   unfolding method_end MoveRan
-  end-ran ok =
+  end_ran ok =
       by_test MoveRan (eqb d.state 1) _ _ (λ _. by_test MoveRan (eqb d.address 1) _ _ (λ _. halted_ran _ refl) (λ _. halted_ran _ refl)) (λ _. s)
 
-  listening-tcp : at_tcp d.address (eqb d.state 3) ≡ true → eqb d.state 3 ≡ true
+  listening_tcp : at_tcp d.address (eqb d.state 3) ≡ true → eqb d.state 3 ≡ true
   unfolding at_tcp
-  listening-tcp =
+  listening_tcp =
       by_test (λ (b : Bool). b ≡ true → eqb d.state 3 ≡ true) (eqb d.address 1) _ _ (λ _ h. h) (λ _ h. clash h)
 
-  made-ran : (mover : Bool) → MoveRan (made_at mover d m t)
+  made_ran : (mover : Bool) → MoveRan (made_at mover d m t)
   unfolding made_at MoveRan
-  made-ran true = by_test MoveRan _ _ _ (λ _. s) (λ _. s)
-  made-ran false = by_test MoveRan _ _ _ (λ h. listening_not d (eqb-true d.state 3 (listening-tcp h)) s) (λ _. s)
+  made_ran true = by_test MoveRan _ _ _ (λ _. s) (λ _. s)
+  made_ran false = by_test MoveRan _ _ _ (λ h. listening_not d (eqb-true d.state 3 (listening_tcp h)) s) (λ _. s)
 
-  lost-ran : (mover : Bool) → MoveRan (lost_at mover d m t)
+  lost_ran : (mover : Bool) → MoveRan (lost_at mover d m t)
   unfolding lost_at MoveRan
-  lost-ran true = by_test MoveRan _ _ _ (λ _. s) (λ _. s)
-  lost-ran false = by_test MoveRan _ _ _ (λ _. halted_ran _ refl) (λ _. s)
+  lost_ran true = by_test MoveRan _ _ _ (λ _. s) (λ _. s)
+  lost_ran false = by_test MoveRan _ _ _ (λ _. halted_ran _ refl) (λ _. s)
 
   -- ---- joint requests
   EndsRan : Reply → Ends → Type 0
@@ -162,13 +160,13 @@ module _ (d : Data) (m : Mover) (t : Tape) (s : Ran d) where
   unfolding unmet
   met address awaited made h e = yes (unless (eqb address 1) _ h e)
 
-  joint-ran : (q : JointRequest) (made : Bool) → Accepts EndsRan (joint_step d m t q made)
+  joint_ran : (q : JointRequest) (made : Bool) → Accepts EndsRan (joint_step d m t q made)
   unfolding joint_step data_abort data_connect mover_abort mover_close mover_connect data_aborted mover_aborted mover_closed EndsRan
-  joint-ran JointRequest.DataAbort made = accepts EndsRan _ _ _ (λ _. by_test (λ (e : Ends). Ran e.source) _ _ _ (λ _. halted_ran _ refl) (λ _. halted_ran _ refl))
-  joint-ran (JointRequest.DataConnect address count) made = accepts EndsRan _ _ _ (λ g. idle_not d (is (g 0)) s)
-  joint-ran JointRequest.MoverAbort made = accepts EndsRan _ _ _ (λ _. by_test (λ (e : Ends). Ran e.source) _ _ _ (λ _. halted_ran _ refl) (λ _. s))
-  joint-ran JointRequest.MoverClose made = accepts EndsRan _ _ _ (λ _. by_test (λ (e : Ends). Ran e.source) _ _ _ (λ _. halted_ran _ refl) (λ _. s))
-  joint-ran (JointRequest.MoverConnect mode address count) made =
+  joint_ran JointRequest.DataAbort made = accepts EndsRan _ _ _ (λ _. by_test (λ (e : Ends). Ran e.source) _ _ _ (λ _. halted_ran _ refl) (λ _. halted_ran _ refl))
+  joint_ran (JointRequest.DataConnect address count) made = accepts EndsRan _ _ _ (λ g. idle_not d (is (g 0)) s)
+  joint_ran JointRequest.MoverAbort made = accepts EndsRan _ _ _ (λ _. by_test (λ (e : Ends). Ran e.source) _ _ _ (λ _. halted_ran _ refl) (λ _. s))
+  joint_ran JointRequest.MoverClose made = accepts EndsRan _ _ _ (λ _. by_test (λ (e : Ends). Ran e.source) _ _ _ (λ _. halted_ran _ refl) (λ _. s))
+  joint_ran (JointRequest.MoverConnect mode address count) made =
       accepts EndsRan _ _ _
       (λ g. by_test (λ (e : Ends). Ran e.source) (eqb address 1) _ _ (λ _. s)
       (λ e. listening_not d (awaits (met address _ made (g 8) e)) s))
@@ -196,17 +194,17 @@ module _ (Holds : List ℕ → Type 0) (D : Data → Type 0) where
   KeepingDone _ d = Keeping d.kept
 
   -- a move
-  announced-keeps : (k : Kept) (l : Lent) (mv : Move) (image : List ℕ) → Holds k.variables → D mv.source → Keeping (announced k l mv image).next
+  announced_keeps : (k : Kept) (l : Lent) (mv : Move) (image : List ℕ) → Holds k.variables → D mv.source → Keeping (announced k l mv image).next
   unfolding Keeping
-  announced-keeps k l mv image v d =
-      let told = noticed-holds Keeping (λ x _ h. h) (λ x h. h) l.time in
+  announced_keeps k l mv image v d =
+      let told = noticed_holds Keeping (λ x _ h. h) (λ x h. h) l.time in
       told _ _ _ (told _ _ _ (told _ _ _ (v, d)))
 
   moved_keeps : (k : Kept) (l : Lent) (mv : Move) → Keeping k → D mv.source
       → Keeping (guarded k.session l.room (λ code. silent code k) (announced k l mv k.image)).next
   unfolding Keeping
   moved_keeps k l mv h d =
-      by_guard (λ (a : Answered). Keeping a.next) k.session l.room _ _ (λ _. h) (λ _. announced-keeps k l mv k.image h.0 d)
+      by_guard (λ (a : Answered). Keeping a.next) k.session l.room _ _ (λ _. h) (λ _. announced_keeps k l mv k.image h.0 d)
 
   -- and requests: those of the data end, and the joint ones
   record Asking (P : Request → Type 0) : Type 0 where
@@ -219,46 +217,46 @@ module _ (Holds : List ℕ → Type 0) (D : Data → Type 0) where
     unfolding KeepingDone
     off k put f o = carried KeepingDone put o (accepts_any (λ reply p. KeepingDone reply (put p)) (λ _ p. f p) o)
 
-    outcome-keeps : (k : Kept) (l : Lent) (r : List ℕ) → Keeping k → length k.variables ≡ store_length → (q : Request) → P q
+    outcome_keeps : (k : Kept) (l : Lent) (r : List ℕ) → Keeping k → length k.variables ≡ store_length → (q : Request) → P q
         → Accepts KeepingDone (outcome k l r q)
     unfolding outcome Keeping KeepingDone tape_step mover_part_step
-    outcome-keeps k l r h e Request.Unknown o = refusal-says KeepingDone _
-    outcome-keeps k l r h e Request.Bad o = refusal-says KeepingDone _
-    outcome-keeps k l r h e (Request.Connect q) o = off k (with_login k []) (λ _. h) _
-    outcome-keeps k l r h e (Request.Config q) o = off k (with_login k l.challenge) (λ _. h) _
-    outcome-keeps k l r h e (Request.Scsi q) o = off k (with_changer k _) (λ _. h) _
-    outcome-keeps k l r h e (Request.Tape q) o = off k (with_tape k) (λ _. h) _
-    outcome-keeps k l r h e (Request.Mover q) o = off k (with_part k l.addresses) (λ _. h) _
-    outcome-keeps k l r h e (Request.Data q) o = carried KeepingDone (with_data k q _ _) _ (ask.own k l r h e q o)
-    outcome-keeps k l r h e (Request.Joint q) o =
+    outcome_keeps k l r h e Request.Unknown o = refusal_says KeepingDone _
+    outcome_keeps k l r h e Request.Bad o = refusal_says KeepingDone _
+    outcome_keeps k l r h e (Request.Connect q) o = off k (with_login k []) (λ _. h) _
+    outcome_keeps k l r h e (Request.Config q) o = off k (with_login k l.challenge) (λ _. h) _
+    outcome_keeps k l r h e (Request.Scsi q) o = off k (with_changer k _) (λ _. h) _
+    outcome_keeps k l r h e (Request.Tape q) o = off k (with_tape k) (λ _. h) _
+    outcome_keeps k l r h e (Request.Mover q) o = off k (with_part k l.addresses) (λ _. h) _
+    outcome_keeps k l r h e (Request.Data q) o = carried KeepingDone (with_data k q _ _) _ (ask.own k l r h e q o)
+    outcome_keeps k l r h e (Request.Joint q) o =
         carried KeepingDone (with_ends k) _
         (accepts_map (λ _ (x : Ends). D x.source) (λ reply x. KeepingDone reply (with_ends k x)) (λ _ _ d. (h.0, d)) _
         (ask.joint k.session.source k.session.mover k.session.tape h.1 q l.made))
 
-    verdict-keeps : (k : Kept) (l : Lent) (r : List ℕ) → Keeping k → length k.variables ≡ store_length → (q : Request) → P q
+    verdict_keeps : (k : Kept) (l : Lent) (r : List ℕ) → Keeping k → length k.variables ≡ store_length → (q : Request) → P q
         → Accepts KeepingDone (verdict k l r q)
     unfolding verdict
-    verdict-keeps k l r h e q o = judged-by KeepingDone _ _ (λ _. outcome-keeps k l r h e q o)
+    verdict_keeps k l r h e q o = judged_by KeepingDone _ _ (λ _. outcome_keeps k l r h e q o)
 
-    asked-keeps : (k : Kept) (c : Call) → Keeping k → Quiet P k (Asked c) → Keeping (answered k c.lent c.ask.request).next
+    asked_keeps : (k : Kept) (c : Call) → Keeping k → Quiet P k (Asked c) → Keeping (answered k c.lent c.ask.request).next
     unfolding Keeping KeepingDone
-    asked-keeps k c h o =
-        call-stored Keeping (λ x _ z. z) (λ x z. z) k c.lent c.ask.request h
-        (λ e. if_accepted KeepingDone _ (λ a. verdict-keeps k c.lent c.ask.request h e (request_in c.ask.request) (o a)))
+    asked_keeps k c h o =
+        call_stored Keeping (λ x _ z. z) (λ x z. z) k c.lent c.ask.request h
+        (λ e. if_accepted KeepingDone _ (λ a. verdict_keeps k c.lent c.ask.request h e (request_in c.ask.request) (o a)))
 
     step_keeps : (k : Kept) (e : Event) → Keeping k → Quiet P k e → Keeping (step e k)
     unfolding step moved_to_tape moved_from_tape method_ended connection_made connection_lost Keeping
-    step_keeps k (Asked c) h o = asked-keeps k c h o
+    step_keeps k (Asked c) h o = asked_keeps k c h o
     step_keeps k (ToTape l stream last) h o =
         let s = k.session in
         let st = to_tape s.source s.mover s.tape k.image stream last in
         by_guard (λ (a : Moving). Keeping a.answer.next) s l.room _ _ (λ _. h)
-        (λ _. announced-keeps k l st.gives st.image h.0 ((move s.source h.1).to s.mover s.tape k.image stream last))
+        (λ _. announced_keeps k l st.gives st.image h.0 ((move s.source h.1).to s.mover s.tape k.image stream last))
     step_keeps k (FromTape l dest) h o =
         let s = k.session in
         let st = from_tape s.source s.mover s.tape k.image dest in
         by_guard (λ (a : Moving). Keeping a.answer.next) s l.room _ _ (λ _. h)
-        (λ _. announced-keeps k l st.move k.image h.0 ((move s.source h.1).from s.mover s.tape k.image dest))
+        (λ _. announced_keeps k l st.move k.image h.0 ((move s.source h.1).from s.mover s.tape k.image dest))
     step_keeps k (Ended l ok) h o =
         moved_keeps k l (method_end ok k.session.source k.session.mover k.session.tape) h
         ((move k.session.source h.1).end k.session.mover k.session.tape ok)
@@ -272,45 +270,42 @@ module _ (Holds : List ℕ → Type 0) (D : Data → Type 0) where
     step_keeps k (Renumbered n) h o = h
     step_keeps k (StoreLent variables) h o = absurd o
     step_keeps k (SlotsLent slots) h o = h
-    step_keeps k (Commanded room c) h o =
-        let f = rmt_holds.left k room c in
-        (subst Holds (sym f.variables) h.0, subst D (sym f.source) h.1)
 
-    runs-keep : (k : Kept) (es : List Event) → Keeping k → Along P k es → Keeping (runs k es)
+    runs_keep : (k : Kept) (es : List Event) → Keeping k → Along P k es → Keeping (runs k es)
     unfolding runs
-    runs-keep k [] h o = h
-    runs-keep k (e ∷ es) h o = runs-keep (step e k) es (step_keeps k e h o.0) o.1
+    runs_keep k [] h o = h
+    runs_keep k (e ∷ es) h o = runs_keep (step e k) es (step_keeps k e h o.0) o.1
 
 -- ---- after a start: the store is the one that it left, and the data end has run
 ran_moves : (d : Data) → Ran d → Moves Ran d
 unfolding StepRan HandingRan MoveRan
 ran_moves d s =
     record {
-      to = λ m t l stream last. to-ran d m t s l stream last;
-      from = λ m t l b. from-ran d m t s l b;
-      end = λ m t ok. end-ran d m t s ok;
-      made = λ m t mover. made-ran d m t s mover;
-      lost = λ m t mover. lost-ran d m t s mover;
+      to = λ m t l stream last. to_ran d m t s l stream last;
+      from = λ m t l b. from_ran d m t s l b;
+      end = λ m t ok. end_ran d m t s ok;
+      made = λ m t mover. made_ran d m t s mover;
+      lost = λ m t mover. lost_ran d m t s mover;
     }
 
 module _ (W : List ℕ) where
   abbrev Same : List ℕ → Type 0
   Same v = v ≡ W
 
-  own-ran : (k : Kept) (l : Lent) (r : List ℕ) → Keeping Same Ran k → (q : DataRequest) → Between (Request.Data q)
+  own_ran : (k : Kept) (l : Lent) (r : List ℕ) → Keeping Same Ran k → (q : DataRequest) → Between (Request.Data q)
       → Accepts (λ _ d. Same (variables_after q (body_of r) k.variables) × Ran d) (data_step k.session.source q (body_of r) l.addresses k.variables)
   unfolding Keeping data_step data_state data_listen data_environment variables_after
-  own-ran k l r h DataRequest.State o = accepts _ _ _ _ (λ _. h)
-  own-ran k l r h (DataRequest.Backup name ps) o = absurd o.0
-  own-ran k l r h (DataRequest.Recover name ps) o = absurd o.0
-  own-ran k l r h DataRequest.Environment o = accepts _ _ _ _ (λ _. h)
-  own-ran k l r h DataRequest.Stop o = absurd (o.1 refl)
-  own-ran k l r h (DataRequest.Listen address) o = accepts _ _ _ _ (λ g. idle_not k.session.source (is (g 0)) h.1)
+  own_ran k l r h DataRequest.State o = accepts _ _ _ _ (λ _. h)
+  own_ran k l r h (DataRequest.Backup name ps) o = absurd o.0
+  own_ran k l r h (DataRequest.Recover name ps) o = absurd o.0
+  own_ran k l r h DataRequest.Environment o = accepts _ _ _ _ (λ _. h)
+  own_ran k l r h DataRequest.Stop o = absurd (o.1 refl)
+  own_ran k l r h (DataRequest.Listen address) o = accepts _ _ _ _ (λ g. idle_not k.session.source (is (g 0)) h.1)
 
-  ran-asking : Asking Same Ran Between
+  ran_asking : Asking Same Ran Between
   unfolding EndsRan
-  ran-asking =
-      record { own = λ k l r h e q o. own-ran k l r h q o; joint = λ d m t s q made. joint-ran d m t s q made }
+  ran_asking =
+      record { own = λ k l r h e q o. own_ran k l r h q o; joint = λ d m t s q made. joint_ran d m t s q made }
 
 -- ---- after a stop: there is no pair in the store
 abbrev NoPairs : List ℕ → Type 0
@@ -333,7 +328,7 @@ any_joint : (d : Data) (m : Mover) (t : Tape) → Any d → (q : JointRequest) (
 any_joint d m t _ q made = accepts_any (λ _ (e : Ends). Any e.source) (λ _ _. tt) (joint_step d m t q made)
 
 stopped_empty : (v : List ℕ) → length v ≡ store_length → NoPairs (emptied v)
-stopped_empty v e = let s = stop-leaves v (omega arith) in (s.none, s.laid)
+stopped_empty v e = let s = stop_leaves v (omega arith) in (s.none, s.laid)
 
 own_empty : (k : Kept) (l : Lent) (r : List ℕ) → Keeping NoPairs Any k → length k.variables ≡ store_length → (q : DataRequest) → NoStart (Request.Data q)
     → Accepts (λ _ d. NoPairs (variables_after q (body_of r) k.variables) × Any d) (data_step k.session.source q (body_of r) l.addresses k.variables)
@@ -357,7 +352,7 @@ own_none W k l r h e q o = absurd (o q refl)
 others : (k : Kept) (es : List Event) → Along NoData k es → (runs k es).variables ≡ k.variables
 unfolding Keeping
 others k es o =
-    (runs-keep (Same k.variables) Any NoData (record { own = own_none k.variables; joint = any_joint }) any_moves k es (refl, tt) o).0
+    (runs_keep (Same k.variables) Any NoData (record { own = own_none k.variables; joint = any_joint }) any_moves k es (refl, tt) o).0
 
 -- ---- who is logged in stays so
 Known : Kept → Type 0
@@ -368,13 +363,13 @@ unfolding Known
 known_is k h = h
 
 asked_known : (k : Kept) (c : Call) → Known k → Known (answered k c.lent c.ask.request).next
-unfolding run_calls Known
+unfolding run Known
 asked_known k c h = calls_leave.login.stays k (c ∷ []) h
 
 announced_known : (k : Kept) (l : Lent) (mv : Move) (image : List ℕ) → Known k → Known (announced k l mv image).next
 unfolding Known
 announced_known k l mv image h =
-    let told = noticed-holds Known (λ x _ z. z) (λ x z. z) l.time in
+    let told = noticed_holds Known (λ x _ z. z) (λ x z. z) l.time in
     told _ _ _ (told _ _ _ (told _ _ _ h))
 
 step_known : (k : Kept) (e : Event) → Known k → Known (step e k)
@@ -401,7 +396,6 @@ step_known k (Inserted image) h = h
 step_known k (Renumbered n) h = h
 step_known k (StoreLent variables) h = h
 step_known k (SlotsLent slots) h = h
-step_known k (Commanded room c) h = ap (λ (g : Login). g.authorized) (rmt_holds.left k room c).login ∙ h
 
 runs_known : (k : Kept) (es : List Event) → Known k → Known (runs k es)
 unfolding runs
@@ -426,9 +420,9 @@ module _ (k : Kept) (l : Lent) (r : List ℕ) (q : DataRequest) where
   abbrev stepped : Outcome Data
   stepped = data_step k.session.source q (body_of r) l.addresses k.variables
 
-  accepted-parts : is_accepted (verdict k l r (Request.Data q)) ≡ true → Known k × (is_accepted stepped ≡ true)
+  accepted_parts : is_accepted (verdict k l r (Request.Data q)) ≡ true → Known k × (is_accepted stepped ≡ true)
   unfolding verdict is_locked needs_login outcome Known
-  accepted-parts h = accepted_by k.session.login.authorized (with_data k q (body_of r) l.addresses) stepped h
+  accepted_parts h = accepted_by k.session.login.authorized (with_data k q (body_of r) l.addresses) stepped h
 
 -- ---- a start
 record Begun (d : Data) (q : DataRequest) (body list v : List ℕ) (ps : List Pair) : Type 0 where
@@ -464,12 +458,12 @@ module _ (k : Kept) (c : Call) (ps : List Pair) (s : Started k c ps) where
 
   begun : Known k × Begun k.session.source s.request (body_of r) c.lent.addresses k.variables ps
   begun =
-      let a = accepted-parts k c.lent r s.request s.accepted in
+      let a = accepted_parts k c.lent r s.request s.accepted in
       (a.0, rw s.pairs at (begins k.session.source s.request s.method s.place (body_of r) c.lent.addresses k.variables s.starts a.1))
 
-  first-ready : Keeping (Same (storing ps k.variables)) Ran (answered k c.lent r).next
+  first_ready : Keeping (Same (storing ps k.variables)) Ran (answered k c.lent r).next
   unfolding Keeping
-  first-ready =
+  first_ready =
       let b = begun in
       let n = next_is k c.lent r s.request s.heard s.is (known_is k b.0) Reply.Plain _ b.1.is in
       (n.variables ∙ b.1.after, active_ran _ (ap (λ (d : Data). d.state) n.source))
@@ -479,11 +473,11 @@ module _ (k : Kept) (c : Call) (ps : List Pair) (s : Started k c ps) where
   ready es o =
       let x = (answered k c.lent r).next in
       let W = storing ps k.variables in
-      let h = runs-keep (Same W) Ran Between (ran-asking W) ran_moves x es first-ready o in
+      let h = runs_keep (Same W) Ran Between (ran_asking W) ran_moves x es first_ready o in
       record { known = runs_known x es (asked_known k c begun.0); store = h.0; ran = h.1 }
 
   laid : (es : List Event) → Along Between (step (Asked c) k) es → is_laid (after k c es).variables ≡ true
-  laid es o = rw (ready es o).store (start-leaves ps k.variables begun.1.fit).laid
+  laid es o = rw (ready es o).store (start_leaves ps k.variables begun.1.fit).laid
 
 -- ---- 0x404
 module _ (n : Kept) (a : Call) (f : AsksFor n a) where
@@ -508,7 +502,7 @@ given k c ps s es o a f =
     let n = after k c es in
     let y = ready k c ps s es o in
     let e : environment_of n.variables ≡ with_separator ps =
-    ap environment_of y.store ∙ (start-leaves ps k.variables (begun k c ps s).1.fit).given in
+    ap environment_of y.store ∙ (start_leaves ps k.variables (begun k c ps s).1.fit).given in
     given_by n a f y.known (answers n a f y.ran (laid k c ps s es o)) ∙ ap giving e
 
 -- ---- after a stop
@@ -516,7 +510,7 @@ stop_ready : (k : Kept) (c : Call) → Stopped k c → Keeping NoPairs Any (answ
 unfolding Keeping data_step data_stop variables_after
 stop_ready k c s =
     let r = c.ask.request in
-    let p = accepted-parts k c.lent r DataRequest.Stop s.accepted in
+    let p = accepted_parts k c.lent r DataRequest.Stop s.accepted in
     let n = next_is k c.lent r DataRequest.Stop s.heard s.is (known_is k p.0) Reply.Plain rest_data (accepted_is _ Reply.Plain rest_data p.1) in
     (rw n.variables (stopped_empty k.variables s.heard.stored), tt)
 
@@ -529,7 +523,7 @@ answering_ran d (active e) = active_ran d e
 answering_ran d (halted e) = halted_ran d e
 
 stop_known : (k : Kept) (c : Call) → Stopped k c → Known k
-stop_known k c s = (accepted-parts k c.lent c.ask.request DataRequest.Stop s.accepted).0
+stop_known k c s = (accepted_parts k c.lent c.ask.request DataRequest.Stop s.accepted).0
 
 empty : (k : Kept) (c : Call) → Stopped k c → (es : List Event) → Along NoStart (step (Asked c) k) es
     → (a : Call) → AsksFor (after k c es) a → Answering (after k c es).session.source
@@ -538,7 +532,7 @@ unfolding runs step Keeping
 empty k c s es o a f w =
     let x = (answered k c.lent c.ask.request).next in
     let n = runs x es in
-    let z = runs-keep NoPairs Any NoStart empty_asking any_moves x es (stop_ready k c s) o in
+    let z = runs_keep NoPairs Any NoStart empty_asking any_moves x es (stop_ready k c s) o in
     let y = runs_known x es (asked_known k c (stop_known k c s)) in
     given_by n a f y (answers n a f (answering_ran n.session.source w) z.0.1) ∙ ap giving (none_given n.variables z.0.0)
 

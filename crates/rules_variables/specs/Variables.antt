@@ -16,7 +16,7 @@ use Rattle.rules.specs.Environment.{Starts, Answering}
 use Rattle.rules.specs.Answer.{Kept, verdict, answered, request_in}
 use Rattle.rules.specs.Order.{Call}
 use Rattle.rules.specs.Calls.{Heard}
-use Rattle.rules_moves.specs.Sequence.{Event, Asked, ToTape, FromTape, Ended, Made, Lost, Inserted, Renumbered, StoreLent, SlotsLent, Commanded, step, runs}
+use Rattle.rules_moves.specs.Sequence.{Event, Asked, ToTape, FromTape, Ended, Made, Lost, Inserted, Renumbered, StoreLent, SlotsLent, step, runs}
 
 -- ---- the calls
 -- a start, backup or recover, that was heard on k and accepted, and its pairs: those that were sent, by `RequestsBack`
@@ -66,8 +66,7 @@ Between q = NoStart q × (q ≡ Request.Data DataRequest.Stop → ⊥)
 abbrev pub NoData : Request → Type 0
 NoData q = (p : DataRequest) → q ≡ Request.Data p → ⊥
 
--- any call on k, with any cartridge, where what is asked of requests is asked of those that are accepted; the store is the one that calls pass on. A command
--- of the remote tape protocol is not lent it
+-- any call on k, with any cartridge, where what is asked of requests is asked of those that are accepted; the store is the one that calls pass on
 abbrev pub Quiet : (Request → Type 0) → Kept → Event → Type 0
 Quiet P k (Asked c) =
     is_accepted (verdict k c.lent c.ask.request (request_in c.ask.request)) ≡ true → P (request_in c.ask.request)
@@ -80,7 +79,6 @@ Quiet P k (Inserted image) = Unit {0}
 Quiet P k (Renumbered n) = Unit {0}
 Quiet P k (StoreLent variables) = ⊥
 Quiet P k (SlotsLent slots) = Unit {0}
-Quiet P k (Commanded room c) = Unit {0}
 
 abbrev pub Along : (Request → Type 0) → Kept → List Event → Type 0
 Along P k [] = Unit {0}

@@ -1,7 +1,7 @@
 // Opens a session and lends it the record, in hex, of each file that an argument names: of each a line with its name, the code and the bytes sent.
 mod line; // line.rt: the parts of a line
 
-use hex::Decoded;
+use hex_text::Decoded;
 use line::{put, put_first, put_number};
 use rules_parts::types::Session;
 
@@ -51,7 +51,7 @@ fn ask(s: Session, image: &mut [u8], store: &mut [u8], input: &[u8]) -> Session 
 // A record in hex. What is none is said, and not asked.
 fn ask_text(s: Session, image: &mut [u8], store: &mut [u8], text: &[u8]) -> Session {
     let mut record = [0u8; 20000];
-    let d = hex::decode(text, &mut record);
+    let d = hex_text::decode(text, &mut record);
     match d {
         Decoded::Bytes(len) => ask(s, image, store, &record[..len]),
         Decoded::NotHex => {

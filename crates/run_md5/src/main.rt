@@ -32,7 +32,7 @@ fn show(message: &[u8]) {
     put(b"MD5 (\"");
     put(message);
     put(b"\") = ");
-    let digest = md5::digest(message);
+    let digest = md5_digest::digest(message);
     put_digest(&digest);
 }
 
@@ -41,7 +41,7 @@ fn show_length(message: &[u8]) {
     put(b"MD5 of ");
     io::print_decimal(STDOUT_FILENO, message.len() as u64);
     put(b" bytes = ");
-    let digest = md5::digest(message);
+    let digest = md5_digest::digest(message);
     put_digest(&digest);
 }
 
@@ -63,7 +63,7 @@ fn show_login(password: &[u8], challenge: &[u8; 64])
     put(b"login (\"");
     put(password);
     put(b"\") = ");
-    let digest = md5::login_digest(password, challenge);
+    let digest = md5_digest::login_digest(password, challenge);
     put_digest(&digest);
 }
 

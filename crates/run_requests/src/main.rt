@@ -6,7 +6,7 @@ ghost use Rattle.std.specs.Prelude.{◌≤◌, length};
 mod line; // line.rt: the parts of a line
 mod shown; // shown.rt: a request with its fields
 
-use hex::Decoded;
+use hex_text::Decoded;
 use libc::STDIN_FILENO;
 use line::{put, put_number};
 use wire_frame::Framed;
@@ -101,7 +101,7 @@ fn show_vector(line: &[u8]) {
     put(&line[..n]);
     put(b": ");
     let mut record = empty_record();
-    let d = hex::decode(&line[n..], &mut record);
+    let d = hex_text::decode(&line[n..], &mut record);
     match d {
         Decoded::Bytes(len) => show_named(&line[..n], &record[..len]),
         Decoded::NotHex => put(b"not hex\n"),

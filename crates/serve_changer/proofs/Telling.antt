@@ -58,9 +58,9 @@ status_told c o a h = rw h (refl, refl)
 -- ---- a CDB by its opcode
 module _ (tape : Bool) (c : Changer) (cdb : List ℕ) (room : ℕ) where
   -- only READ ELEMENT STATUS shows bytes
-  shows-none : eqb (get_or cdb 0 0) 0xB8 ≡ false → cdb_shown cdb room c.slots ≡ []
+  shows_none : eqb (get_or cdb 0 0) 0xB8 ≡ false → cdb_shown cdb room c.slots ≡ []
   unfolding cdb_shown
-  shows-none h = sym (pick_else _ h refl)
+  shows_none h = sym (pick_else _ h refl)
 
   abbrev Runs : ScsiDone → Type 0
   Runs r = Tells c (run_cdb tape c cdb room) (cdb_shown cdb room c.slots) r
@@ -69,38 +69,38 @@ module _ (tape : Bool) (c : Changer) (cdb : List ℕ) (room : ℕ) where
   apart : {m : ℕ} (n : ℕ) → eqb m n ≡ false → get_or cdb 0 0 ≡ m → eqb (get_or cdb 0 0) n ≡ false
   apart n h e = rw e h
 
-  pub on-ready : get_or cdb 0 0 ≡ 0 → Runs (ScsiDone.Accept Reply.Cdb ChangerChange.Nothing)
+  pub on_ready : get_or cdb 0 0 ≡ 0 → Runs (ScsiDone.Accept Reply.Cdb ChangerChange.Nothing)
   unfolding run_cdb
-  on-ready h = (sym (pick_if _ (eqb_yes h) refl), shows-none (apart 0xB8 refl h), tt)
+  on_ready h = (sym (pick_if _ (eqb_yes h) refl), shows_none (apart 0xB8 refl h), tt)
 
-  pub on-sense : (r : ScsiDone) → get_or cdb 0 0 ≡ 3 → Tells c (senses c cdb room) [] r → Runs r
+  pub on_sense : (r : ScsiDone) → get_or cdb 0 0 ≡ 3 → Tells c (senses c cdb room) [] r → Runs r
   unfolding run_cdb
-  on-sense r h t = told_as c r (sym (pick_else _ (apart 0 refl h) (pick_if _ (eqb_yes h) refl))) (shows-none (apart 0xB8 refl h)) t
+  on_sense r h t = told_as c r (sym (pick_else _ (apart 0 refl h) (pick_if _ (eqb_yes h) refl))) (shows_none (apart 0xB8 refl h)) t
 
-  pub on-move : (r : ScsiDone) → get_or cdb 0 0 ≡ 0xA5 → Tells c (moves c (move_medium cdb c.slots tape)) [] r → Runs r
+  pub on_move : (r : ScsiDone) → get_or cdb 0 0 ≡ 0xA5 → Tells c (moves c (move_medium cdb c.slots tape)) [] r → Runs r
   unfolding run_cdb
-  on-move r h t =
-      told_as c r (sym (pick_else _ (apart 0 refl h) (pick_else _ (apart 3 refl h) (pick_if _ (eqb_yes h) refl)))) (shows-none (apart 0xB8 refl h)) t
+  on_move r h t =
+      told_as c r (sym (pick_else _ (apart 0 refl h) (pick_else _ (apart 3 refl h) (pick_if _ (eqb_yes h) refl)))) (shows_none (apart 0xB8 refl h)) t
 
-  pub on-status : (r : ScsiDone) → get_or cdb 0 0 ≡ 0xB8
+  pub on_status : (r : ScsiDone) → get_or cdb 0 0 ≡ 0xB8
       → Tells c (reports c (read_status cdb room)) (status_shown (read_status cdb room) c.slots) r → Runs r
   unfolding run_cdb cdb_shown
-  on-status r h t =
+  on_status r h t =
       told_as c r
       (sym (pick_else _ (apart 0 refl h) (pick_else _ (apart 3 refl h) (pick_else _ (apart 0xA5 refl h) (pick_if _ (eqb_yes h) refl)))))
       (sym (pick_if _ (eqb_yes h) refl)) t
 
-  pub on-other : (r : ScsiDone) → (get_or cdb 0 0 ≡ 0 → ⊥) → (get_or cdb 0 0 ≡ 3 → ⊥) → (get_or cdb 0 0 ≡ 0xA5 → ⊥) → (get_or cdb 0 0 ≡ 0xB8 → ⊥)
+  pub on_other : (r : ScsiDone) → (get_or cdb 0 0 ≡ 0 → ⊥) → (get_or cdb 0 0 ≡ 3 → ⊥) → (get_or cdb 0 0 ≡ 0xA5 → ⊥) → (get_or cdb 0 0 ≡ 0xB8 → ⊥)
       → Tells c (checks c unknown_opcode) [] r → Runs r
   unfolding run_cdb
-  on-other r h k m n t =
+  on_other r h k m n t =
       told_as c r
       (sym (pick_else _ (eqb_no h) (pick_else _ (eqb_no k) (pick_else _ (eqb_no m) (pick_else _ (eqb_no n) refl)))))
-      (shows-none (eqb_no n)) t
+      (shows_none (eqb_no n)) t
 
   -- behind the tests of a CDB's length
-  pub on-length : (r : ScsiDone) → not c.opened ≡ false → (length cdb ≡ 0 → ⊥) → length cdb ≤ longest_cdb → Runs r
+  pub on_length : (r : ScsiDone) → not c.opened ≡ false → (length cdb ≡ 0 → ⊥) → length cdb ≤ longest_cdb → Runs r
       → Tells c (scsi_cdb tape c cdb room) (cdb_shown cdb room c.slots) r
   unfolding scsi_cdb judge
-  on-length r h k m t =
+  on_length r h k m t =
       told_as c r (sym (pick_else _ h (pick_else _ (eqb_no k) (pick_else _ (ltb_no m) refl)))) refl t

@@ -18,7 +18,7 @@ use Rattle.rules_parts.specs.declared.types.Tape.{Tape}
 use Rattle.rules_parts.specs.Names.{from_tape_mode, recover_operation, data_connect_error, mover_media_error, end_of_medium, end_of_file}
 use Rattle.rules.specs.Relation.{mover_wrong}
 use Rattle.rules.specs.TapeService.{moved_to}
-use Rattle.rules.proofs.Kept.{mover-kept}
+use Rattle.rules.proofs.Kept.{mover_kept}
 use Rattle.rules.proofs.Keeping.{active_holds}
 use Rattle.rules_moves.proofs.Moving.{running}
 use Rattle.rules_moves.specs.declared.Move.{Move}
@@ -47,19 +47,19 @@ module _ (d : Data) (m : Mover) (t : Tape) (l b : List ℕ) where
   unfolding on_found
   on_target i r b' e h = rw e h
 
-  pub on-mark : (j : ℕ) (r : Move) → sought m l ≡ Found.Mark j → r ≡ pauses end_of_file d m (moved_to j t) → HandedAs (on_found (sought m l) d m t l b) r b
+  pub on_mark : (j : ℕ) (r : Move) → sought m l ≡ Found.Mark j → r ≡ pauses end_of_file d m (moved_to j t) → HandedAs (on_found (sought m l) d m t l b) r b
   unfolding on_found
-  on-mark j r e h = rw e (handed_same h)
+  on_mark j r e h = rw e (handed_same h)
 
-  pub on-end : (r : Move) → sought m l ≡ Found.End → r ≡ pauses end_of_medium d m (moved_to (count l) t) → HandedAs (on_found (sought m l) d m t l b) r b
+  pub on_end : (r : Move) → sought m l ≡ Found.End → r ≡ pauses end_of_medium d m (moved_to (count l) t) → HandedAs (on_found (sought m l) d m t l b) r b
   unfolding on_found
-  on-end r e h = rw e (handed_same h)
+  on_end r e h = rw e (handed_same h)
 
 -- ---- what is read of a record: nothing where its length is another, else the bytes from the place in it on
 module _ (i : ℕ) (d : Data) (m : Mover) (t : Tape) (l b : List ℕ) where
-  pub read-wrong : (r : Move) → (entry_len l i ≡ m.size → ⊥) → r ≡ halts_with data_connect_error mover_media_error d m t → HandedAs (reading i d m t l b) r b
+  pub read_wrong : (r : Move) → (entry_len l i ≡ m.size → ⊥) → r ≡ halts_with data_connect_error mover_media_error d m t → HandedAs (reading i d m t l b) r b
   unfolding reading choose
-  read-wrong r ne e = rw (ne_eqb _ _ ne) (handed_same e)
+  read_wrong r ne e = rw (ne_eqb _ _ ne) (handed_same e)
 
   pub read_right : (r : Move) (b' : List ℕ) (n begin : ℕ) → entry_len l i ≡ m.size → n ≡ amount m (length b) → in_record m + n ≤ m.size
       → begin ≡ body_at l + entry_start l i + in_record m → b' ≡ overlay 0 (take (begin + n - begin) (drop begin l)) b → r ≡ hands n i d m t
@@ -77,7 +77,7 @@ inside seek offset length h = ltb-false seek offset (none_of _ h).0
 
 pub seekable : (d : Data) (m : Mover) (t : Tape) (l : List ℕ) → mover_wrong m t ≡ false → idle from_tape_mode recover_operation d m ≡ false → faulty l t.position ≡ false → Seekable m l
 seekable d m t l h i f =
-    let k = mover-kept m t h in
+    let k = mover_kept m t h in
     let active = (running from_tape_mode recover_operation d m i).active in
     let p = placed l t.position f in
     let w = k.window (k.hold (active_holds m.state active)).window in

@@ -12,18 +12,18 @@ use Rattle.rules_moves.specs.declared.Move.{Move}
 use Rattle.rules_moves.specs.Moves.{still, halts_source, halts_mover, source_made, mover_made, at_tcp, made_at, lost_at}
 
 module _ (d : Data) (m : Mover) (t : Tape) (named at : Bool) (r : Move) where
-  pub made-mover : named ≡ true → at ≡ at_tcp m.address (eqb m.state mover_listening) → r ≡ choose at (mover_made d m t) (still d m t) → r ≡ made_at named d m t
+  pub made_mover : named ≡ true → at ≡ at_tcp m.address (eqb m.state mover_listening) → r ≡ choose at (mover_made d m t) (still d m t) → r ≡ made_at named d m t
   unfolding made_at
-  made-mover h e q = rw h (rw e at q)
+  made_mover h e q = rw h (rw e at q)
 
-  pub made-source : named ≡ false → at ≡ at_tcp d.address (eqb d.state data_listening) → r ≡ choose at (source_made d m t) (still d m t) → r ≡ made_at named d m t
+  pub made_source : named ≡ false → at ≡ at_tcp d.address (eqb d.state data_listening) → r ≡ choose at (source_made d m t) (still d m t) → r ≡ made_at named d m t
   unfolding made_at
-  made-source h e q = rw h (rw e at q)
+  made_source h e q = rw h (rw e at q)
 
-  pub lost-mover : named ≡ true → at ≡ at_tcp m.address (mover_joined m.state) → r ≡ choose at (halts_mover mover_connect_closed d m t) (still d m t) → r ≡ lost_at named d m t
+  pub lost_mover : named ≡ true → at ≡ at_tcp m.address (mover_joined m.state) → r ≡ choose at (halts_mover mover_connect_closed d m t) (still d m t) → r ≡ lost_at named d m t
   unfolding lost_at
-  lost-mover h e q = rw h (rw e at q)
+  lost_mover h e q = rw h (rw e at q)
 
-  pub lost-source : named ≡ false → at ≡ at_tcp d.address (data_joined d.state) → r ≡ choose at (halts_source data_connect_error d m t) (still d m t) → r ≡ lost_at named d m t
+  pub lost_source : named ≡ false → at ≡ at_tcp d.address (data_joined d.state) → r ≡ choose at (halts_source data_connect_error d m t) (still d m t) → r ≡ lost_at named d m t
   unfolding lost_at
-  lost-source h e q = rw h (rw e at q)
+  lost_source h e q = rw h (rw e at q)

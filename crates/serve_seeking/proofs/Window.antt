@@ -8,14 +8,14 @@ use Rattle.rules_parts.specs.Parts.{window_end}
 use Rattle.rules_moves.specs.Moves.{outside}
 
 module _ (seek offset length : ℕ) where
-  pub before-it : seek < offset → true ≡ outside seek offset length
+  pub before_it : seek < offset → true ≡ outside seek offset length
   unfolding outside choose
-  before-it h = rw (lt-ltb seek offset h)
+  before_it h = rw (lt-ltb seek offset h)
 
-  pub in-it : offset ≤ seek → seek < window_end offset length → false ≡ outside seek offset length
+  pub in_it : offset ≤ seek → seek < window_end offset length → false ≡ outside seek offset length
   unfolding outside choose
-  in-it h k = rw (le-ltb seek offset h, lt-ltb seek (window_end offset length) k)
+  in_it h k = rw (le-ltb seek offset h, lt-ltb seek (window_end offset length) k)
 
-  pub after-it : offset ≤ seek → window_end offset length ≤ seek → true ≡ outside seek offset length
+  pub after_it : offset ≤ seek → window_end offset length ≤ seek → true ≡ outside seek offset length
   unfolding outside choose
-  after-it h k = rw (le-ltb seek offset h, le-ltb seek (window_end offset length) k)
+  after_it h k = rw (le-ltb seek offset h, le-ltb seek (window_end offset length) k)

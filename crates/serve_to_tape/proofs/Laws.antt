@@ -18,7 +18,7 @@ use Rattle.rules_parts.specs.declared.types.Tape.{Tape}
 use Rattle.rules_parts.specs.Names.{to_tape_mode, backup_operation}
 use Rattle.rules_parts.specs.Parts.{window_end}
 use Rattle.rules.specs.Relation.{mover_wrong}
-use Rattle.rules.proofs.Kept.{mover-kept}
+use Rattle.rules.proofs.Kept.{mover_kept}
 use Rattle.rules.proofs.Keeping.{active_holds}
 use Rattle.rules_moves.proofs.Moving.{running}
 use Rattle.rules_moves.specs.declared.Move.{Move}
@@ -29,7 +29,7 @@ use Rattle.serve_to_tape.specs.Fillable.{Fillable}
 pub fillable : (d : Data) (m : Mover) (t : Tape) (l : List ℕ) (r f : Bool) → mover_wrong m t ≡ false → r ≡ idle to_tape_mode backup_operation d m → r ≡ false
     → f ≡ faulty l t.position → f ≡ false → Fillable m l t.position
 fillable d m t l r f w e h g k =
-    let q = mover-kept m t w in
+    let q = mover_kept m t w in
     let run = running to_tape_mode backup_operation d m (sym e ∙ h) in
     let held = q.hold (active_holds m.state run.active) in
     record {
@@ -41,15 +41,15 @@ fillable d m t l r f w e h g k =
 
 -- the window is used up: at its end, and where what is left up to it is less than a record
 module _ (s o n v e : ℕ) (h : e ≡ window_end o n) where
-  pub used-there : v ≡ e → true ≡ window_used s o n v
+  pub used_there : v ≡ e → true ≡ window_used s o n v
   unfolding window_used choose
-  used-there k = rw (eq-eqb v (window_end o n) (k ∙ h)) refl
+  used_there k = rw (eq-eqb v (window_end o n) (k ∙ h)) refl
 
-  pub used-by-rest : v ≤ window_end o n → (v ≡ e → ⊥) → (k : Bool) → ltb (e - v) s ≡ k → k ≡ window_used s o n v
+  pub used_by_rest : v ≤ window_end o n → (v ≡ e → ⊥) → (k : Bool) → ltb (e - v) s ≡ k → k ≡ window_used s o n v
   unfolding window_used choose
-  used-by-rest le ne true c =
+  used_by_rest le ne true c =
       let z = ltb-true (e - v) s c in rw (ne_eqb v (window_end o n) (λ q. ne (q ∙ sym h))) (sym (lt-ltb (window_end o n) (v + s) (omega arith)))
-  used-by-rest le ne false c =
+  used_by_rest le ne false c =
       let z = ltb-false (e - v) s c in rw (ne_eqb v (window_end o n) (λ q. ne (q ∙ sym h))) (sym (le-ltb (window_end o n) (v + s) (omega arith)))
 
 -- rules (6) and (7), from what the write gave

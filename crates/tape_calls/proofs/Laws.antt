@@ -25,38 +25,38 @@ module _ (l : List ℕ) (p times : ℕ) (r : Part) (e : r ≡ read_part l p time
   read_within = rw e (read_copies l p times).0
 
   module _ (o : List ℕ) where
-    pub handed-none : length o < r.len → Handed l p times o (part 1001 p 0 0) o
+    pub handed_none : length o < r.len → Handed l p times o (part 1001 p 0 0) o
     unfolding handed_part handed_out choose
-    handed-none h =
+    handed_none h =
         let t : ltb (length o) (read_part l p times).len ≡ true = rw e at (lt-ltb (length o) r.len h) in
         record { is = rw t; out = rw t }
 
-    pub handed-all : (o' : List ℕ) → r.len ≤ length o → o' ≡ overlay 0 (take (r.start + r.len - r.start) (drop r.start l)) o → Handed l p times o r o'
+    pub handed_all : (o' : List ℕ) → r.len ≤ length o → o' ≡ overlay 0 (take (r.start + r.len - r.start) (drop r.start l)) o → Handed l p times o r o'
     unfolding handed_part handed_out choose
-    handed-all o' h q =
+    handed_all o' h q =
         let t : ltb (length o) (read_part l p times).len ≡ false = rw e at (le-ltb (length o) r.len h) in
         let n : r.start + r.len - r.start ≡ r.len = omega arith in
         record { is = rw t e; out = rw t (rw (n, e) at q) }
 
 -- ---- an entry: b is whether the image is sound, n how many entries it has
 module _ (l : List ℕ) (i : ℕ) (b : Bool) (e : b ≡ is_sound l) where
-  pub told-unsound : b ≡ false → entry bad_file 0 0 ≡ entry_told l i
+  pub told_unsound : b ≡ false → entry bad_file 0 0 ≡ entry_told l i
   unfolding entry_told choose
-  told-unsound f = rw (← e, f)
+  told_unsound f = rw (← e, f)
 
-  pub header-whole : b ≡ true → header_len ≤ length l
-  header-whole f = (sound_facts l (cc)).header.whole
+  pub header_whole : b ≡ true → header_len ≤ length l
+  header_whole f = (sound_facts l (cc)).header.whole
 
   module _ (n : ℕ) (f : b ≡ true) (m : n ≡ count l) where
-    pub told-past : n ≤ i → entry at_end_code 0 0 ≡ entry_told l i
+    pub told_past : n ≤ i → entry at_end_code 0 0 ≡ entry_told l i
     unfolding entry_told choose
-    told-past h = rw (← e, f, ← m, le-ltb i n h)
+    told_past h = rw (← e, f, ← m, le-ltb i n h)
 
-    pub told-entry : (x s : ℕ) → i < n → x ≡ entry_len l i → s ≡ entry_start l i → entry 0 x s ≡ entry_told l i
+    pub told_entry : (x s : ℕ) → i < n → x ≡ entry_len l i → s ≡ entry_start l i → entry 0 x s ≡ entry_told l i
     unfolding entry_told choose
-    told-entry x s h p q = rw (← e, f, ← m, lt-ltb i n h, p, q)
+    told_entry x s h p q = rw (← e, f, ← m, lt-ltb i n h, p, q)
 
-    pub entry-table : i < n → Table l (i + 1)
-    entry-table h =
+    pub entry_table : i < n → Table l (i + 1)
+    entry_table h =
         let s : Sound l = sound_facts l (cc) in
         entry_there l i s (omega (arith, s.header.entries))

@@ -18,7 +18,7 @@ use Rattle.tape_files.specs.Files.{File, entries_of, files_in, files_of, entries
 use Rattle.tape_files.specs.Thinning.{emptied, laid, are_named, have_room, named_entries, thin_code, thin_image}
 use Rattle.tape_files.specs.Holds.{Done, InOrder, ThinningHolds}
 use Rattle.tape_files.proofs.Lists.{Short, short_chosen, thinned_entries, chosen_files, files_entries, thinned_all, thinned_nothing}
-use Rattle.tape_files.proofs.Laid.{emptied-placed, emptied-length, emptied-capacity, emptied-count, emptied-used, emptied-byte, entries_none, entries_short, Ready, Laid, laid_holds}
+use Rattle.tape_files.proofs.Laid.{emptied_placed, emptied_length, emptied_capacity, emptied_count, emptied_used, emptied_byte, entries_none, entries_short, Ready, Laid, laid_holds}
 
 -- ---- four tests and what the first that fails gives
 first_of : Bool → Bool → Bool → Bool → ℕ
@@ -44,21 +44,21 @@ second_fails false b c d h = refl
 second_fails true b c d h = rw h
 
 module _ (a b c d : Bool) where
-  first-fails : a ≡ false → first_of a b c d ≡ bad_file
+  first_fails : a ≡ false → first_of a b c d ≡ bad_file
   unfolding first_of choose
-  first-fails h = rw h
+  first_fails h = rw h
 
-  third-fails : a ≡ true → b ≡ true → c ≡ false → first_of a b c d ≡ illegal_arguments
+  third_fails : a ≡ true → b ≡ true → c ≡ false → first_of a b c d ≡ illegal_arguments
   unfolding first_of choose
-  third-fails h i j = rw (h, i, j)
+  third_fails h i j = rw (h, i, j)
 
-  fourth-fails : a ≡ true → b ≡ true → c ≡ true → d ≡ false → first_of a b c d ≡ at_end_code
+  fourth_fails : a ≡ true → b ≡ true → c ≡ true → d ≡ false → first_of a b c d ≡ at_end_code
   unfolding first_of choose
-  fourth-fails h i j k = rw (h, i, j, k)
+  fourth_fails h i j k = rw (h, i, j, k)
 
-  none-fails : a ≡ true → b ≡ true → c ≡ true → d ≡ true → first_of a b c d ≡ 0
+  none_fails : a ≡ true → b ≡ true → c ≡ true → d ≡ true → first_of a b c d ≡ 0
   unfolding first_of choose
-  none-fails h i j k = rw (h, i, j, k)
+  none_fails h i j k = rw (h, i, j, k)
 
 both : (a b : Bool) → choose a b false ≡ true → (a ≡ true) × (b ≡ true)
 unfolding choose
@@ -73,11 +73,11 @@ code_is s ns t = refl
 in_order : (s ns t : List ℕ) → InOrder s ns t
 in_order s ns t =
     record {
-      source_unsound = λ h. code_is s ns t ∙ first-fails _ _ _ _ h;
+      source_unsound = λ h. code_is s ns t ∙ first_fails _ _ _ _ h;
       second_unsound = λ h. code_is s ns t ∙ second_fails _ _ _ _ h;
-      not_named = λ a b h. code_is s ns t ∙ third-fails _ _ _ _ a b h;
-      no_room = λ a b c h. code_is s ns t ∙ fourth-fails _ _ _ _ a b c h;
-      accepted = λ a b c h. code_is s ns t ∙ none-fails _ _ _ _ a b c h;
+      not_named = λ a b h. code_is s ns t ∙ third_fails _ _ _ _ a b h;
+      no_room = λ a b c h. code_is s ns t ∙ fourth_fails _ _ _ _ a b c h;
+      accepted = λ a b c h. code_is s ns t ∙ none_fails _ _ _ _ a b c h;
     }
 
 -- ---- what is accepted
@@ -91,11 +91,11 @@ emptied_ready l es ok short h =
     let f = room_facts l es h in
     let f0 = f.0 in
     let f1 = f.1 in
-    let n = emptied-count l ok in
-    let u = emptied-used l ok in
-    let c = emptied-capacity l ok in
-    let s = emptied-length l ok in
-    record { here = emptied-placed l ok; end = n; slots = omega arith; fits = omega arith; short = short }
+    let n = emptied_count l ok in
+    let u = emptied_used l ok in
+    let c = emptied_capacity l ok in
+    let s = emptied_length l ok in
+    record { here = emptied_placed l ok; end = n; slots = omega arith; fits = omega arith; short = short }
 
 pub named_short : (s ns : List ℕ) → Sound s → Short (named_entries s ns)
 named_short s ns ok =
@@ -105,35 +105,35 @@ module _ (s ns t : List ℕ) (source : Sound s) (second : Sound t) (room : have_
   whole : Laid (emptied t) 0 (named_entries s ns) (laid (emptied t) 0 (named_entries s ns))
   whole = laid_holds (named_entries s ns) (emptied t) 0 (emptied_ready t (named_entries s ns) second (named_short s ns source) room)
 
-  its-entries : entries_of (laid (emptied t) 0 (named_entries s ns)) ≡ named_entries s ns
-  its-entries =
+  its_entries : entries_of (laid (emptied t) 0 (named_entries s ns)) ≡ named_entries s ns
+  its_entries =
       whole.entries
-      ∙ ap (λ (z : List (List ℕ)). z ++ named_entries s ns) (entries_none (emptied t) (count (emptied t)) 0 (emptied-count t second))
+      ∙ ap (λ (z : List (List ℕ)). z ++ named_entries s ns) (entries_none (emptied t) (count (emptied t)) 0 (emptied_count t second))
 
-  its-past : Past t (laid (emptied t) 0 (named_entries s ns)) (length (named_entries s ns)) (bytes_in (named_entries s ns))
-  its-past =
+  its_past : Past t (laid (emptied t) 0 (named_entries s ns)) (length (named_entries s ns)) (bytes_in (named_entries s ns))
+  its_past =
       let p = whole.past in
-      let c = emptied-capacity t second in
-      let u = emptied-used t second in
+      let c = emptied_capacity t second in
+      let u = emptied_used t second in
       let w = second.header.table in
       record {
-        size = p.size ∙ emptied-length t second;
+        size = p.size ∙ emptied_length t second;
         places = p.places ∙ c;
-        table = λ i a z. p.table i (omega arith) (omega arith) ∙ emptied-byte t second i (omega arith);
-        body = λ i a. p.body i (omega arith) ∙ emptied-byte t second i (omega arith);
+        table = λ i a z. p.table i (omega arith) (omega arith) ∙ emptied_byte t second i (omega arith);
+        body = λ i a. p.body i (omega arith) ∙ emptied_byte t second i (omega arith);
       }
 
-  its-done : Done s ns t (laid (emptied t) 0 (named_entries s ns))
-  its-done =
-      let u = emptied-used t second in
+  its_done : Done s ns t (laid (emptied t) 0 (named_entries s ns))
+  its_done =
+      let u = emptied_used t second in
       let b = whole.bytes in
       let n = whole.counts in
       record {
         sound = whole.ok;
-        files = ap files_in (its-entries ∙ thinned_entries 0 ns (entries_of s)) ∙ chosen_files 0 ns (entries_of s);
+        files = ap files_in (its_entries ∙ thinned_entries 0 ns (entries_of s)) ∙ chosen_files 0 ns (entries_of s);
         entries = omega arith;
         bytes = omega arith;
-        past = its-past;
+        past = its_past;
       }
 
 pub image_done : (s ns t : List ℕ) → thin_code s ns t ≡ 0 → thin_image s ns t ≡ laid (emptied t) 0 (named_entries s ns)
@@ -147,7 +147,7 @@ image_left s ns t h = rw (ne_eqb (thin_code s ns t) 0 h)
 done : (s ns t : List ℕ) → thin_code s ns t ≡ 0 → Done s ns t (thin_image s ns t)
 done s ns t h =
     let a = all_hold _ _ _ _ (sym (code_is s ns t) ∙ h) in
-    rw (image_done s ns t h) (its-done s ns t (sound_facts s a.first) (sound_facts t a.second) a.fourth)
+    rw (image_done s ns t h) (its_done s ns t (sound_facts s a.first) (sound_facts t a.second) a.fourth)
 
 pub thinning_holds : ThinningHolds
 thinning_holds =

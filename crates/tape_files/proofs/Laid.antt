@@ -11,13 +11,13 @@ use lib.Seq.{length-take-le}
 use Rattle.codes.specs.Codes.{longest_record}
 use Rattle.xdr.specs.Xdr.{word, be32s, overlay}
 use Rattle.xdr.proofs.Laws.{length_be32s, length_overlay}
-use Rattle.xdr.proofs.Places.{byte-after, word-before, first_back, second_back}
+use Rattle.xdr.proofs.Places.{byte_after, word_before, first_back, second_back}
 use Rattle.tape_image.specs.Image.{header_len, capacity, count, used, entry_at, entry_len, entry_start, entry_bytes, body_at, body_len}
 use Rattle.tape_image.specs.Sound.{Header, Entry, Sound, Placed, sum_before}
 use Rattle.tape_image.proofs.Laws.{sum_next, sum_used}
 use Rattle.tape_writing.specs.Writing.{kept, Room, written}
-use Rattle.tape_writing.proofs.Laws.{kept-end}
-use Rattle.tape_writing.proofs.Theorems.{written-length, written-capacity, written_count, written-used, written-placed, written-there, same_bytes, past-table, past-body, Past}
+use Rattle.tape_writing.proofs.Laws.{kept_end}
+use Rattle.tape_writing.proofs.Theorems.{written_length, written_capacity, written_count, written_used, written_placed, written_there, same_bytes, past_table, past_body, Past}
 use Rattle.tape_files.specs.Files.{entries_from, entries_of, bytes_in}
 use Rattle.tape_files.specs.Thinning.{emptied, laid}
 use Rattle.tape_files.proofs.Lists.{Short, bytes_end}
@@ -27,40 +27,40 @@ module _ (l : List ℕ) (ok : Sound l) where
   zeros : length (be32s (0 ∷ 0 ∷ [])) ≡ 8
   zeros = length_be32s (0 ∷ 0 ∷ [])
 
-  pub emptied-length : length (emptied l) ≡ length l
+  pub emptied_length : length (emptied l) ≡ length l
   unfolding emptied
-  emptied-length = let e = zeros in let w = ok.header.whole in length_overlay 8 (be32s (0 ∷ 0 ∷ [])) l (omega arith)
+  emptied_length = let e = zeros in let w = ok.header.whole in length_overlay 8 (be32s (0 ∷ 0 ∷ [])) l (omega arith)
 
   head : (i : ℕ) → i + 4 ≤ 8 → word (emptied l) i ≡ word l i
   unfolding emptied
-  head i h = let w = ok.header.whole in word-before 8 (be32s (0 ∷ 0 ∷ [])) l (omega arith) i h
+  head i h = let w = ok.header.whole in word_before 8 (be32s (0 ∷ 0 ∷ [])) l (omega arith) i h
 
-  pub emptied-capacity : capacity (emptied l) ≡ capacity l
-  emptied-capacity = head 4 (omega arith)
+  pub emptied_capacity : capacity (emptied l) ≡ capacity l
+  emptied_capacity = head 4 (omega arith)
 
-  pub emptied-count : count (emptied l) ≡ 0
+  pub emptied_count : count (emptied l) ≡ 0
   unfolding emptied
-  emptied-count = let w = ok.header.whole in first_back 8 0 0 l (omega arith) (omega arith)
+  emptied_count = let w = ok.header.whole in first_back 8 0 0 l (omega arith) (omega arith)
 
-  pub emptied-used : used (emptied l) ≡ 0
+  pub emptied_used : used (emptied l) ≡ 0
   unfolding emptied
-  emptied-used = let w = ok.header.whole in second_back 8 0 0 l (omega arith) (omega arith)
+  emptied_used = let w = ok.header.whole in second_back 8 0 0 l (omega arith) (omega arith)
 
-  pub emptied-byte : (i : ℕ) → header_len ≤ i → get_or (emptied l) i 0 ≡ get_or l i 0
+  pub emptied_byte : (i : ℕ) → header_len ≤ i → get_or (emptied l) i 0 ≡ get_or l i 0
   unfolding emptied
-  emptied-byte i h =
+  emptied_byte i h =
       let e = zeros in
       let w = ok.header.whole in
-      byte-after 8 (be32s (0 ∷ 0 ∷ [])) l (omega arith) i (omega arith)
+      byte_after 8 (be32s (0 ∷ 0 ∷ [])) l (omega arith) i (omega arith)
 
-  emptied-header : Header (emptied l)
-  emptied-header =
+  emptied_header : Header (emptied l)
+  emptied_header =
       let f = ok.header in
       let e0 = head 0 (omega arith) in
-      let e1 = emptied-length in
-      let e2 = emptied-count in
-      let e3 = emptied-used in
-      let e4 = emptied-capacity in
+      let e1 = emptied_length in
+      let e2 = emptied_count in
+      let e3 = emptied_used in
+      let e4 = emptied_capacity in
       record {
         whole = omega arith;
         first = omega arith;
@@ -72,19 +72,19 @@ module _ (l : List ℕ) (ok : Sound l) where
         bytes = omega arith;
       }
 
-  no-sum : sum_before (emptied l) 0 ≡ 0
+  no_sum : sum_before (emptied l) 0 ≡ 0
   unfolding sum_before
-  no-sum = refl
+  no_sum = refl
 
-  pub emptied-placed : Placed (emptied l) 0
-  emptied-placed =
-      let n = emptied-count in
+  pub emptied_placed : Placed (emptied l) 0
+  emptied_placed =
+      let n = emptied_count in
       record {
         ok =
             record {
-              header = emptied-header;
+              header = emptied_header;
               entry = λ i h. absurd (omega arith);
-              total = emptied-used ∙ sym no-sum ∙ ap (sum_before (emptied l)) (sym n);
+              total = emptied_used ∙ sym no_sum ∙ ap (sum_before (emptied l)) (sym n);
             };
         within = omega arith;
       }
@@ -158,55 +158,55 @@ module _ (l : List ℕ) (p : ℕ) (e : List ℕ) (es : List (List ℕ)) (r : Rea
   small = r.short.0
 
   keeps : kept l p ≡ used l
-  keeps = let c = r.end in kept-end l p (omega arith)
+  keeps = let c = r.end in kept_end l p (omega arith)
 
-  pub ready-room : Room l p (length e)
-  ready-room =
+  pub ready_room : Room l p (length e)
+  ready_room =
       let s = r.slots in
       let f = r.fits in
       let k = keeps in
       let b = bytes_first e es in
       record { slot = omega arith; fits = omega arith }
 
-  pub next-used : used (written l p e) ≡ used l + length e
-  next-used = let k = keeps in written-used l p e r.here small ready-room ∙ (omega arith)
+  pub next_used : used (written l p e) ≡ used l + length e
+  next_used = let k = keeps in written_used l p e r.here small ready_room ∙ (omega arith)
 
-  pub ready-next : Ready (written l p e) (p + 1) es
-  ready-next =
+  pub ready_next : Ready (written l p e) (p + 1) es
+  ready_next =
       let s = r.slots in
       let f = r.fits in
       let b = bytes_first e es in
-      let u = next-used in
-      let c = written-capacity l p e r.here small ready-room in
-      let n = written-length l p e r.here small ready-room in
+      let u = next_used in
+      let c = written_capacity l p e r.here small ready_room in
+      let n = written_length l p e r.here small ready_room in
       record {
-        here = written-placed l p e r.here small ready-room;
-        end = written_count l p e r.here small ready-room;
+        here = written_placed l p e r.here small ready_room;
+        end = written_count l p e r.here small ready_room;
         slots = omega arith;
         fits = omega arith;
         short = r.short.1;
       }
 
-  pub next-length : length (written l p e) ≡ length l
-  next-length = written-length l p e r.here small ready-room
+  pub next_length : length (written l p e) ≡ length l
+  next_length = written_length l p e r.here small ready_room
 
-  next-entries : entries_of (written l p e) ≡ entries_of l ++ (e ∷ [])
-  next-entries =
-      let n : count (written l p e) ≡ suc p = written_count l p e r.here small ready-room ∙ add-one p in
+  next_entries : entries_of (written l p e) ≡ entries_of l ++ (e ∷ [])
+  next_entries =
+      let n : count (written l p e) ≡ suc p = written_count l p e r.here small ready_room ∙ add-one p in
       ap (λ (k : ℕ). entries_from (written l p e) k 0) n
       ∙ entries_snoc (written l p e) p 0
       ∙ ap (λ (k : ℕ). entries_from (written l p e) p 0 ++ (entry_bytes (written l p e) k ∷ [])) (let z : 0 + p ≡ p = omega arith in z)
-      ∙ ap (λ (b : List ℕ). entries_from (written l p e) p 0 ++ (b ∷ [])) (written-there l p e r.here small ready-room)
-      ∙ ap (λ (t : List (List ℕ)). t ++ (e ∷ [])) (entries_same l (written l p e) p 0 (λ j h. same_bytes l p e r.here small ready-room j (omega arith)))
+      ∙ ap (λ (b : List ℕ). entries_from (written l p e) p 0 ++ (b ∷ [])) (written_there l p e r.here small ready_room)
+      ∙ ap (λ (t : List (List ℕ)). t ++ (e ∷ [])) (entries_same l (written l p e) p 0 (λ j h. same_bytes l p e r.here small ready_room j (omega arith)))
       ∙ ap (λ (k : ℕ). entries_from l k 0 ++ (e ∷ [])) (sym r.end)
 
   laid_next : (m : List ℕ) → Laid (written l p e) (p + 1) es m → Laid l p (e ∷ es) m
   laid_next m h =
       let b = bytes_first e es in
-      let u = next-used in
+      let u = next_used in
       let k = keeps in
-      let c = written-capacity l p e r.here small ready-room in
-      let n = written-length l p e r.here small ready-room in
+      let c = written_capacity l p e r.here small ready_room in
+      let n = written_length l p e r.here small ready_room in
       let q = h.past in
       let hc = h.counts in
       let hb = h.bytes in
@@ -214,13 +214,13 @@ module _ (l : List ℕ) (p : ℕ) (e : List ℕ) (es : List (List ℕ)) (r : Rea
         ok = h.ok;
         counts = omega arith;
         bytes = omega arith;
-        entries = h.entries ∙ ap (λ (t : List (List ℕ)). t ++ es) next-entries ∙ append_assoc (entries_of l) (e ∷ []) es;
+        entries = h.entries ∙ ap (λ (t : List (List ℕ)). t ++ es) next_entries ∙ append_assoc (entries_of l) (e ∷ []) es;
         past =
             record {
               size = q.size ∙ n;
               places = q.places ∙ c;
-              table = λ i a z. q.table i (omega arith) (omega arith) ∙ past-table l p e r.here small ready-room i (omega arith) z;
-              body = λ i a. q.body i (omega arith) ∙ past-body l p e r.here small ready-room i (omega arith);
+              table = λ i a z. q.table i (omega arith) (omega arith) ∙ past_table l p e r.here small ready_room i (omega arith) z;
+              body = λ i a. q.body i (omega arith) ∙ past_body l p e r.here small ready_room i (omega arith);
             };
       }
 
@@ -236,7 +236,7 @@ laid_holds [] l p r =
       entries = sym (append-nil (entries_of l));
       past = record { size = refl; places = refl; table = λ i _ _. refl; body = λ i _. refl };
     }
-laid_holds (e ∷ es) l p r = laid_next l p e es r _ (laid_holds es (written l p e) (p + 1) (ready-next l p e es r))
+laid_holds (e ∷ es) l p r = laid_next l p e es r _ (laid_holds es (written l p e) (p + 1) (ready_next l p e es r))
 
 pub laid_next_is : (l : List ℕ) (p : ℕ) (e : List ℕ) (es : List (List ℕ)) → laid l p (e ∷ es) ≡ laid (written l p e) (p + 1) es
 unfolding laid

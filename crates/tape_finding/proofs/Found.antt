@@ -7,22 +7,22 @@ use native.Mathlib.Omega.{arith}
 use lib.ListN.{length, get_or}
 use Rattle.tape_spacing.specs.Spacing.{ended, end_of}
 use Rattle.tape_marks.specs.Marks.{before, marks_ahead, count_th, stops_at, jump}
-use Rattle.tape_marks.proofs.Jump.{ahead_by, jump_end, jump-found}
+use Rattle.tape_marks.proofs.Jump.{ahead_by, jump_end, jump_found}
 
 -- of m marks `passed` lie before position p and `ahead` ahead of it
 module _ (f : Bool) (ms : List ℕ) (n p times m passed ahead : ℕ)
     (long : length ms ≡ m) (b : passed ≡ before ms p) (a : ahead ≡ marks_ahead f m passed) where
-  ahead-is : ahead ≡ ahead_by f ms p
-  ahead-is = a ∙ ap (λ (k : ℕ). marks_ahead f k passed) (sym long) ∙ ap (marks_ahead f (length ms)) b
+  ahead_is : ahead ≡ ahead_by f ms p
+  ahead_is = a ∙ ap (λ (k : ℕ). marks_ahead f k passed) (sym long) ∙ ap (marks_ahead f (length ms)) b
 
-  pub found-end : (end : ℕ) → end ≡ end_of f n → ahead < times → ended 13 end (times - ahead) ≡ jump f ms n p times
-  found-end end e less =
-      let i = ahead-is in
+  pub found_end : (end : ℕ) → end ≡ end_of f n → ahead < times → ended 13 end (times - ahead) ≡ jump f ms n p times
+  found_end end e less =
+      let i = ahead_is in
       ap (λ (q : ℕ). ended 13 q (times - ahead)) e ∙ ap (λ (k : ℕ). ended 13 (end_of f n) (times - k)) i ∙ sym (jump_end f ms n p times (omega arith))
 
-  pub found-mark : (index mark stop : ℕ) → (times ≡ 0 → ⊥) → times ≤ ahead → index ≡ count_th f passed times → mark ≡ get_or ms index 0 → stop ≡ stops_at f mark
+  pub found_mark : (index mark stop : ℕ) → (times ≡ 0 → ⊥) → times ≤ ahead → index ≡ count_th f passed times → mark ≡ get_or ms index 0 → stop ≡ stops_at f mark
       → ended 0 stop 0 ≡ jump f ms n p times
-  found-mark index mark stop some enough at is s =
-      let i = ahead-is in
+  found_mark index mark stop some enough at is s =
+      let i = ahead_is in
       ap (λ (q : ℕ). ended 0 q 0) (s ∙ ap (stops_at f) (is ∙ ap (λ (j : ℕ). get_or ms j 0) (at ∙ ap (λ (k : ℕ). count_th f k times) b)))
-      ∙ sym (jump-found f ms n p times some (omega arith))
+      ∙ sym (jump_found f ms n p times some (omega arith))

@@ -71,13 +71,13 @@ start ms p m e =
 
 module _ (low high : ℕ) (less : low < high) where
   module _ (few : high ≤ most_entries) where
-    pub upper-less : turns (middle low high + 1) high < turns low high
+    pub upper_less : turns (middle low high + 1) high < turns low high
     unfolding within
-    upper-less = halvings_less 13 (high - low) (high - (middle low high + 1)) (omega arith) (λ e. omega arith) (omega arith)
+    upper_less = halvings_less 13 (high - low) (high - (middle low high + 1)) (omega arith) (λ e. omega arith) (omega arith)
 
-    pub lower-less : turns low (middle low high) < turns low high
+    pub lower_less : turns low (middle low high) < turns low high
     unfolding within
-    lower-less = halvings_less 13 (high - low) (middle low high - low) (omega arith) (λ e. omega arith) (omega arith)
+    lower_less = halvings_less 13 (high - low) (middle low high - low) (omega arith) (λ e. omega arith) (omega arith)
 
   module _ (ms : List ℕ) (p : ℕ) (rising : RisingFrom 0 ms) (b : Between ms p low high) where
     pub upper : get_or ms (middle low high) 0 < p → Between ms p (middle low high + 1) high

@@ -9,7 +9,7 @@ use lib.ListN.{length, get_or}
 use lib.Dec.{eqb}
 use Rattle.tape_image.specs.Image.{entry_len}
 use Rattle.tape_marks.specs.Marks.{names_marks, is_mark_list}
-use Rattle.tape_marks.proofs.Marks.{names-end, names-pass, names-short, names-other, names-next}
+use Rattle.tape_marks.proofs.Marks.{names_end, names_pass, names_short, names_other, names_next}
 
 -- i of n entries are judged, and j words were among them
 pub record Judged (words l : List ℕ) (n i j : ℕ) : Type 0 where
@@ -24,24 +24,24 @@ judged_start words l n =
 
 -- of m words
 module _ (words l : List ℕ) (n i j m : ℕ) (long : length words ≡ m) (s : Judged words l n i j) where
-  pub judged-end : n ≤ i → eqb j m ≡ is_mark_list words l n
-  judged-end h = ap (eqb j) (sym long) ∙ sym (s.rest ∙ names-end words l n i j h)
+  pub judged_end : n ≤ i → eqb j m ≡ is_mark_list words l n
+  judged_end h = ap (eqb j) (sym long) ∙ sym (s.rest ∙ names_end words l n i j h)
 
   module _ (h : i < n) where
-    pub judged-pass : (entry_len l i ≡ 0 → ⊥) → Judged words l n (i + 1) j
-    judged-pass q =
+    pub judged_pass : (entry_len l i ≡ 0 → ⊥) → Judged words l n (i + 1) j
+    judged_pass q =
         let b = s.behind in
-        record { within = omega arith; behind = omega arith; rest = s.rest ∙ names-pass words l n i j h q }
+        record { within = omega arith; behind = omega arith; rest = s.rest ∙ names_pass words l n i j h q }
 
     module _ (q : entry_len l i ≡ 0) where
-      pub judged-short : m ≤ j → false ≡ is_mark_list words l n
-      judged-short b = sym (s.rest ∙ names-short words l n i j h q (omega arith))
+      pub judged_short : m ≤ j → false ≡ is_mark_list words l n
+      judged_short b = sym (s.rest ∙ names_short words l n i j h q (omega arith))
 
       module _ (b : j < m) where
-        pub judged-other : (get_or words j 0 ≡ i → ⊥) → false ≡ is_mark_list words l n
-        judged-other w = sym (s.rest ∙ names-other words l n i j h q (omega arith) w)
+        pub judged_other : (get_or words j 0 ≡ i → ⊥) → false ≡ is_mark_list words l n
+        judged_other w = sym (s.rest ∙ names_other words l n i j h q (omega arith) w)
 
-        pub judged-next : get_or words j 0 ≡ i → Judged words l n (i + 1) (j + 1)
-        judged-next w =
+        pub judged_next : get_or words j 0 ≡ i → Judged words l n (i + 1) (j + 1)
+        judged_next w =
             let z = s.behind in
-            record { within = omega arith; behind = omega arith; rest = s.rest ∙ names-next words l n i j h q (omega arith) w }
+            record { within = omega arith; behind = omega arith; rest = s.rest ∙ names_next words l n i j h q (omega arith) w }

@@ -52,14 +52,14 @@ table_end l total n i s h =
     rw e
 
 module _ (l : List ℕ) (total n i s : ℕ) (h : i < n) where
-  pub table-long : longest_record < entry_len l i → table_ok l total (n - i) i s ≡ false
-  table-long p = rw (table_step, lt-leb _ _ p)
+  pub table_long : longest_record < entry_len l i → table_ok l total (n - i) i s ≡ false
+  table_long p = rw (table_step, lt-leb _ _ p)
 
-  pub table-gap : entry_len l i ≤ longest_record → (entry_start l i ≡ s → ⊥) → table_ok l total (n - i) i s ≡ false
-  table-gap p q = rw (table_step, le-leb _ _ p, ne_eqb _ _ q)
+  pub table_gap : entry_len l i ≤ longest_record → (entry_start l i ≡ s → ⊥) → table_ok l total (n - i) i s ≡ false
+  table_gap p q = rw (table_step, le-leb _ _ p, ne_eqb _ _ q)
 
-  pub table-next : entry_len l i ≤ longest_record → entry_start l i ≡ s → table_ok l total (n - i) i s ≡ table_ok l total (n - (i + 1)) (i + 1) (s + entry_len l i)
-  table-next p q = rw (table_step, le-leb _ _ p, eq-eqb _ _ q)
+  pub table_next : entry_len l i ≤ longest_record → entry_start l i ≡ s → table_ok l total (n - i) i s ≡ table_ok l total (n - (i + 1)) (i + 1) (s + entry_len l i)
+  table_next p q = rw (table_step, le-leb _ _ p, eq-eqb _ _ q)
 
 pub sound_table : (l : List ℕ) → header_ok l ≡ true → is_sound l ≡ table_ok l (used l) (count l) 0 0
 unfolding is_sound
@@ -105,28 +105,28 @@ shifted : (l : List ℕ) (i m : ℕ) → Entry l (i + suc m) → Entry l (i + 1 
 shifted l i m f = let g : i + suc m ≡ i + 1 + m = omega arith in rw g at f
 
 module _ (l : List ℕ) (total : ℕ) where
-  table-entries : (k i s : ℕ) → table_ok l total k i s ≡ true → s ≡ sum_before l i → (m : ℕ) → m < k → Entry l (i + m)
-  table-entries zero i s h e m b = absurd (omega arith)
-  table-entries (suc k) i s h e zero b =
+  table_entries : (k i s : ℕ) → table_ok l total k i s ≡ true → s ≡ sum_before l i → (m : ℕ) → m < k → Entry l (i + m)
+  table_entries zero i s h e m b = absurd (omega arith)
+  table_entries (suc k) i s h e zero b =
       let r = table_head l total k i s h in
       rw (add-zero i) (record { short = r.short; start = r.start ∙ e })
-  table-entries (suc k) i s h e (suc m) b =
+  table_entries (suc k) i s h e (suc m) b =
       let r = table_head l total k i s h in
       let f : s + entry_len l i ≡ sum_before l (i + 1) = ap (λ (x : ℕ). x + entry_len l i) e ∙ sym (sum_next l i) in
       let g : i + 1 + m ≡ i + suc m = omega arith in
-      rw g at (table-entries k (i + 1) (s + entry_len l i) r.rest f m (omega arith))
+      rw g at (table_entries k (i + 1) (s + entry_len l i) r.rest f m (omega arith))
 
-  table-total : (k i s : ℕ) → table_ok l total k i s ≡ true → s ≡ sum_before l i → total ≡ sum_before l (i + k)
-  table-total zero i s h e = rw (add-zero i) (sym (table_nil l total i s h) ∙ e)
-  table-total (suc k) i s h e =
+  table_total : (k i s : ℕ) → table_ok l total k i s ≡ true → s ≡ sum_before l i → total ≡ sum_before l (i + k)
+  table_total zero i s h e = rw (add-zero i) (sym (table_nil l total i s h) ∙ e)
+  table_total (suc k) i s h e =
       let r = table_head l total k i s h in
       let f : s + entry_len l i ≡ sum_before l (i + 1) = ap (λ (x : ℕ). x + entry_len l i) e ∙ sym (sum_next l i) in
       let g : i + 1 + k ≡ i + suc k = omega arith in
-      rw g at (table-total k (i + 1) (s + entry_len l i) r.rest f)
+      rw g at (table_total k (i + 1) (s + entry_len l i) r.rest f)
 
-  entries-table : (k i s : ℕ) → s ≡ sum_before l i → ((m : ℕ) → m < k → Entry l (i + m)) → total ≡ sum_before l (i + k) → table_ok l total k i s ≡ true
-  entries-table zero i s e f t = nil_table l total i s (e ∙ sym (rw (add-zero i) at t))
-  entries-table (suc k) i s e f t =
+  entries_table : (k i s : ℕ) → s ≡ sum_before l i → ((m : ℕ) → m < k → Entry l (i + m)) → total ≡ sum_before l (i + k) → table_ok l total k i s ≡ true
+  entries_table zero i s e f t = nil_table l total i s (e ∙ sym (rw (add-zero i) at t))
+  entries_table (suc k) i s e f t =
       let h : Entry l i = rw (add-zero i) at (f 0 (omega arith)) in
       let e' : s + entry_len l i ≡ sum_before l (i + 1) = ap (λ (x : ℕ). x + entry_len l i) e ∙ sym (sum_next l i) in
       let g : i + suc k ≡ i + 1 + k = omega arith in
@@ -134,7 +134,7 @@ module _ (l : List ℕ) (total : ℕ) where
       (record {
         short = h.short;
         start = h.start ∙ sym e;
-        rest = entries-table k (i + 1) (s + entry_len l i) e' (λ m b. shifted l i m (f (suc m) (omega arith))) (rw g at t);
+        rest = entries_table k (i + 1) (s + entry_len l i) e' (λ m b. shifted l i m (f (suc m) (omega arith))) (rw g at t);
       })
 
 pub sound_facts : (l : List ℕ) → is_sound l ≡ true → Sound l
@@ -143,15 +143,15 @@ sound_facts l h =
     let t : table_ok l (used l) (count l) 0 0 ≡ true = and_r (header_ok l) (table_ok l (used l) (count l) 0 0) h in
     record {
       header = header_facts l (and_l (header_ok l) (table_ok l (used l) (count l) 0 0) h);
-      entry = λ i b. rw (zero-add i) at (table-entries l (used l) (count l) 0 0 t refl i b);
-      total = rw (zero-add (count l)) at (table-total l (used l) (count l) 0 0 t refl);
+      entry = λ i b. rw (zero-add i) at (table_entries l (used l) (count l) 0 0 t refl i b);
+      total = rw (zero-add (count l)) at (table_total l (used l) (count l) 0 0 t refl);
     }
 
 pub sound_holds : (l : List ℕ) → Sound l → is_sound l ≡ true
 unfolding sum_before
 sound_holds l s =
     sound_table l (sym (header_holds l s.header))
-    ∙ entries-table l (used l) (count l) 0 0 refl (λ m b. rw (zero-add m) (s.entry m b)) (rw (zero-add (count l)) s.total)
+    ∙ entries_table l (used l) (count l) 0 0 refl (λ m b. rw (zero-add m) (s.entry m b)) (rw (zero-add (count l)) s.total)
 
 -- the place of an entry of a sound image
 pub entry_there : (l : List ℕ) (i : ℕ) → Sound l → i < capacity l → Table l (i + 1)
@@ -187,17 +187,17 @@ sum_same l m (suc i) f =
 
 -- ---- faults
 module _ (l : List ℕ) (p : ℕ) where
-  pub fault-unsound : is_sound l ≡ false → true ≡ faulty l p
+  pub fault_unsound : is_sound l ≡ false → true ≡ faulty l p
   unfolding faulty choose
-  fault-unsound h = rw h
+  fault_unsound h = rw h
 
-  pub fault-above : is_sound l ≡ true → count l < p → true ≡ faulty l p
+  pub fault_above : is_sound l ≡ true → count l < p → true ≡ faulty l p
   unfolding faulty choose
-  fault-above h k = rw h (sym (lt-ltb (count l) p k))
+  fault_above h k = rw h (sym (lt-ltb (count l) p k))
 
-  pub fault-none : is_sound l ≡ true → p ≤ count l → false ≡ faulty l p
+  pub fault_none : is_sound l ≡ true → p ≤ count l → false ≡ faulty l p
   unfolding faulty choose
-  fault-none h k = rw h (sym (le-ltb (count l) p k))
+  fault_none h k = rw h (sym (le-ltb (count l) p k))
 
 chosen : (b c : Bool) → choose b c true ≡ false → (b ≡ true) × (c ≡ false)
 unfolding choose
@@ -211,4 +211,4 @@ placed l p h =
     record { ok = sound_facts l f.0; within = ltb-false (count l) p f.1 }
 
 pub no_fault : (l : List ℕ) (p : ℕ) → Placed l p → false ≡ faulty l p
-no_fault l p f = fault-none l p (sound_holds l f.ok) f.within
+no_fault l p f = fault_none l p (sound_holds l f.ok) f.within

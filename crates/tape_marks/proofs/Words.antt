@@ -15,7 +15,7 @@ use Rattle.tape_spacing.specs.Spacing.{spacing, goes_forward, counts_marks}
 use Rattle.tape_spacing.specs.Alike.{is_mark}
 use Rattle.tape_marks.specs.Marks.{marks_from, words_at, is_mark_list, before, jump}
 use Rattle.tape_marks.specs.Holds.{RisingFrom, Listed}
-use Rattle.tape_marks.proofs.Marks.{by_cases, rising_least, before-yes, before-no, before_none, marks-rising, number-marks, names-exactly}
+use Rattle.tape_marks.proofs.Marks.{by_cases, rising_least, before_yes, before_no, before_none, marks_rising, number_marks, names_exactly}
 use Rattle.tape_marks.proofs.Jump.{files_by_marks}
 
 pub length_words : (l : List ℕ) (m at : ℕ) → length (words_at l at m) ≡ m
@@ -43,10 +43,10 @@ module _ (p : ℕ) where
   -- a word below p: it and all before it lie before p
   pub low_half : (b : ℕ) (ms : List ℕ) (j : ℕ) → RisingFrom b ms → j < length ms → get_or ms j 0 < p → j + 1 ≤ before ms p
   low_half b [] j r h low = absurd (omega arith)
-  low_half b (m ∷ ms) zero r h low = let e = before-yes p m ms low in omega arith
+  low_half b (m ∷ ms) zero r h low = let e = before_yes p m ms low in omega arith
   low_half b (m ∷ ms) (suc j) r h low =
       let above = rising_least (m + 1) ms j r.1 (omega arith) in
-      let e = before-yes p m ms (omega arith) in
+      let e = before_yes p m ms (omega arith) in
       let rest = low_half (m + 1) ms j r.1 (omega arith) low in
       omega arith
 
@@ -54,14 +54,14 @@ module _ (p : ℕ) where
   pub high_half : (b : ℕ) (ms : List ℕ) (j : ℕ) → RisingFrom b ms → j < length ms → p ≤ get_or ms j 0 → before ms p ≤ j
   high_half b [] j r h high = absurd (omega arith)
   high_half b (m ∷ ms) zero r h high =
-      let e = before-no p m ms high in
+      let e = before_no p m ms high in
       let rest = before_none (m + 1) p ms r.1 (omega arith) in
       omega arith
   high_half b (m ∷ ms) (suc j) r h high =
       let rest = high_half (m + 1) ms j r.1 (omega arith) high in
       by_cases (ltb m p)
-      (λ t. let e = before-yes p m ms (ltb-true m p t) in omega arith)
-      (λ t. let e = before-no p m ms (ltb-false m p t) in omega arith)
+      (λ t. let e = before_yes p m ms (ltb-true m p t) in omega arith)
+      (λ t. let e = before_no p m ms (ltb-false m p t) in omega arith)
 
 -- ---- a list that names the marks
 -- no more marks than entries
@@ -74,20 +74,20 @@ few_marks l (suc n) =
 
 module _ (l : List ℕ) (at m n : ℕ) (named : is_mark_list (words_at l at m) l n ≡ true) where
   words_are : words_at l at m ≡ marks_from l 0 n
-  words_are = (names-exactly (words_at l at m) l n).are named
+  words_are = (names_exactly (words_at l at m) l n).are named
 
-  pub named-few : m ≤ n
-  named-few =
+  pub named_few : m ≤ n
+  named_few =
       let a = length_words l m at in
       let b = ap length words_are in
-      let c = number-marks l n in
+      let c = number_marks l n in
       let d = few_marks l n in
       omega arith
 
-  pub named-listed : n ≤ most_entries → at + m * 4 ≤ length l → Listed l at m
-  named-listed few whole =
-      let f = named-few in
-      record { few = omega arith; whole = whole; rising = rw words_are (marks-rising l n 0) }
+  pub named_listed : n ≤ most_entries → at + m * 4 ≤ length l → Listed l at m
+  named_listed few whole =
+      let f = named_few in
+      record { few = omega arith; whole = whole; rising = rw words_are (marks_rising l n 0) }
 
 -- FSF and BSF by a list where it lies, which names the marks
 pub named_files : (l : List ℕ) (at m op p times : ℕ) → is_mark_list (words_at l at m) l (count l) ≡ true → counts_marks op ≡ true → p ≤ count l

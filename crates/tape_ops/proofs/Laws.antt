@@ -24,10 +24,10 @@ no_fault_here l p r e h = placed l p (sym e ∙ h)
 
 -- the end of a write: there was room, or not
 module _ (l : List ℕ) (p : ℕ) (b : List ℕ) (r : Bool) (l' : List ℕ) (w : FilledWrite l p b (length b) r l') where
-  pub told-room : r ≡ true → Told (choose (room_for l p (length b)) (record { gives = wrote 0 (length b) (p + 1); image = written l p b }) (keeping l (wrote 13 0 p)))
+  pub told_room : r ≡ true → Told (choose (room_for l p (length b)) (record { gives = wrote 0 (length b) (p + 1); image = written l p b }) (keeping l (wrote 13 0 p)))
       (wrote 0 (length b) (p + 1)) l'
   unfolding choose
-  told-room h =
+  told_room h =
       let e : room_for l p (length b) ≡ true = sym w.room ∙ h in
       rw e (record { is = refl; image = rw (e, fill_whole) at w.image })
 
@@ -56,10 +56,10 @@ module _ (l : List ℕ) (p times : ℕ) where
   unfolding entry_part choose
   at_mark h k = rw (ne_eqb p (count l) h, eq-eqb (entry_len l p) 0 k)
 
-  pub at-record : (s n : ℕ) → (p ≡ count l → ⊥) → (entry_len l p ≡ 0 → ⊥) → s ≡ body_at l + entry_start l p → n ≡ least times (entry_len l p)
+  pub at_record : (s n : ℕ) → (p ≡ count l → ⊥) → (entry_len l p ≡ 0 → ⊥) → s ≡ body_at l + entry_start l p → n ≡ least times (entry_len l p)
       → part 0 (p + 1) s n ≡ entry_part l p times
   unfolding entry_part choose
-  at-record s n h k e f = rw (ne_eqb p (count l) h, ne_eqb (entry_len l p) 0 k, e, f)
+  at_record s n h k e f = rw (ne_eqb p (count l) h, ne_eqb (entry_len l p) 0 k, e, f)
 
 pub standing_is : (l : List ℕ) (p : ℕ) (s : Place) → s ≡ place_at l p → standing 0 s.file s.block ≡ standing 0 (marks_before l p) (records_since l p)
 standing_is l p s e = ap (λ (k : Place). standing 0 k.file k.block) e

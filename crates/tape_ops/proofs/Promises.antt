@@ -10,7 +10,7 @@ use lib.Dec.{ltb, eqb}
 use borrow.Author.Tests.{ltb-false, eqb-true, eqb-false, eq-eqb, ne_eqb, lt-ltb, le-ltb}
 use Rattle.codes.specs.Codes.{longest_record}
 use Rattle.xdr.specs.Choose.{choose, least}
-use Rattle.xdr.proofs.Tests.{by_test, by_both, least-take}
+use Rattle.xdr.proofs.Tests.{by_test, by_both, least_take}
 use Rattle.tape_image.specs.Image.{capacity, count, entry_len, entry_start, entry_bytes, body_at, faulty}
 use Rattle.tape_image.specs.Sound.{Sound, Placed}
 use Rattle.tape_image.proofs.Laws.{sound_holds, placed, no_fault}
@@ -21,8 +21,8 @@ use Rattle.tape_spacing.proofs.Laws.{spaced_within, spaced_error, spaced_stands}
 use Rattle.tape_spacing.proofs.Alike.{spacing_alike}
 use Rattle.tape_writing.specs.Writing.{Room, room_for, kept, written, with_marks}
 use Rattle.tape_writing.proofs.Laws.{room_facts}
-use Rattle.tape_writing.proofs.Theorems.{written-placed, written-length, written_count, written-used, written-len, written_start, written-capacity}
-use Rattle.tape_writing.proofs.Theorems.{written-there, same_bytes, past-table, past-body, marks_placed, marks_used, marks_past}
+use Rattle.tape_writing.proofs.Theorems.{written_placed, written_length, written_count, written_used, written_len, written_start, written_capacity}
+use Rattle.tape_writing.proofs.Theorems.{written_there, same_bytes, past_table, past_body, marks_placed, marks_used, marks_past}
 use Rattle.tape_ops.specs.declared.Wrote.{Wrote}
 use Rattle.tape_ops.specs.declared.Part.{Part}
 use Rattle.tape_ops.specs.Step.{Step, keeping}
@@ -44,23 +44,23 @@ module _ (l : List ℕ) (p : ℕ) (at : Placed l p) where
       (λ s. by_test Kept (faulty l p) _ _ (λ _. at)
       (λ f. by_test Kept (eqb (length b) 0) _ _ (λ _. at)
       (λ n. by_test Kept (room_for l p (length b)) _ _
-      (λ r. written-placed l p b at (ltb-false longest_record (length b) s) (room_facts l p (length b) r))
+      (λ r. written_placed l p b at (ltb-false longest_record (length b) s) (room_facts l p (length b) r))
       (λ _. at))))
 
-  mark-kept : (times : ℕ) → Spaces (mark_step l p times)
+  mark_kept : (times : ℕ) → Spaces (mark_step l p times)
   unfolding mark_step Spaces
-  mark-kept times =
+  mark_kept times =
       by_test Spaces (ltb (capacity l) (p + times)) _ _ (λ _. at) (λ h. marks_placed times l p at (ltb-false (capacity l) (p + times) h))
 
   rewound : Placed l 0
   rewound = record { ok = at.ok; within = omega arith }
 
-  mtio-kept : (op times : ℕ) → Spaces (mtio_step l op p times)
+  mtio_kept : (op times : ℕ) → Spaces (mtio_step l op p times)
   unfolding mtio_step Spaces
-  mtio-kept op times =
+  mtio_kept op times =
       by_test Spaces (ltb 6 op) _ _ (λ _. at)
       (λ _. by_test Spaces (faulty l p) _ _ (λ _. at)
-      (λ _. by_test Spaces (eqb op 5) _ _ (λ _. mark-kept times)
+      (λ _. by_test Spaces (eqb op 5) _ _ (λ _. mark_kept times)
       (λ _. by_test Spaces (rewinds op) _ _ (λ _. rewound)
       (λ _. record { ok = at.ok; within = (spaced_within l op p times at.within).within }))))
 
@@ -90,32 +90,32 @@ module _ (l : List ℕ) where
   Moves : Step Spaced → Type 0
   Moves s = (s.gives.error ≡ 0 → ⊥) → s.image ≡ l
 
-  write-leaves : (p : ℕ) (b : List ℕ) → Writes (write_step l p b)
+  write_leaves : (p : ℕ) (b : List ℕ) → Writes (write_step l p b)
   unfolding write_step Writes
-  write-leaves p b =
+  write_leaves p b =
       by_test Writes (ltb longest_record (length b)) _ _ (λ _ _. refl)
       (λ _. by_test Writes (faulty l p) _ _ (λ _ _. refl)
       (λ _. by_test Writes (eqb (length b) 0) _ _ (λ _ _. refl)
       (λ _. by_test Writes (room_for l p (length b)) _ _ (λ _ h. nonzero h) (λ _ _. refl))))
 
-  mark-leaves : (p times : ℕ) → Moves (mark_step l p times)
+  mark_leaves : (p times : ℕ) → Moves (mark_step l p times)
   unfolding mark_step Moves
-  mark-leaves p times = by_test Moves (ltb (capacity l) (p + times)) _ _ (λ _ _. refl) (λ _ h. nonzero h)
+  mark_leaves p times = by_test Moves (ltb (capacity l) (p + times)) _ _ (λ _ _. refl) (λ _ h. nonzero h)
 
-  mtio-leaves : (op p times : ℕ) → Moves (mtio_step l op p times)
+  mtio_leaves : (op p times : ℕ) → Moves (mtio_step l op p times)
   unfolding mtio_step Moves
-  mtio-leaves op p times =
+  mtio_leaves op p times =
       by_test Moves (ltb 6 op) _ _ (λ _ _. refl)
       (λ _. by_test Moves (faulty l p) _ _ (λ _ _. refl)
-      (λ _. by_test Moves (eqb op 5) _ _ (λ _. mark-leaves p times)
+      (λ _. by_test Moves (eqb op 5) _ _ (λ _. mark_leaves p times)
       (λ _. by_test Moves (rewinds op) _ _ (λ _ _. refl) (λ _ _. refl))))
 
   Same : Step Spaced → Type 0
   Same s = s.image ≡ l
 
-  others-leave : (op p times : ℕ) → (op ≡ 5 → ⊥) → Same (mtio_step l op p times)
+  others_leave : (op p times : ℕ) → (op ≡ 5 → ⊥) → Same (mtio_step l op p times)
   unfolding mtio_step Same
-  others-leave op p times h =
+  others_leave op p times h =
       by_test Same (ltb 6 op) _ _ (λ _. refl)
       (λ _. by_test Same (faulty l p) _ _ (λ _. refl)
       (λ _. by_test Same (eqb op 5) _ _ (λ e. absurd (h (eqb-true op 5 e)))
@@ -132,29 +132,29 @@ module _ (l : List ℕ) (p : ℕ) where
   ReadStands : Part → Type 0
   ReadStands r = Refused r.error → r.position ≡ p
 
-  write-stands : (b : List ℕ) → WriteStands (write_step l p b)
+  write_stands : (b : List ℕ) → WriteStands (write_step l p b)
   unfolding write_step WriteStands
-  write-stands b =
+  write_stands b =
       by_test WriteStands (ltb longest_record (length b)) _ _ (λ _ _. refl)
       (λ _. by_test WriteStands (faulty l p) _ _ (λ _ _. refl)
       (λ _. by_test WriteStands (eqb (length b) 0) _ _ (λ _ _. refl)
       (λ _. by_test WriteStands (room_for l p (length b)) _ _ (λ _ o. absurd (o.0 refl)) (λ _ _. refl))))
 
-  mark-stands : (times : ℕ) → MtioStands (mark_step l p times)
+  mark_stands : (times : ℕ) → MtioStands (mark_step l p times)
   unfolding mark_step MtioStands
-  mark-stands times = by_test MtioStands (ltb (capacity l) (p + times)) _ _ (λ _ _. refl) (λ _ o. absurd (o.0 refl))
+  mark_stands times = by_test MtioStands (ltb (capacity l) (p + times)) _ _ (λ _ _. refl) (λ _ o. absurd (o.0 refl))
 
-  mtio-stands : (op times : ℕ) → MtioStands (mtio_step l op p times)
+  mtio_stands : (op times : ℕ) → MtioStands (mtio_step l op p times)
   unfolding mtio_step MtioStands
-  mtio-stands op times =
+  mtio_stands op times =
       by_test MtioStands (ltb 6 op) _ _ (λ _ _. refl)
       (λ _. by_test MtioStands (faulty l p) _ _ (λ _ _. refl)
-      (λ _. by_test MtioStands (eqb op 5) _ _ (λ _. mark-stands times)
+      (λ _. by_test MtioStands (eqb op 5) _ _ (λ _. mark_stands times)
       (λ _. by_test MtioStands (rewinds op) _ _ (λ _ o. absurd (o.0 refl)) (λ _ o. absurd (spaced_error l op p times o)))))
 
-  read-stands : (times : ℕ) → ReadStands (read_part l p times)
+  read_stands : (times : ℕ) → ReadStands (read_part l p times)
   unfolding read_part entry_part ReadStands
-  read-stands times =
+  read_stands times =
       by_test ReadStands (ltb longest_record times) _ _ (λ _ _. refl)
       (λ _. by_test ReadStands (faulty l p) _ _ (λ _ _. refl)
       (λ _. by_test ReadStands (eqb times 0) _ _ (λ _ _. refl)
@@ -212,71 +212,71 @@ module _ (l : List ℕ) (p : ℕ) where
   MtioMark : ℕ → Step Spaced → Type 0
   MtioMark op s = s.gives.error ≡ 12 → PassedMark (goes_forward op) l p s.gives.position
 
-  mark-unmarked : (op times : ℕ) → MtioMark op (mark_step l p times)
+  mark_unmarked : (op times : ℕ) → MtioMark op (mark_step l p times)
   unfolding mark_step MtioMark
-  mark-unmarked op times = by_test (MtioMark op) (ltb (capacity l) (p + times)) _ _ (λ _ h. absurd (omega arith)) (λ _ h. absurd (omega arith))
+  mark_unmarked op times = by_test (MtioMark op) (ltb (capacity l) (p + times)) _ _ (λ _ h. absurd (omega arith)) (λ _ h. absurd (omega arith))
 
   mtio_mark : (op times : ℕ) → MtioMark op (mtio_step l op p times)
   unfolding mtio_step MtioMark
   mtio_mark op times =
       by_test (MtioMark op) (ltb 6 op) _ _ (λ _ h. absurd (omega arith))
       (λ _. by_test (MtioMark op) (faulty l p) _ _ (λ _ h. absurd (omega arith))
-      (λ f. by_test (MtioMark op) (eqb op 5) _ _ (λ _. mark-unmarked op times)
+      (λ f. by_test (MtioMark op) (eqb op 5) _ _ (λ _. mark_unmarked op times)
       (λ _. by_test (MtioMark op) (rewinds op) _ _ (λ _ h. absurd (omega arith)) (λ _. (spaced_stands l op p times (placed l p f).within).mark))))
 
   MtioEnd : ℕ → Step Spaced → Type 0
   MtioEnd op s = s.gives.error ≡ 13 → s.gives.position ≡ choose (eqb op 5) p (end_of (goes_forward op) (count l))
 
-  mark-end : (op times : ℕ) → eqb op 5 ≡ true → MtioEnd op (mark_step l p times)
+  mark_end : (op times : ℕ) → eqb op 5 ≡ true → MtioEnd op (mark_step l p times)
   unfolding mark_step MtioEnd choose
-  mark-end op times e = by_test (MtioEnd op) (ltb (capacity l) (p + times)) _ _ (λ _ h. rw e) (λ _ h. absurd (omega arith))
+  mark_end op times e = by_test (MtioEnd op) (ltb (capacity l) (p + times)) _ _ (λ _ h. rw e) (λ _ h. absurd (omega arith))
 
-  space-end : (op times : ℕ) → p ≤ count l → eqb op 5 ≡ false → MtioEnd op (keeping l (spacing l op p times))
+  space_end : (op times : ℕ) → p ≤ count l → eqb op 5 ≡ false → MtioEnd op (keeping l (spacing l op p times))
   unfolding MtioEnd choose
-  space-end op times h e g = rw e ((spaced_stands l op p times h).end g)
+  space_end op times h e g = rw e ((spaced_stands l op p times h).end g)
 
   mtio_end : (op times : ℕ) → MtioEnd op (mtio_step l op p times)
   unfolding mtio_step MtioEnd
   mtio_end op times =
       by_test (MtioEnd op) (ltb 6 op) _ _ (λ _ h. absurd (omega arith))
       (λ _. by_test (MtioEnd op) (faulty l p) _ _ (λ _ h. absurd (omega arith))
-      (λ f. by_test (MtioEnd op) (eqb op 5) _ _ (λ e. mark-end op times e)
-      (λ e. by_test (MtioEnd op) (rewinds op) _ _ (λ _ h. absurd (omega arith)) (λ _. space-end op times (placed l p f).within e))))
+      (λ f. by_test (MtioEnd op) (eqb op 5) _ _ (λ e. mark_end op times e)
+      (λ e. by_test (MtioEnd op) (rewinds op) _ _ (λ _ h. absurd (omega arith)) (λ _. space_end op times (placed l p f).within e))))
 
 -- ---- what is past the end stays
 module _ (l : List ℕ) where
-  same-past : PastEnd l l
-  same-past = record { size = refl; table = λ i _ _. refl; body = λ i _. refl }
+  same_past : PastEnd l l
+  same_past = record { size = refl; table = λ i _ _. refl; body = λ i _. refl }
 
   WritePast : Step Wrote → Type 0
   WritePast s = PastEnd l s.image
 
-  written-past : (p : ℕ) (b : List ℕ) → Placed l p → length b ≤ longest_record → Room l p (length b) → PastEnd l (written l p b)
-  written-past p b at small room =
+  written_past : (p : ℕ) (b : List ℕ) → Placed l p → length b ≤ longest_record → Room l p (length b) → PastEnd l (written l p b)
+  written_past p b at small room =
       let c = written_count l p b at small room in
-      let u = written-used l p b at small room in
+      let u = written_used l p b at small room in
       record {
-        size = written-length l p b at small room;
-        table = λ i h k. past-table l p b at small room i (omega arith) k;
-        body = λ i h. past-body l p b at small room i (omega arith);
+        size = written_length l p b at small room;
+        table = λ i h k. past_table l p b at small room i (omega arith) k;
+        body = λ i h. past_body l p b at small room i (omega arith);
       }
 
-  write-past : (p : ℕ) (b : List ℕ) → WritePast (write_step l p b)
+  write_past : (p : ℕ) (b : List ℕ) → WritePast (write_step l p b)
   unfolding write_step WritePast
-  write-past p b =
-      by_test WritePast (ltb longest_record (length b)) _ _ (λ _. same-past)
-      (λ s. by_test WritePast (faulty l p) _ _ (λ _. same-past)
-      (λ f. by_test WritePast (eqb (length b) 0) _ _ (λ _. same-past)
+  write_past p b =
+      by_test WritePast (ltb longest_record (length b)) _ _ (λ _. same_past)
+      (λ s. by_test WritePast (faulty l p) _ _ (λ _. same_past)
+      (λ f. by_test WritePast (eqb (length b) 0) _ _ (λ _. same_past)
       (λ _. by_test WritePast (room_for l p (length b)) _ _
-      (λ r. written-past p b (placed l p f) (ltb-false longest_record (length b) s) (room_facts l p (length b) r)) (λ _. same-past))))
+      (λ r. written_past p b (placed l p f) (ltb-false longest_record (length b) s) (room_facts l p (length b) r)) (λ _. same_past))))
 
   MtioPast : Step Spaced → Type 0
   MtioPast s = PastEnd l s.image
 
-  mark-past : (p times : ℕ) → Placed l p → MtioPast (mark_step l p times)
+  mark_past : (p times : ℕ) → Placed l p → MtioPast (mark_step l p times)
   unfolding mark_step MtioPast
-  mark-past p times at =
-      by_test MtioPast (ltb (capacity l) (p + times)) _ _ (λ _. same-past)
+  mark_past p times at =
+      by_test MtioPast (ltb (capacity l) (p + times)) _ _ (λ _. same_past)
       (λ h.
       let fits = ltb-false (capacity l) (p + times) h in
       let r = marks_past times l p at fits in
@@ -288,13 +288,13 @@ module _ (l : List ℕ) where
         body = λ i a. r.body i (omega arith);
       })
 
-  mtio-past : (op p times : ℕ) → MtioPast (mtio_step l op p times)
+  mtio_past : (op p times : ℕ) → MtioPast (mtio_step l op p times)
   unfolding mtio_step MtioPast
-  mtio-past op p times =
-      by_test MtioPast (ltb 6 op) _ _ (λ _. same-past)
-      (λ _. by_test MtioPast (faulty l p) _ _ (λ _. same-past)
-      (λ f. by_test MtioPast (eqb op 5) _ _ (λ _. mark-past p times (placed l p f))
-      (λ _. by_test MtioPast (rewinds op) _ _ (λ _. same-past) (λ _. same-past))))
+  mtio_past op p times =
+      by_test MtioPast (ltb 6 op) _ _ (λ _. same_past)
+      (λ _. by_test MtioPast (faulty l p) _ _ (λ _. same_past)
+      (λ f. by_test MtioPast (eqb op 5) _ _ (λ _. mark_past p times (placed l p f))
+      (λ _. by_test MtioPast (rewinds op) _ _ (λ _. same_past) (λ _. same_past))))
 
 -- ---- MTIO is refused by its operation, then by the fault; behind them REW and 6 go to the start
 mtio_refused : (l : List ℕ) (p : ℕ) → MtioRefused l p
@@ -325,7 +325,7 @@ module _ (l : List ℕ) (p times : ℕ) (some : 0 < times) where
       (λ _. by_test First (eqb times 0) _ _ (λ e h. let z : times ≡ 0 = eqb-true times 0 e in absurd (omega arith))
       (λ _. by_test First (eqb p (count l)) _ _ (λ _ h. wrong 12 h)
       (λ _. by_test First (eqb (entry_len l p) 0) _ _ (λ _ h. wrong 11 h)
-      (λ _ h. least-take times (entry_len l p) (drop (body_at l + entry_start l p) l))))))
+      (λ _ h. least_take times (entry_len l p) (drop (body_at l + entry_start l p) l))))))
 
 -- a read of some bytes at a record
 read_record : (m : List ℕ) (p times : ℕ) → Placed m p → times ≤ longest_record → 0 < times → p < count m → (entry_len m p ≡ 0 → ⊥)
@@ -347,23 +347,23 @@ module _ (l : List ℕ) (p : ℕ) (b : List ℕ) (at : Placed l p) (some : 0 < l
   written_back small room =
       let m : List ℕ = written l p b in
       let n = written_count l p b at small room in
-      let w = written-placed l p b at small room in
-      let len = written-len l p b at small room in
+      let w = written_placed l p b at small room in
+      let len = written_len l p b at small room in
       let here : Placed m p = record { ok = w.ok; within = omega arith } in
       let e : (read_part m p (length b)).error ≡ 0 =
       ap (λ (r : Part). r.error) (read_record m p (length b) here small some (omega arith) (λ z. omega arith)) in
       record {
         error = e;
-        bytes = read_first m p (length b) some e ∙ ap (take (length b)) (written-there l p b at small room) ∙ take-length b;
+        bytes = read_first m p (length b) some e ∙ ap (take (length b)) (written_there l p b at small room) ∙ take-length b;
         before = same_bytes l p b at small room;
       }
 
   Returned : Step Wrote → Type 0
   Returned s = s.gives.error ≡ 0 → Back s.image
 
-  write-back : Returned (write_step l p b)
+  write_back : Returned (write_step l p b)
   unfolding write_step Returned
-  write-back =
+  write_back =
       by_test Returned (ltb longest_record (length b)) _ _ (λ _ h. absurd (omega arith))
       (λ s. by_test Returned (faulty l p) _ _ (λ _ h. absurd (omega arith))
       (λ _. by_test Returned (eqb (length b) 0) _ _ (λ e h. let z : length b ≡ 0 = eqb-true (length b) 0 e in absurd (omega arith))
@@ -380,9 +380,9 @@ module _ (l m : List ℕ) (a : Sound l) (b : Sound m) (one : count l ≡ count m
   Alike : Step Spaced → Step Spaced → Type 0
   Alike s t = AgreeInKind (goes_forward op) p s.gives.position l m → s.gives ≡ t.gives
 
-  mtio-alike : (op ≡ 5 → ⊥) → Alike (mtio_step l op p times) (mtio_step m op p times)
+  mtio_alike : (op ≡ 5 → ⊥) → Alike (mtio_step l op p times) (mtio_step m op p times)
   unfolding mtio_step Alike
-  mtio-alike other =
+  mtio_alike other =
       rw (same_fault l m p a b one)
       (by_both Alike (ltb 6 op) _ _ _ _ (λ _ _. refl)
       (λ _. by_both Alike (faulty l p) _ _ _ _ (λ _ _. refl)
@@ -394,9 +394,9 @@ pub promises : TapePromises
 unfolding Kept Spaces InTape Writes Moves Same WriteStands MtioStands ReadStands ReadMark ReadEnd WriteMark WriteEnd MtioMark MtioEnd WritePast MtioPast First Returned Alike
 promises =
     record {
-      sound = λ l p at. record { write = write_kept l p at; mtio = mtio-kept l p at; read = read_kept l p at };
-      leave = λ l p. record { write = write-leaves l p; mtio = λ op times. mtio-leaves l op p times; spacing = λ op times. others-leave l op p times };
-      stand = λ l p. record { write = write-stands l p; mtio = mtio-stands l p; read = read-stands l p };
+      sound = λ l p at. record { write = write_kept l p at; mtio = mtio_kept l p at; read = read_kept l p at };
+      leave = λ l p. record { write = write_leaves l p; mtio = λ op times. mtio_leaves l op p times; spacing = λ op times. others_leave l op p times };
+      stand = λ l p. record { write = write_stands l p; mtio = mtio_stands l p; read = read_stands l p };
       outcomes =
           λ l p.
           record {
@@ -407,11 +407,11 @@ promises =
             mtio_mark = mtio_mark l p;
             mtio_end = mtio_end l p;
           };
-      past = λ l p. record { write = write-past l p; mtio = λ op times. mtio-past l op p times };
+      past = λ l p. record { write = write_past l p; mtio = λ op times. mtio_past l op p times };
       refused = mtio_refused;
       rew = rew_to_start;
       off = off_to_start;
       first = λ l p times some. read_first l p times some;
-      back = λ l p b at some e. let r = write-back l p b at some e in record { error = r.error; bytes = r.bytes; before = r.before };
-      alike = λ l m a b one op p times other. mtio-alike l m a b one op p times other;
+      back = λ l p b at some e. let r = write_back l p b at some e in record { error = r.error; bytes = r.bytes; before = r.before };
+      alike = λ l m a b one op p times other. mtio_alike l m a b one op p times other;
     }

@@ -8,7 +8,7 @@ use lib.Seq.{take-take, drop-drop}
 use lib.Dec.{eqb, ltb}
 use borrow.Author.Tests.{ltb-false, eqb-false}
 use Rattle.codes.specs.Codes.{longest_record}
-use Rattle.xdr.proofs.Tests.{by_test, least-left, least-right}
+use Rattle.xdr.proofs.Tests.{by_test, least_left, least_right}
 use Rattle.tape_image.specs.Image.{count, entry_len, entry_start, entry_bytes, body_at, faulty}
 use Rattle.tape_image.specs.Sound.{Placed}
 use Rattle.tape_image.proofs.Laws.{placed, sum_next, sum_used}
@@ -54,7 +54,7 @@ read_copies l p times =
     (λ _. by_test (Copied l) (eqb p (count l)) _ _ (λ _. (omega arith, omega arith))
     (λ h. by_test (Copied l) (eqb (entry_len l p) 0) _ _ (λ _. (omega arith, omega arith))
     (λ _. let e = entry_within l p (placed l p f) (eqb-false p (count l) h) in
-    let j = least-left times (entry_len l p) in
-    let k = least-right times (entry_len l p) in
+    let j = least_left times (entry_len l p) in
+    let k = least_right times (entry_len l p) in
     let t = ltb-false longest_record times few in
     (omega arith, omega arith))))))

@@ -15,51 +15,51 @@ use Rattle.tape_spacing.specs.Spacing.{ended, walk, spacing, ahead_of, passes, p
 
 -- a step stays within the table
 module _ (n i rest : ℕ) (some : rest ≡ 0 → ⊥) where
-  pub passes-below : (f : Bool) → i ≤ n → rest ≡ ahead_of f n i → passes f i < n
+  pub passes_below : (f : Bool) → i ≤ n → rest ≡ ahead_of f n i → passes f i < n
   unfolding ahead_of passes position_after
-  passes-below true h e = omega arith
-  passes-below false h e = omega arith
+  passes_below true h e = omega arith
+  passes_below false h e = omega arith
 
-  pub after-within : (f : Bool) → i ≤ n → rest ≡ ahead_of f n i → position_after f i ≤ n
+  pub after_within : (f : Bool) → i ≤ n → rest ≡ ahead_of f n i → position_after f i ≤ n
   unfolding ahead_of passes position_after
-  after-within true h e = omega arith
-  after-within false h e = omega arith
+  after_within true h e = omega arith
+  after_within false h e = omega arith
 
-  pub after-ahead : (f : Bool) → i ≤ n → rest ≡ ahead_of f n i → rest - 1 ≡ ahead_of f n (position_after f i)
+  pub after_ahead : (f : Bool) → i ≤ n → rest ≡ ahead_of f n i → rest - 1 ≡ ahead_of f n (position_after f i)
   unfolding ahead_of passes position_after
-  after-ahead true h e = omega arith
-  after-ahead false h e = omega arith
+  after_ahead true h e = omega arith
+  after_ahead false h e = omega arith
 
 module _ (f marks : Bool) (l : List ℕ) where
-  pub walk-done : (k i left : ℕ) → left ≡ 0 → walk f marks l k i left ≡ ended 0 i 0
+  pub walk_done : (k i left : ℕ) → left ≡ 0 → walk f marks l k i left ≡ ended 0 i 0
   unfolding walk choose
-  walk-done zero i left h = rw (eq-eqb _ _ h)
-  walk-done (suc k) i left h = rw (eq-eqb _ _ h)
+  walk_done zero i left h = rw (eq-eqb _ _ h)
+  walk_done (suc k) i left h = rw (eq-eqb _ _ h)
 
   pub walk_end : (k i left : ℕ) → (left ≡ 0 → ⊥) → k ≡ 0 → walk f marks l k i left ≡ ended 13 i left
   unfolding walk choose
   walk_end k i left h e = rw (e, ne_eqb _ _ h)
 
-  pub walk-stop : (m i left : ℕ) → (left ≡ 0 → ⊥) → (m ≡ 0 → ⊥) → marks ≡ false → entry_len l (passes f i) ≡ 0 → walk f marks l m i left ≡ ended 12
+  pub walk_stop : (m i left : ℕ) → (left ≡ 0 → ⊥) → (m ≡ 0 → ⊥) → marks ≡ false → entry_len l (passes f i) ≡ 0 → walk f marks l m i left ≡ ended 12
       (position_after f i) left
   unfolding walk stops left_after choose
-  walk-stop m i left some on by q =
+  walk_stop m i left some on by q =
       let more : m ≡ suc (m - 1) = omega arith in
       rw (more, ne_eqb _ _ some, eq-eqb _ _ q, by)
 
   -- one entry ahead, and k after it
   module _ (m k i left : ℕ) (some : left ≡ 0 → ⊥) (more : m ≡ suc k) where
-    pub walk-mark : marks ≡ true → entry_len l (passes f i) ≡ 0 → walk f marks l m i left ≡ walk f marks l k (position_after f i) (left - 1)
+    pub walk_mark : marks ≡ true → entry_len l (passes f i) ≡ 0 → walk f marks l m i left ≡ walk f marks l k (position_after f i) (left - 1)
     unfolding walk stops left_after choose
-    walk-mark by q = rw (more, ne_eqb _ _ some, eq-eqb _ _ q, by)
+    walk_mark by q = rw (more, ne_eqb _ _ some, eq-eqb _ _ q, by)
 
-    pub walk-pass : marks ≡ true → (entry_len l (passes f i) ≡ 0 → ⊥) → walk f marks l m i left ≡ walk f marks l k (position_after f i) left
+    pub walk_pass : marks ≡ true → (entry_len l (passes f i) ≡ 0 → ⊥) → walk f marks l m i left ≡ walk f marks l k (position_after f i) left
     unfolding walk stops left_after choose
-    walk-pass by q = rw (more, ne_eqb _ _ some, ne_eqb _ _ q, by)
+    walk_pass by q = rw (more, ne_eqb _ _ some, ne_eqb _ _ q, by)
 
-    pub walk-record : marks ≡ false → (entry_len l (passes f i) ≡ 0 → ⊥) → walk f marks l m i left ≡ walk f marks l k (position_after f i) (left - 1)
+    pub walk_record : marks ≡ false → (entry_len l (passes f i) ≡ 0 → ⊥) → walk f marks l m i left ≡ walk f marks l k (position_after f i) (left - 1)
     unfolding walk stops left_after choose
-    walk-record by q = rw (more, ne_eqb _ _ some, ne_eqb _ _ q, by)
+    walk_record by q = rw (more, ne_eqb _ _ some, ne_eqb _ _ q, by)
 
 -- ---- where a walk ends: within the table, and with no more left than was asked
 pub record Walked (n times : ℕ) (s : Spaced) : Type 0 where
@@ -82,9 +82,9 @@ module _ (f marks : Bool) (l : List ℕ) (n : ℕ) where
   walked (suc k) i left h e =
       let mark = eqb (entry_len l (passes f i)) 0 in
       let some : suc k ≡ 0 → ⊥ = λ z. omega arith in
-      let step = after-within n i (suc k) some f h e in
+      let step = after_within n i (suc k) some f h e in
       let pred : suc k - 1 ≡ k = omega arith in
-      let ahead : k ≡ ahead_of f n (position_after f i) = sym pred ∙ after-ahead n i (suc k) some f h e in
+      let ahead : k ≡ ahead_of f n (position_after f i) = sym pred ∙ after_ahead n i (suc k) some f h e in
       let rest = walked k (position_after f i) (left_after marks mark left) step ahead in
       let less = counted_less marks mark left in
       by_test (Walked n left) (eqb left 0) (ended 0 i 0) _ (λ _. record { within = h; least = omega arith })
@@ -142,22 +142,22 @@ module _ (f marks : Bool) (l : List ℕ) (n : ℕ) where
     pub mark : s.error ≡ 12 → PassedMark f l i s.position
     pub end : s.error ≡ 13 → s.position ≡ end_of f n
 
-  stands-done : (i j : ℕ) → Stands i (ended 0 j 0)
-  stands-done i j = record { mark = λ e. absurd (omega arith); end = λ e. absurd (omega arith) }
+  stands_done : (i j : ℕ) → Stands i (ended 0 j 0)
+  stands_done i j = record { mark = λ e. absurd (omega arith); end = λ e. absurd (omega arith) }
 
   stands : (k i left : ℕ) → i ≤ n → k ≡ ahead_of f n i → Stands i (walk f marks l k i left)
   unfolding walk
   stands zero i left h e =
-      by_test (Stands i) (eqb left 0) (ended 0 i 0) (ended 13 i left) (λ _. stands-done i i)
+      by_test (Stands i) (eqb left 0) (ended 0 i 0) (ended 13 i left) (λ _. stands_done i i)
       (λ _. record { mark = λ z. absurd (omega arith); end = λ _. end_here f n i h e })
   stands (suc k) i left h e =
       let mark = eqb (entry_len l (passes f i)) 0 in
       let some : suc k ≡ 0 → ⊥ = λ z. omega arith in
-      let step = after-within n i (suc k) some f h e in
+      let step = after_within n i (suc k) some f h e in
       let pred : suc k - 1 ≡ k = omega arith in
-      let ahead : k ≡ ahead_of f n (position_after f i) = sym pred ∙ after-ahead n i (suc k) some f h e in
+      let ahead : k ≡ ahead_of f n (position_after f i) = sym pred ∙ after_ahead n i (suc k) some f h e in
       let rest = stands k (position_after f i) (left_after marks mark left) step ahead in
-      by_test (Stands i) (eqb left 0) (ended 0 i 0) _ (λ _. stands-done i i)
+      by_test (Stands i) (eqb left 0) (ended 0 i 0) _ (λ _. stands_done i i)
       (λ _. by_test (Stands i) (stops marks mark) (ended 12 (position_after f i) left) _
       (λ s. record {
         mark = λ _. mark_here f l n i k h e (eqb-true (entry_len l (passes f i)) 0 (stops_mark marks mark s));

@@ -16,11 +16,11 @@ use Rattle.tape_image.specs.Image.{capacity, count, entry_len, entry_start, entr
 use Rattle.tape_image.proofs.Laws.{sound_facts}
 use Rattle.tape_image.specs.Sound.{Sound, Placed}
 use Rattle.tape_writing.specs.Writing.{Room, written, room_for, fill_to, FilledWrite}
-use Rattle.tape_writing.proofs.Laws.{fill_whole, room-holds}
+use Rattle.tape_writing.proofs.Laws.{fill_whole, room_holds}
 use Rattle.tape_files.specs.Files.{entries_from, entries_of, files_of, is_next, kept_if, mark_of, chosen, file_count, bytes_in}
 use Rattle.tape_files.specs.Thinning.{emptied, laid, are_named, have_room, named_entries, thin_code, thin_image}
 use Rattle.tape_files.proofs.Lists.{kept_length, kept_bytes, mark_is, chosen_first, chosen_end, count_first, count_end, bytes_end, files_count, thinned_entries}
-use Rattle.tape_files.proofs.Laid.{bytes_length, entries_none, entries_next, Ready, ready-next, ready-room, next-length, laid_next_is, laid_end, entry_within}
+use Rattle.tape_files.proofs.Laid.{bytes_length, entries_none, entries_next, Ready, ready_next, ready_room, next_length, laid_next_is, laid_end, entry_within}
 use Rattle.tape_files.proofs.Holds.{emptied_ready, named_short, image_done, thinning_holds}
 use Rattle.tape_thinning.specs.declared.Survey.{Survey}
 use Rattle.tape_thinning.specs.Walk.{next_at, named_at, Surveyed, room_of, Copyable, Thinned}
@@ -78,13 +78,13 @@ module _ (from files i n : ℕ) (ns : List ℕ) (h : i < length ns) (e : n ≡ g
   unfolding named_at
   named_step = ap (are_named from files) (drop_here i n ns h e) ∙ named_cons from files n (drop (i + 1) ns)
 
-  pub named-low : n < from → named_at ns i from files ≡ false
+  pub named_low : n < from → named_at ns i from files ≡ false
   unfolding choose
-  named-low k = named_step ∙ rw (lt-leb from n k)
+  named_low k = named_step ∙ rw (lt-leb from n k)
 
-  pub named-high : from ≤ n → files ≤ n → named_at ns i from files ≡ false
+  pub named_high : from ≤ n → files ≤ n → named_at ns i from files ≡ false
   unfolding choose
-  named-high k m = named_step ∙ rw (le-leb from n k, le-ltb n files m)
+  named_high k m = named_step ∙ rw (le-leb from n k, le-ltb n files m)
 
   pub named_next : from ≤ n → n < files → named_at ns i from files ≡ named_at ns (i + 1) (n + 1) files
   unfolding choose named_at
@@ -100,13 +100,13 @@ named_start files ns = refl
 
 -- ---- room
 module _ (l : List ℕ) (entries bytes : ℕ) where
-  pub room-few : capacity l < entries → false ≡ room_of l entries bytes
+  pub room_few : capacity l < entries → false ≡ room_of l entries bytes
   unfolding room_of choose
-  room-few h = rw (lt-leb entries (capacity l) h)
+  room_few h = rw (lt-leb entries (capacity l) h)
 
-  pub room-short : entries ≤ capacity l → body_len l < bytes → false ≡ room_of l entries bytes
+  pub room_short : entries ≤ capacity l → body_len l < bytes → false ≡ room_of l entries bytes
   unfolding room_of choose
-  room-short h k = rw (le-leb entries (capacity l) h, lt-leb bytes (body_len l) k)
+  room_short h k = rw (le-leb entries (capacity l) h, lt-leb bytes (body_len l) k)
 
   pub room_there : entries ≤ capacity l → bytes ≤ body_len l → true ≡ room_of l entries bytes
   unfolding room_of choose
@@ -120,20 +120,20 @@ left s ns i file next = chosen file (drop next ns) (entries_from s (count s - i)
 module _ (s ns : List ℕ) (i file next len : ℕ) (named : Bool) (mark n : ℕ) (ok : Sound s) (h : i < count s)
     (isLen : len ≡ entry_len s i) (is_named : named ≡ next_at ns next file) (is_mark : mark ≡ choose (eqb len 0) 1 0)
     (isNew : n ≡ choose named mark 0) where
-  entry-mark : mark_of (entry_bytes s i) ≡ mark
-  entry-mark = mark_is (entry_bytes s i) ∙ ap (λ (k : ℕ). choose {A = ℕ} (eqb k 0) 1 0) (bytes_length s i ok h ∙ sym isLen) ∙ sym is_mark
+  entry_mark : mark_of (entry_bytes s i) ≡ mark
+  entry_mark = mark_is (entry_bytes s i) ∙ ap (λ (k : ℕ). choose {A = ℕ} (eqb k 0) 1 0) (bytes_length s i ok h ∙ sym isLen) ∙ sym is_mark
 
   pub left_step : left s ns i file next ≡ kept_if named (entry_bytes s i) (left s ns (i + 1) (file + mark) (next + n))
   left_step =
       ap (chosen file (drop next ns)) (entries_next s (count s) i h)
       ∙ chosen_first file (drop next ns) (entry_bytes s i) (entries_from s (count s - (i + 1)) (i + 1))
-      ∙ (let b = is_named ∙ next_is ns next file in rw (entry-mark, ← b, ← isNew, drop-drop n next ns))
+      ∙ (let b = is_named ∙ next_is ns next file in rw (entry_mark, ← b, ← isNew, drop-drop n next ns))
 
-  pub files-step : (begun : ℕ) → file_count begun (entries_from s (count s - i) i) ≡ mark + file_count (1 - mark) (entries_from s (count s - (i + 1)) (i + 1))
-  files-step begun =
+  pub files_step : (begun : ℕ) → file_count begun (entries_from s (count s - i) i) ≡ mark + file_count (1 - mark) (entries_from s (count s - (i + 1)) (i + 1))
+  files_step begun =
       ap (file_count begun) (entries_next s (count s) i h)
       ∙ count_first begun (entry_bytes s i) (entries_from s (count s - (i + 1)) (i + 1))
-      ∙ rw entry-mark
+      ∙ rw entry_mark
 
 -- ---- the judging walk
 pub record Measuring (s ns : List ℕ) (i file begun next entries bytes : ℕ) : Type 0 where
@@ -183,7 +183,7 @@ measure_step s ns i file begun next entries bytes len named mark e b n h isLen i
     let c = ap bytes_in step ∙ kept_bytes named (entry_bytes s i) rest in
     let z = bytes_length s i ok h in
     let cb : choose {A = ℕ} named (length (entry_bytes s i)) 0 ≡ b = ap (λ (k : ℕ). choose {A = ℕ} named k 0) (z ∙ sym isLen) ∙ sym is_b in
-    let f = files-step s ns i file next len named mark n ok h isLen is_named is_mark isNew begun in
+    let f = files_step s ns i file next len named mark n ok h isLen is_named is_mark isNew begun in
     let short = (ok.entry i h).short in
     let v1 = v.within in
     let v2 = v.files in
@@ -254,32 +254,32 @@ record Put (b : Bool) (l : List ℕ) (at : ℕ) (e : List ℕ) (es : List (List 
 
 put : (b : Bool) (l : List ℕ) (at : ℕ) (e : List ℕ) (es : List (List ℕ)) → Ready l at (kept_if b e es) → Put b l at e es (choose b (written l at e) l)
 unfolding kept_if choose
-put true l at e es r = record { ready = ready-next l at e es r; rest = laid_next_is l at e es; long = next-length l at e es r }
+put true l at e es r = record { ready = ready_next l at e es r; rest = laid_next_is l at e es; long = next_length l at e es r }
 put false l at e es r = record { ready = rw (add-zero at) r; rest = rw (add-zero at); long = refl }
 
 put_room : (b : Bool) (l : List ℕ) (at : ℕ) (e : List ℕ) (es : List (List ℕ)) → Ready l at (kept_if b e es) → b ≡ true → Room l at (length e)
 unfolding kept_if
-put_room b l at e es r h = ready-room l at e es (rw h at r)
+put_room b l at e es r h = ready_room l at e es (rw h at r)
 
 module _ (s ns l₀ : List ℕ) (i file next : ℕ) (l : List ℕ) (at len : ℕ) (named : Bool) (mark n : ℕ) (h : i < count s)
     (isLen : len ≡ entry_len s i) (is_named : named ≡ next_at ns next file) (is_mark : mark ≡ choose (eqb len 0) 1 0)
     (isNew : n ≡ choose named mark 0) (v : Copying s ns l₀ i file next l at) where
-  kept-ready : Ready l at (kept_if named (entry_bytes s i) (left s ns (i + 1) (file + mark) (next + n)))
-  kept-ready = rw (left_step s ns i file next len named mark n v.ok h isLen is_named is_mark isNew) at v.ready
+  kept_ready : Ready l at (kept_if named (entry_bytes s i) (left s ns (i + 1) (file + mark) (next + n)))
+  kept_ready = rw (left_step s ns i file next len named mark n v.ok h isLen is_named is_mark isNew) at v.ready
 
-  copy-fits : named ≡ true → Copyable s i l at
-  copy-fits t =
+  copy_fits : named ≡ true → Copyable s i l at
+  copy_fits t =
       record {
         ok = v.ok;
         entry = h;
         here = v.ready.here;
-        room = put_room named l at (entry_bytes s i) (left s ns (i + 1) (file + mark) (next + n)) kept-ready t;
+        room = put_room named l at (entry_bytes s i) (left s ns (i + 1) (file + mark) (next + n)) kept_ready t;
       }
 
   pub copy_step : (l' : List ℕ) (e : ℕ) → l' ≡ choose named (written l at (entry_bytes s i)) l → e ≡ choose named 1 0 → e ≤ 1 → mark ≤ 1 → n ≤ mark
       → Copying s ns l₀ (i + 1) (file + mark) (next + n) l' (at + e)
   copy_step l' e is isE e1 m1 n1 =
-      let p = put named l at (entry_bytes s i) (left s ns (i + 1) (file + mark) (next + n)) kept-ready in
+      let p = put named l at (entry_bytes s i) (left s ns (i + 1) (file + mark) (next + n)) kept_ready in
       let v1 = v.file_low in
       let v2 = v.next_low in
       let v3 = v.at_low in
@@ -299,7 +299,7 @@ module _ (s ns l₀ : List ℕ) (i file next : ℕ) (l : List ℕ) (at len : ℕ
 pub copy_allowed : (s ns l₀ : List ℕ) (i file next : ℕ) (l : List ℕ) (at : ℕ) (named : Bool) → i < count s → named ≡ next_at ns next file
     → Copying s ns l₀ i file next l at → named ≡ true → Copyable s i l at
 copy_allowed s ns l₀ i file next l at named h is_named v =
-    copy-fits s ns l₀ i file next l at (entry_len s i) named (choose (eqb (entry_len s i) 0) 1 0) (choose named (choose (eqb (entry_len s i) 0) 1 0) 0)
+    copy_fits s ns l₀ i file next l at (entry_len s i) named (choose (eqb (entry_len s i) 0) 1 0) (choose named (choose (eqb (entry_len s i) 0) 1 0) 0)
     h refl is_named refl refl v
 
 pub copy_end : (s ns l₀ : List ℕ) (i file next : ℕ) (l : List ℕ) (at : ℕ) → count s ≤ i → Copying s ns l₀ i file next l at
@@ -308,32 +308,32 @@ copy_end s ns l₀ i file next l at h v = sym (v.rest ∙ ap (laid l at) (none_l
 
 -- ---- the bytes of one entry
 module _ (s : List ℕ) (i : ℕ) (l : List ℕ) (p : ℕ) (v : Copyable s i l p) where
-  pub part-within : body_at s + entry_start s i + entry_len s i ≤ length s
-  part-within = let w = entry_within s i v.ok v.entry in omega arith
+  pub part_within : body_at s + entry_start s i + entry_len s i ≤ length s
+  part_within = let w = entry_within s i v.ok v.entry in omega arith
 
-  pub part-short : entry_len s i ≤ longest_record
-  part-short = (v.ok.entry i v.entry).short
+  pub part_short : entry_len s i ≤ longest_record
+  part_short = (v.ok.entry i v.entry).short
 
   -- the bytes that are lent are the entry's
-  part-is : (start end len : ℕ) → start ≡ body_at s + entry_start s i → end ≡ start + len → len ≡ entry_len s i
+  part_is : (start end len : ℕ) → start ≡ body_at s + entry_start s i → end ≡ start + len → len ≡ entry_len s i
       → take (end - start) (drop start s) ≡ entry_bytes s i
   unfolding entry_bytes
-  part-is start end len a b c =
+  part_is start end len a b c =
       let d : end - start ≡ entry_len s i = omega arith in
       rw (d, a)
 
-  written-part : (part : List ℕ) (len : ℕ) (r : Bool) (l' : List ℕ) → part ≡ entry_bytes s i → len ≡ entry_len s i → FilledWrite l p part len r l'
+  written_part : (part : List ℕ) (len : ℕ) (r : Bool) (l' : List ℕ) → part ≡ entry_bytes s i → len ≡ entry_len s i → FilledWrite l p part len r l'
       → l' ≡ written l p (entry_bytes s i)
   unfolding choose
-  written-part part len r l' a b w =
+  written_part part len r l' a b w =
       let n = bytes_length s i v.ok v.entry in
-      let room = room-holds l p (length (entry_bytes s i)) v.room in
+      let room = room_holds l p (length (entry_bytes s i)) v.room in
       let e : len ≡ length (entry_bytes s i) = b ∙ sym n in
       (rw (a, e, ← room, fill_whole) at w.image)
 
   pub copied : (start end len : ℕ) (r : Bool) (l' : List ℕ) → FilledWrite l p (take (end - start) (drop start s)) len r l'
       → start ≡ body_at s + entry_start s i → end ≡ start + len → len ≡ entry_len s i → l' ≡ written l p (entry_bytes s i)
-  copied start end len r l' w a b c = written-part (take (end - start) (drop start s)) len r l' (part-is start end len a b c) c w
+  copied start end len r l' w a b c = written_part (take (end - start) (drop start s)) len r l' (part_is start end len a b c) c w
 
 -- ---- what `thin` gives
 told : (s ns t : List ℕ) (r : ℕ) → thin_code s ns t ≡ r → (r ≡ 0 → ⊥) → Thinned s ns t r t
@@ -344,55 +344,55 @@ unfolding have_room room_of
 room_is l es = refl
 
 module _ (s ns t : List ℕ) where
-  pub told-source : (a : Bool) → a ≡ is_sound s → not a ≡ true → Thinned s ns t 15 t
-  told-source a h x = told s ns t 15 ((thinning_holds.order s ns t).source_unsound (sym h ∙ not-true a x)) (λ e. omega arith)
+  pub told_source : (a : Bool) → a ≡ is_sound s → not a ≡ true → Thinned s ns t 15 t
+  told_source a h x = told s ns t 15 ((thinning_holds.order s ns t).source_unsound (sym h ∙ not-true a x)) (λ e. omega arith)
 
-  pub told-second : (b : Bool) → b ≡ is_sound t → not b ≡ true → Thinned s ns t 15 t
-  told-second b h x = told s ns t 15 ((thinning_holds.order s ns t).second_unsound (sym h ∙ not-true b x)) (λ e. omega arith)
+  pub told_second : (b : Bool) → b ≡ is_sound t → not b ≡ true → Thinned s ns t 15 t
+  told_second b h x = told s ns t 15 ((thinning_holds.order s ns t).second_unsound (sym h ∙ not-true b x)) (λ e. omega arith)
 
   -- both are sound
   module _ (a b : Bool) (is_a : a ≡ is_sound s) (yesA : not a ≡ false) (is_b : b ≡ is_sound t) (yesB : not b ≡ false) where
-    sound-a : is_sound s ≡ true
-    sound-a = sym is_a ∙ not-false a yesA
+    sound_a : is_sound s ≡ true
+    sound_a = sym is_a ∙ not-false a yesA
 
-    sound-b : is_sound t ≡ true
-    sound-b = sym is_b ∙ not-false b yesB
+    sound_b : is_sound t ≡ true
+    sound_b = sym is_b ∙ not-false b yesB
 
     -- and measured
     module _ (r : Survey) (m : Surveyed s ns r) (c : Bool) (isC : c ≡ are_named 0 r.files ns) where
-      named-is : c ≡ are_named 0 (length (files_of s)) ns
-      named-is = isC ∙ ap (λ (k : ℕ). are_named 0 k ns) m.files
+      named_is : c ≡ are_named 0 (length (files_of s)) ns
+      named_is = isC ∙ ap (λ (k : ℕ). are_named 0 k ns) m.files
 
-      pub told-number : not c ≡ true → Thinned s ns t 9 t
-      told-number x = told s ns t 9 ((thinning_holds.order s ns t).not_named sound-a sound-b (sym named-is ∙ not-true c x)) (λ e. omega arith)
+      pub told_number : not c ≡ true → Thinned s ns t 9 t
+      told_number x = told s ns t 9 ((thinning_holds.order s ns t).not_named sound_a sound_b (sym named_is ∙ not-true c x)) (λ e. omega arith)
 
       module _ (yesC : not c ≡ false) (d : Bool) (isD : d ≡ room_of t r.entries r.bytes) where
-        room-so : d ≡ have_room t (named_entries s ns)
-        room-so =
+        room_so : d ≡ have_room t (named_entries s ns)
+        room_so =
             isD
             ∙ ap (λ (k : ℕ). room_of t k r.bytes) m.entries
             ∙ ap (λ (k : ℕ). room_of t (length (named_entries s ns)) k) m.bytes
             ∙ sym (room_is t (named_entries s ns))
 
-        named-so : are_named 0 (length (files_of s)) ns ≡ true
-        named-so = sym named-is ∙ not-false c yesC
+        named_so : are_named 0 (length (files_of s)) ns ≡ true
+        named_so = sym named_is ∙ not-false c yesC
 
-        pub told-room : not d ≡ true → Thinned s ns t 13 t
-        told-room x =
-            told s ns t 13 ((thinning_holds.order s ns t).no_room sound-a sound-b named-so (sym room-so ∙ not-true d x)) (λ e. omega arith)
+        pub told_room : not d ≡ true → Thinned s ns t 13 t
+        told_room x =
+            told s ns t 13 ((thinning_holds.order s ns t).no_room sound_a sound_b named_so (sym room_so ∙ not-true d x)) (λ e. omega arith)
 
         module _ (yesD : not d ≡ false) where
-          have-room : have_room t (named_entries s ns) ≡ true
-          have-room = sym room-so ∙ not-false d yesD
+          have_room_lem : have_room t (named_entries s ns) ≡ true
+          have_room_lem = sym room_so ∙ not-false d yesD
 
-          pub files-ready : (l : List ℕ) → l ≡ emptied t → Ready l 0 (named_entries s ns)
-          files-ready l e =
+          pub files_ready : (l : List ℕ) → l ≡ emptied t → Ready l 0 (named_entries s ns)
+          files_ready l e =
               rw e
-              (emptied_ready t (named_entries s ns) (sound_facts t sound-b) (named_short s ns (sound_facts s sound-a)) have-room)
+              (emptied_ready t (named_entries s ns) (sound_facts t sound_b) (named_short s ns (sound_facts s sound_a)) have_room_lem)
 
-          pub told-done : (l m' : List ℕ) → l ≡ emptied t → m' ≡ laid l 0 (named_entries s ns) → Thinned s ns t 0 m'
-          told-done l m' e f =
-              let code = (thinning_holds.order s ns t).accepted sound-a sound-b named-so have-room in
+          pub told_done : (l m' : List ℕ) → l ≡ emptied t → m' ≡ laid l 0 (named_entries s ns) → Thinned s ns t 0 m'
+          told_done l m' e f =
+              let code = (thinning_holds.order s ns t).accepted sound_a sound_b named_so have_room_lem in
               record { code = sym code; image = f ∙ ap (λ (k : List ℕ). laid k 0 (named_entries s ns)) e ∙ sym (image_done s ns t code) }
 
 pub sound_so : (l : List ℕ) (a : Bool) → a ≡ is_sound l → not a ≡ false → Sound l

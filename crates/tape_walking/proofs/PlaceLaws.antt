@@ -10,19 +10,19 @@ use Rattle.tape_image.specs.Place.{marks_before, records_since}
 
 module _ (l : List ℕ) (i : ℕ) where
   module _ (h : entry_len l i ≡ 0) where
-    pub marks-mark : marks_before l (i + 1) ≡ marks_before l i + 1
+    pub marks_mark : marks_before l (i + 1) ≡ marks_before l i + 1
     unfolding marks_before choose
-    marks-mark = rw (add-one i, eq-eqb _ _ h)
+    marks_mark = rw (add-one i, eq-eqb _ _ h)
 
-    pub records-mark : records_since l (i + 1) ≡ 0
+    pub records_mark : records_since l (i + 1) ≡ 0
     unfolding records_since choose
-    records-mark = rw (add-one i, eq-eqb _ _ h)
+    records_mark = rw (add-one i, eq-eqb _ _ h)
 
   module _ (h : entry_len l i ≡ 0 → ⊥) where
-    pub marks-record : marks_before l (i + 1) ≡ marks_before l i
+    pub marks_record : marks_before l (i + 1) ≡ marks_before l i
     unfolding marks_before choose
-    marks-record = rw (add-one i, ne_eqb _ _ h)
+    marks_record = rw (add-one i, ne_eqb _ _ h)
 
-    pub records-record : records_since l (i + 1) ≡ records_since l i + 1
+    pub records_record : records_since l (i + 1) ≡ records_since l i + 1
     unfolding records_since choose
-    records-record = rw (add-one i, ne_eqb _ _ h)
+    records_record = rw (add-one i, ne_eqb _ _ h)

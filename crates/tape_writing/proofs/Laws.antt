@@ -17,43 +17,43 @@ use Rattle.tape_image.proofs.Laws.{sum_used}
 use Rattle.tape_writing.specs.Writing.{kept, room_tests, room_for, Room, written, fill_to, KeptBytes, FilledWrite}
 
 module _ (l : List ℕ) (p : ℕ) where
-  pub kept-cut : p < count l → kept l p ≡ entry_start l p
+  pub kept_cut : p < count l → kept l p ≡ entry_start l p
   unfolding kept choose
-  kept-cut h = rw (lt-ltb p (count l) h)
+  kept_cut h = rw (lt-ltb p (count l) h)
 
-  pub kept-end : count l ≤ p → kept l p ≡ used l
+  pub kept_end : count l ≤ p → kept l p ≡ used l
   unfolding kept choose
-  kept-end h = rw (le-ltb p (count l) h)
+  kept_end h = rw (le-ltb p (count l) h)
 
   -- the bytes kept are those of the entries before the position
-  sum-at : (b : Bool) → ltb p (count l) ≡ b → Placed l p → kept l p ≡ sum_before l p
-  sum-at true e f = let h = ltb-true p (count l) e in kept-cut h ∙ (f.ok.entry p h).start
-  sum-at false e f =
+  sum_at : (b : Bool) → ltb p (count l) ≡ b → Placed l p → kept l p ≡ sum_before l p
+  sum_at true e f = let h = ltb-true p (count l) e in kept_cut h ∙ (f.ok.entry p h).start
+  sum_at false e f =
       let h = f.within in
       let g : count l ≤ p = ltb-false p (count l) e in
       let s : count l ≡ p = omega arith in
-      kept-end g ∙ f.ok.total ∙ ap (sum_before l) s
+      kept_end g ∙ f.ok.total ∙ ap (sum_before l) s
 
-  pub kept-sum : Placed l p → kept l p ≡ sum_before l p
-  kept-sum f = sum-at (ltb p (count l)) refl f
+  pub kept_sum : Placed l p → kept l p ≡ sum_before l p
+  kept_sum f = sum_at (ltb p (count l)) refl f
 
-  pub kept-used : Placed l p → kept l p ≤ used l
-  kept-used f =
-      let e = kept-sum f in
+  pub kept_used : Placed l p → kept l p ≤ used l
+  kept_used f =
+      let e = kept_sum f in
       let u = sum_used l p f.ok f.within in
       omega arith
 
   -- what the code read
   pub keeps_cut : (r : ℕ) → Placed l p → p < count l → r ≡ entry_start l p → KeptBytes l p r
   keeps_cut r f h e =
-      let k = kept-cut h in
-      let u = kept-used f in
+      let k = kept_cut h in
+      let u = kept_used f in
       let b = f.ok.header.bytes in
       record { is = e ∙ sym k; fits = omega arith }
 
-  pub keeps-end : (r : ℕ) → Placed l p → count l ≤ p → r ≡ used l → KeptBytes l p r
-  keeps-end r f h e =
-      let k = kept-end h in
+  pub keeps_end : (r : ℕ) → Placed l p → count l ≤ p → r ≡ used l → KeptBytes l p r
+  keeps_end r f h e =
+      let k = kept_end h in
       let b = f.ok.header.bytes in
       record { is = e ∙ sym k; fits = omega arith }
 
@@ -64,9 +64,9 @@ module _ (l : List ℕ) (p m : ℕ) where
       let g : (k : ℕ) → get_or (room_tests l p m) k true ≡ true = all_get (room_tests l p m) h in
       record { slot = ltb-true _ _ (g 0); fits = leb-true _ _ (g 1) }
 
-  pub room-holds : Room l p m → true ≡ room_for l p m
+  pub room_holds : Room l p m → true ≡ room_for l p m
   unfolding room_for all_of
-  room-holds f = simp (lt-ltb _ _ f.slot, le-leb _ _ f.fits)
+  room_holds f = simp (lt-ltb _ _ f.slot, le-leb _ _ f.fits)
 
 pub length_fill : (s : List ℕ) (n : ℕ) → length s ≤ n → length (fill_to s n) ≡ n
 unfolding fill_to

@@ -3,9 +3,9 @@ use mathlib.Core.Path.{◌≡◌, refl}
 use Rattle.xdr.specs.Choose.{choose}
 use Rattle.xdr.specs.Xdr.{word, same_bytes}
 use Rattle.xdr_opaque.specs.Opaque.{all_zero, opaque_at}
-use Rattle.md5.specs.Md5.{index_of, shift_of, md5, le32, md5_registers, processed, padding, compressed, operations, stepped}
-use Rattle.md5.specs.Md5.{auxiliary_of, rotated, le_word}
-use Rattle.md5.specs.Login.{login_string, login_digest}
+use Rattle.md5_digest.specs.Md5.{index_of, shift_of, md5, le32, md5_registers, processed, padding, compressed, operations, stepped}
+use Rattle.md5_digest.specs.Md5.{auxiliary_of, rotated, le_word}
+use Rattle.md5_digest.specs.Login.{login_string, login_digest}
 use Rattle.wire_accounts.specs.Accounts.{is_kind, with_password, with_id, account_at, with_account, and_then, accounts_from, accounts_in}
 use Rattle.wire_accounts.specs.Accounts.{entries_of, is_digestible, is_digest, md5_matches, any_of}
 use Rattle.wire_accounts.specs.Cases.{LaidCases, BrokenCases, Md5Logins, WithdrawnLogins, AccountCases}

@@ -35,21 +35,21 @@ mark_is kind h =
     (λ k _. inl (eqb-true _ _ k)) (λ _ k. inr (eqb-true _ _ k)) h
 
 module _ (b : List ℕ) (kind : ℕ) (h : is_kind kind ≡ true) where
-  password-marked : (id : List ℕ) (o : Opaque) → MarkedRead (with_password b kind id o)
+  password_marked : (id : List ℕ) (o : Opaque) → MarkedRead (with_password b kind id o)
   unfolding MarkedRead with_password
-  password-marked id (At start len next) = mark_is kind h
-  password-marked id Bad = tt
+  password_marked id (At start len next) = mark_is kind h
+  password_marked id Bad = tt
 
-  id-marked : (o : Opaque) → MarkedRead (with_id b kind o)
+  id_marked : (o : Opaque) → MarkedRead (with_id b kind o)
   unfolding MarkedRead with_id
-  id-marked (At start len next) = password-marked _ (opaque_at b next)
-  id-marked Bad = tt
+  id_marked (At start len next) = password_marked _ (opaque_at b next)
+  id_marked Bad = tt
 
 read_marked : (b : List ℕ) (at : ℕ) → MarkedRead (account_at b at)
 unfolding MarkedRead account_at
 read_marked b at =
     by_test MarkedRead (is_kind (word b at)) (with_id b (word b at) (opaque_at b (at + 4))) none
-    (λ h. id-marked b (word b at) h (opaque_at b (at + 4))) (λ h. tt)
+    (λ h. id_marked b (word b at) h (opaque_at b (at + 4))) (λ h. tt)
 
 -- ---- so many accounts
 no_entry : (n : ℕ) → Within n broken

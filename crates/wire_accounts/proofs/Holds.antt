@@ -12,7 +12,7 @@ use Rattle.xdr.specs.Choose.{choose}
 use Rattle.xdr.specs.Xdr.{same_bytes}
 use Rattle.xdr.proofs.Comparing.{same_is, is_same}
 use Rattle.xdr_opaque.specs.Put.{Each}
-use Rattle.md5.specs.Login.{login_digest}
+use Rattle.md5_digest.specs.Login.{login_digest}
 use Rattle.wire_accounts.specs.Accounts.{AccountEntry, broken, accounts_in, entries_of, entries_in}
 use Rattle.wire_accounts.specs.Accounts.{is_digestible, is_digest, md5_matches, any_of}
 use Rattle.wire_accounts.proofs.Entries.{few, marked}

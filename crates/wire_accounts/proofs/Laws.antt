@@ -12,8 +12,8 @@ use Rattle.xdr.specs.Choose.{choose}
 use Rattle.xdr.specs.Xdr.{word, same_bytes}
 use Rattle.xdr_opaque.specs.Opaque.{opaque_at}
 use Rattle.xdr_opaque.specs.declared.Opaque.TheVariants.{At, Bad}
-use Rattle.xdr_opaque.proofs.Laws.{opaque-read, opaque-within}
-use Rattle.md5.specs.Login.{login_digest}
+use Rattle.xdr_opaque.proofs.Laws.{opaque_read, opaque_within}
+use Rattle.md5_digest.specs.Login.{login_digest}
 use Rattle.wire_accounts.specs.Accounts.{AccountEntry, Accounts, none, these, broken}
 use Rattle.wire_accounts.specs.Accounts.{are_laid, entries_of, entries_in}
 use Rattle.wire_accounts.specs.Accounts.{is_kind, with_password, with_id, account_at, with_account, and_then, accounts_from}
@@ -50,19 +50,19 @@ module _ (b : List ℕ) (at : ℕ) where
     no_kind n e h = let g : is_kind (word b at) ≡ false = rw e at h in absent (rw g)
 
   -- an id stands behind a kind
-  pub kind-there : (i m k : ℕ) → At i m k ≡ opaque_at b (at + 4) → at + 4 ≤ length b
-  kind-there i m k e =
-      let r = opaque-read b (at + 4) i m k e in
-      let w = opaque-within b (at + 4) i m k e in
+  pub kind_there : (i m k : ℕ) → At i m k ≡ opaque_at b (at + 4) → at + 4 ≤ length b
+  kind_there i m k e =
+      let r = opaque_read b (at + 4) i m k e in
+      let w = opaque_within b (at + 4) i m k e in
       omega (arith, r.start, w.0, w.1)
 
-  pub account-there : (n i m k s l x : ℕ) → n ≡ word b at → is_kind n ≡ true → At i m k ≡ opaque_at b (at + 4) → At s l x ≡ opaque_at b k
+  pub account_there : (n i m k s l x : ℕ) → n ≡ word b at → is_kind n ≡ true → At i m k ≡ opaque_at b (at + 4) → At s l x ≡ opaque_at b k
       → AccountAt b at (record { kind = n; id = record { start = i; len = m }; password = record { start = s; len = l }; next = x })
   unfolding account_at with_id with_password placed choose
-  account-there n i m k s l x e h f g =
-      let u = opaque-within b (at + 4) i m k f in
-      let v = opaque-within b k s l x g in
-      let r = opaque-read b k s l x g in
+  account_there n i m k s l x e h f g =
+      let u = opaque_within b (at + 4) i m k f in
+      let v = opaque_within b k s l x g in
+      let r = opaque_read b k s l x g in
       let z : eqb x 0 ≡ false = ne_eqb x 0 (λ q. omega (arith, r.next, q)) in
       record {
         is = rw (← e, h, ← f, ← g, z);
@@ -73,30 +73,30 @@ module _ (b : List ℕ) (at : ℕ) where
 
 -- ---- a part of the buffer
 module _ (b : List ℕ) (p : Stretch) where
-  part-is : take (p.start + p.len - p.start) (drop p.start b) ≡ bytes_of b p
-  part-is = let e : p.start + p.len - p.start ≡ p.len = omega arith in rw e
+  part_is : take (p.start + p.len - p.start) (drop p.start b) ≡ bytes_of b p
+  part_is = let e : p.start + p.len - p.start ≡ p.len = omega arith in rw e
 
   pub part_same : (t : List ℕ) (r : Bool) → r ≡ same_bytes t (take (p.start + p.len - p.start) (drop p.start b)) → r ≡ same_bytes t (bytes_of b p)
-  part_same t r e = e ∙ ap (same_bytes t) part-is
+  part_same t r e = e ∙ ap (same_bytes t) part_is
 
   part_length : StretchIn b p → length (bytes_of b p) ≡ p.len
   part_length i = let w = i.ends in simp (length-take, length-drop) (omega arith)
 
   -- its digest, by its length
   module _ (i : StretchIn b p) (c d : List ℕ) where
-    pub digest-empty : p.len < 1 → false ≡ is_digest (bytes_of b p) c d
+    pub digest_empty : p.len < 1 → false ≡ is_digest (bytes_of b p) c d
     unfolding is_digest is_digestible choose
-    digest-empty h = rw (part_length i, lt-leb 1 p.len h)
+    digest_empty h = rw (part_length i, lt-leb 1 p.len h)
 
-    pub digest-long : longest_password < p.len → false ≡ is_digest (bytes_of b p) c d
+    pub digest_long : longest_password < p.len → false ≡ is_digest (bytes_of b p) c d
     unfolding is_digest is_digestible choose
-    digest-long h = let k : 1 ≤ p.len = omega arith in rw (part_length i, le-leb 1 p.len k, lt-leb p.len longest_password h)
+    digest_long h = let k : 1 ≤ p.len = omega arith in rw (part_length i, le-leb 1 p.len k, lt-leb p.len longest_password h)
 
-    pub digest-made : (w : List ℕ) (r : Bool) → 1 ≤ p.len → p.len ≤ longest_password
+    pub digest_made : (w : List ℕ) (r : Bool) → 1 ≤ p.len → p.len ≤ longest_password
         → w ≡ login_digest (take (p.start + p.len - p.start) (drop p.start b)) c → r ≡ same_bytes d w → r ≡ is_digest (bytes_of b p) c d
     unfolding is_digest is_digestible choose
-    digest-made w r h k e f =
-        let g : w ≡ login_digest (bytes_of b p) c = e ∙ ap (λ (l : List ℕ). login_digest l c) part-is in
+    digest_made w r h k e f =
+        let g : w ≡ login_digest (bytes_of b p) c = e ∙ ap (λ (l : List ℕ). login_digest l c) part_is in
         f ∙ rw (part_length i, le-leb 1 p.len h, le-leb p.len longest_password k, g)
 
 -- ---- so many accounts
@@ -144,29 +144,29 @@ module _ (b : List ℕ) where
     pub laid_next : (n : ℕ) → 0 < n → (a.next ≡ 0 → ⊥) → are_laid (accounts_from b n at) ≡ are_laid (accounts_from b (n - 1) a.next)
     laid_next n h z = ap are_laid (first n h z) ∙ laid_prepend (entry_of b a) (accounts_from b (n - 1) a.next)
 
-    laid-is : (n : ℕ) → 0 < n → are_laid (accounts_from b n at) ≡ true → a.next ≡ 0 → ⊥
-    laid-is n h e z = let f = laid_none n h z in let k : ◌≡◌ {A = ℕ} 0 1 = cc in omega arith
+    laid_is : (n : ℕ) → 0 < n → are_laid (accounts_from b n at) ≡ true → a.next ≡ 0 → ⊥
+    laid_is n h e z = let f = laid_none n h z in let k : ◌≡◌ {A = ℕ} 0 1 = cc in omega arith
 
   pub laid_end : (n at : ℕ) → n ≤ 0 → are_laid (accounts_from b n at) ≡ eqb at (length b)
   unfolding accounts_from
   laid_end n at h = let e : n ≡ 0 = omega arith in rw e (laid_if (eqb at (length b)))
 
-  pub entries-end : (n at : ℕ) → n ≤ 0 → entries_of (accounts_from b n at) ≡ []
+  pub entries_end : (n at : ℕ) → n ≤ 0 → entries_of (accounts_from b n at) ≡ []
   unfolding accounts_from
-  entries-end n at h = let e : n ≡ 0 = omega arith in rw e (entries_if (eqb at (length b)))
+  entries_end n at h = let e : n ≡ 0 = omega arith in rw e (entries_if (eqb at (length b)))
 
   -- the count
-  pub laid-short : length b < 4 → are_laid (accounts_in b) ≡ false
+  pub laid_short : length b < 4 → are_laid (accounts_in b) ≡ false
   unfolding accounts_in are_laid choose
-  laid-short h = rw (lt-leb 4 (length b) h)
+  laid_short h = rw (lt-leb 4 (length b) h)
 
-  pub laid-many : (n : ℕ) → n ≡ word b 0 → 4 ≤ length b → most_accounts < n → are_laid (accounts_in b) ≡ false
+  pub laid_many : (n : ℕ) → n ≡ word b 0 → 4 ≤ length b → most_accounts < n → are_laid (accounts_in b) ≡ false
   unfolding accounts_in are_laid choose
-  laid-many n e h k = rw (le-leb 4 (length b) h, ← e, lt-leb n most_accounts k)
+  laid_many n e h k = rw (le-leb 4 (length b) h, ← e, lt-leb n most_accounts k)
 
-  pub laid-few : (n : ℕ) → n ≡ word b 0 → 4 ≤ length b → n ≤ most_accounts → accounts_in b ≡ accounts_from b n 4
+  pub laid_few : (n : ℕ) → n ≡ word b 0 → 4 ≤ length b → n ≤ most_accounts → accounts_in b ≡ accounts_from b n 4
   unfolding accounts_in choose
-  laid-few n e h k = rw (le-leb 4 (length b) h, ← e, le-leb n most_accounts k)
+  laid_few n e h k = rw (le-leb 4 (length b) h, ← e, le-leb n most_accounts k)
 
 -- ---- over all accounts
 -- so many accounts are laid out from an offset on, to the end of the buffer
@@ -191,23 +191,23 @@ none_in b h = entries_broken (accounts_in b) h
 
 module _ (b : List ℕ) (n : ℕ) (e : n ≡ word b 0) (h : are_laid (accounts_in b) ≡ true) where
   all_from : accounts_in b ≡ accounts_from b n 4
-  all_from = let w = counted b h in laid-few b n e w.0 (omega (arith, e, w.1))
+  all_from = let w = counted b h in laid_few b n e w.0 (omega (arith, e, w.1))
 
-  pub laid-first : Laid b n 4
-  laid-first = record { within = (counted b h).0; laid = sym (ap are_laid all_from) ∙ h }
+  pub laid_first : Laid b n 4
+  laid_first = record { within = (counted b h).0; laid = sym (ap are_laid all_from) ∙ h }
 
-  pub entries-first : entries_in b ≡ entries_of (accounts_from b n 4)
-  entries-first = ap entries_of all_from
+  pub entries_first : entries_in b ≡ entries_of (accounts_from b n 4)
+  entries_first = ap entries_of all_from
 
 module _ {b : List ℕ} {n at : ℕ} {a : AccountPlace} (l : Laid b n at) (r : AccountAt b at a) (h : 0 < n) where
   there : a.next ≡ 0 → ⊥
-  there = laid-is b r n h l.laid
+  there = laid_is b r n h l.laid
 
   pub laid_on : Laid b (n - 1) a.next
   laid_on = record { within = r.within; laid = sym (laid_next b r n h there) ∙ l.laid }
 
-  pub entries-on : entries_of (accounts_from b n at) ≡ entry_of b a ∷ entries_of (accounts_from b (n - 1) a.next)
-  entries-on = ap entries_of (first b r n h there) ∙ entries_prepend (entry_of b a) (accounts_from b (n - 1) a.next) laid_on.laid
+  pub entries_on : entries_of (accounts_from b n at) ≡ entry_of b a ∷ entries_of (accounts_from b (n - 1) a.next)
+  entries_on = ap entries_of (first b r n h there) ∙ entries_prepend (entry_of b a) (accounts_from b (n - 1) a.next) laid_on.laid
 
 -- what is known in front of n accounts at an offset: whether one before them let in, or one of them does, is whether one of all does
 pub record Going (p : AccountEntry → Bool) (b : List ℕ) (some : Bool) (n at : ℕ) : Type 0 where
@@ -233,21 +233,21 @@ module _ (p : AccountEntry → Bool) (b : List ℕ) where
   unfolding any_of
   shut h = rw (none_in b h)
 
-  pub going-first : (n : ℕ) → n ≡ word b 0 → are_laid (accounts_in b) ≡ true → Going p b false n 4
+  pub going_first : (n : ℕ) → n ≡ word b 0 → are_laid (accounts_in b) ≡ true → Going p b false n 4
   unfolding choose
-  going-first n e h = record { ahead = laid-first b n e h; rest = ap (any_of p) (entries-first b n e h) }
+  going_first n e h = record { ahead = laid_first b n e h; rest = ap (any_of p) (entries_first b n e h) }
 
   module _ {some : Bool} {n at : ℕ} {a : AccountPlace} (g : Going p b some n at) (r : AccountAt b at a) (h : 0 < n) where
-    rest-on : any_of p (entries_in b) ≡ choose some true (choose (p (entry_of b a)) true (any_of p (entries_of (accounts_from b (n - 1) a.next))))
+    rest_on : any_of p (entries_in b) ≡ choose some true (choose (p (entry_of b a)) true (any_of p (entries_of (accounts_from b (n - 1) a.next))))
     unfolding any_of
-    rest-on = g.rest ∙ ap (λ (es : List AccountEntry). choose some true (any_of p es)) (entries-on g.ahead r h)
+    rest_on = g.rest ∙ ap (λ (es : List AccountEntry). choose some true (any_of p es)) (entries_on g.ahead r h)
 
-    pub going-hit : p (entry_of b a) ≡ true → Going p b true (n - 1) a.next
-    going-hit e = record { ahead = laid_on g.ahead r h; rest = rest-on ∙ hit some _ _ e }
+    pub going_hit : p (entry_of b a) ≡ true → Going p b true (n - 1) a.next
+    going_hit e = record { ahead = laid_on g.ahead r h; rest = rest_on ∙ hit some _ _ e }
 
-    pub going-miss : p (entry_of b a) ≡ false → Going p b some (n - 1) a.next
-    going-miss e = record { ahead = laid_on g.ahead r h; rest = rest-on ∙ miss some _ _ e }
+    pub going_miss : p (entry_of b a) ≡ false → Going p b some (n - 1) a.next
+    going_miss e = record { ahead = laid_on g.ahead r h; rest = rest_on ∙ miss some _ _ e }
 
   pub going_end : (some : Bool) (n at : ℕ) → Going p b some n at → n ≤ 0 → some ≡ any_of p (entries_in b)
   unfolding any_of
-  going_end some n at g h = sym (g.rest ∙ ap (λ (es : List AccountEntry). choose some true (any_of p es)) (entries-end b n at h) ∙ end some)
+  going_end some n at g h = sym (g.rest ∙ ap (λ (es : List AccountEntry). choose some true (any_of p es)) (entries_end b n at h) ∙ end some)

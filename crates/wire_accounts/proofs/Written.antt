@@ -12,7 +12,7 @@ use Rattle.xdr.specs.Choose.{choose}
 use Rattle.xdr.specs.Xdr.{be32, word}
 use Rattle.xdr.proofs.Laws.{length_be32}
 use Rattle.xdr_opaque.specs.Put.{Each, opaque}
-use Rattle.xdr_opaque.proofs.Fields.{From, all_of, from_length, past, grouped, word_is, opaque-found, opaque-bytes}
+use Rattle.xdr_opaque.proofs.Fields.{From, all_of, from_length, past, grouped, word_is, opaque_found, opaque_bytes}
 use Rattle.wire_accounts.specs.Accounts.{AccountEntry, found, these}
 use Rattle.wire_accounts.specs.Accounts.{is_kind, with_password, with_id, account_at, with_account, and_then, accounts_from, accounts_in}
 use Rattle.wire_accounts.specs.Written.{account_bytes, entry_bytes, accounts_bytes, Writable}
@@ -40,10 +40,10 @@ module _ {b : List ℕ} where
         rw (
           ← v,
           k.0,
-          ← opaque-found _ e.id f₃ w.id,
-          ← opaque-found _ e.password f₄ w.password,
-          opaque-bytes _ e.id f₃ w.id,
-          opaque-bytes _ e.password f₄ w.password,
+          ← opaque_found _ e.id f₃ w.id,
+          ← opaque_found _ e.password f₄ w.password,
+          opaque_bytes _ e.id f₃ w.id,
+          opaque_bytes _ e.password f₄ w.password,
           n,
         ),
         past (account_bytes e) f,

@@ -8,7 +8,7 @@ use Rattle.xdr.specs.Xdr.{word, same_bytes}
 use Rattle.xdr_opaque.specs.Opaque.{opaque_at}
 use Rattle.xdr_opaque.specs.declared.Opaque.{Opaque}
 use Rattle.xdr_opaque.specs.declared.Opaque.TheVariants.{At, Bad}
-use Rattle.md5.specs.Login.{login_digest}
+use Rattle.md5_digest.specs.Login.{login_digest}
 
 pub record AccountEntry : Type 0 where
   pub kind : ℕ

@@ -2,7 +2,7 @@
 use Rattle.std.specs.Prelude.{ℕ, ◌<◌, ◌≤◌, Bool, true, false, List, ◌∷◌, ◌++◌, ◌≡◌, length}
 use Rattle.codes.specs.Codes.{text_auth, md5_auth, most_accounts, longest_password}
 use Rattle.xdr_opaque.specs.Put.{Each}
-use Rattle.md5.specs.Login.{login_digest}
+use Rattle.md5_digest.specs.Login.{login_digest}
 use Rattle.wire_accounts.specs.Accounts.{AccountEntry, these, broken, accounts_in, entries_in, md5_matches, any_of}
 use Rattle.wire_accounts.specs.Written.{accounts_bytes, Marked, Writable}
 

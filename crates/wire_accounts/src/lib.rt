@@ -125,7 +125,7 @@ fn is_digest(accounts: &[u8], password: Stretch, challenge: &[u8; 64], digest: &
         return false;
     }
     let end = start + len;
-    let wanted = md5::login_digest(&accounts[start..end], challenge);
+    let wanted = md5_digest::login_digest(&accounts[start..end], challenge);
     xdr::same(digest, &wanted)
 }
 

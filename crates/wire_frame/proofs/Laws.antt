@@ -28,15 +28,15 @@ module _ (l : List ℕ) where
   unfolding well_framed all_of
   well w = simp (le-leb _ _ w.long, le-leb _ _ w.low, le-leb _ _ w.high, eq-eqb _ _ w.size)
 
-  pub is-well : well_framed l ≡ true → Well l
+  pub is_well : well_framed l ≡ true → Well l
   unfolding well_framed
-  is-well h =
+  is_well h =
       let g : (k : ℕ) → get_or (frame_tests l) k true ≡ true = all_get (frame_tests l) h in
       record { long = leb-true _ _ (g 0); low = leb-true _ _ (g 1); high = leb-true _ _ (g 2); size = eqb-true _ _ (g 3) }
 
   pub broken : (Well l → ⊥) → Broken ≡ framed l
   unfolding framed choose
-  broken h = rw (← no (well_framed l) (λ e. h (is-well e)))
+  broken h = rw (← no (well_framed l) (λ e. h (is_well e)))
 
   pub no_request : Well l → (word l 12 ≡ 0 → ⊥) → NotRequest ≡ framed l
   unfolding framed choose
@@ -47,9 +47,9 @@ module _ (l : List ℕ) where
   request s m w h p q = rw (← well w, eq-eqb (word l 12) 0 h, p, q)
 
   -- a request's record has its whole header
-  pub request-well : (s m : ℕ) → Request s m ≡ framed l → Well l
+  pub request_well : (s m : ℕ) → Request s m ≡ framed l → Well l
   unfolding framed
-  request-well s m e = is-well (chosen (well_framed l) _ s m (sym e))
+  request_well s m e = is_well (chosen (well_framed l) _ s m (sym e))
 
 -- ---- the last arm of a match on a table's numbers: none of them
 abbrev pub Rest : Type 0 → List Line → ℕ → Type 0

@@ -70,31 +70,31 @@ module _ (b : List ℕ) where
   Long m (got is x) = length is ≡ m
   Long m cut = Unit
 
-  prepend-long : (m n : ℕ) (is : List (Item Text)) (g : Got) → length is ≡ m → Long n g → Long (m + n) (prepend is g)
+  prepend_long : (m n : ℕ) (is : List (Item Text)) (g : Got) → length is ≡ m → Long n g → Long (m + n) (prepend is g)
   unfolding Long prepend
-  prepend-long m n is (got js x) e f = length-append is js ∙ rw (e, f)
-  prepend-long m n is cut e f = tt
+  prepend_long m n is (got js x) e f = length-append is js ∙ rw (e, f)
+  prepend_long m n is cut e f = tt
 
-  part-long : (n : ℕ) (r : Piece) (f : ℕ → Got) → ((x : ℕ) → Long n (f x)) → Long (1 + n) (and_part r f)
+  part_long : (n : ℕ) (r : Piece) (f : ℕ → Got) → ((x : ℕ) → Long n (f x)) → Long (1 + n) (and_part r f)
   unfolding Long and_part
-  part-long n (piece i x) f k = prepend-long 1 n (i ∷ []) (f x) refl (k x)
-  part-long n short f k = tt
+  part_long n (piece i x) f k = prepend_long 1 n (i ∷ []) (f x) refl (k x)
+  part_long n short f k = tt
 
-  got-long : (m n : ℕ) (g : Got) (f : ℕ → Got) → Long m g → ((x : ℕ) → Long n (f x)) → Long (m + n) (and_got g f)
+  got_long : (m n : ℕ) (g : Got) (f : ℕ → Got) → Long m g → ((x : ℕ) → Long n (f x)) → Long (m + n) (and_got g f)
   unfolding Long and_got
-  got-long m n (got is x) f e k = prepend-long m n is (f x) e (k x)
-  got-long m n cut f e k = tt
+  got_long m n (got is x) f e k = prepend_long m n is (f x) e (k x)
+  got_long m n cut f e k = tt
 
-  pair-long : (at : ℕ) → Long 2 (parts_at pair_parts b at)
+  pair_long : (at : ℕ) → Long 2 (parts_at pair_parts b at)
   unfolding parts_at Long
-  pair-long at = part-long 1 (part_at text b at) (parts_at (text ∷ []) b) (λ x. part-long 0 (part_at text b x) (parts_at [] b) (λ y. refl))
+  pair_long at = part_long 1 (part_at text b at) (parts_at (text ∷ []) b) (λ x. part_long 0 (part_at text b x) (parts_at [] b) (λ y. refl))
 
-  pairs-long : (n at : ℕ) → Long (n * 2) (times_at (parts_at pair_parts b) n at)
+  pairs_long : (n at : ℕ) → Long (n * 2) (times_at (parts_at pair_parts b) n at)
   unfolding times_at Long
-  pairs-long zero at = refl
-  pairs-long (suc n) at =
+  pairs_long zero at = refl
+  pairs_long (suc n) at =
       let e : 2 + n * 2 ≡ suc n * 2 = omega arith in
-      rw (← e) (got-long 2 (n * 2) (parts_at pair_parts b at) (times_at (parts_at pair_parts b) n) (pair-long at) (pairs-long n))
+      rw (← e) (got_long 2 (n * 2) (parts_at pair_parts b at) (times_at (parts_at pair_parts b) n) (pair_long at) (pairs_long n))
 
   record PairsAre (is : List (Item Text)) : Type 0 where
     pairs : ℕ
@@ -106,18 +106,18 @@ module _ (b : List ℕ) where
   Pairs (got is x) = PairsAre is
   Pairs cut = Unit
 
-  counted-pairs : (n : ℕ) (g : Got) → Long (n * 2) g → Pairs (items_of (counted n g))
+  counted_pairs : (n : ℕ) (g : Got) → Long (n * 2) g → Pairs (items_of (counted n g))
   unfolding Pairs Long items_of counted
-  counted-pairs n (got is x) e = record { pairs = n; texts = is; shape = refl; long = e }
-  counted-pairs n cut e = tt
+  counted_pairs n (got is x) e = record { pairs = n; texts = is; shape = refl; long = e }
+  counted_pairs n cut e = tt
 
-  pairs-are : (at : ℕ) → Pairs (items_of (list_at most_listed (parts_at pair_parts b) b at))
+  pairs_are : (at : ℕ) → Pairs (items_of (list_at most_listed (parts_at pair_parts b) b at))
   unfolding Pairs items_of
-  pairs-are at =
+  pairs_are at =
       let P : FieldGot → Type 0 = λ g. Pairs (items_of g) in
       by_test P (leb (at + 4) (length b)) _ _
       (λ _. by_test P (leb (xdr.word b at) most_listed) _ _
-      (λ _. counted-pairs (xdr.word b at) (times_at (parts_at pair_parts b) (xdr.word b at) (at + 4)) (pairs-long (xdr.word b at) (at + 4))) (λ _. tt))
+      (λ _. counted_pairs (xdr.word b at) (times_at (parts_at pair_parts b) (xdr.word b at) (at + 4)) (pairs_long (xdr.word b at) (at + 4))) (λ _. tt))
       (λ _. tt)
 
   record HeadIs (at : ℕ) (is : List (Item Text)) : Type 0 where
@@ -128,9 +128,9 @@ module _ (b : List ℕ) where
   Head at (got is x) = HeadIs at is
   Head at cut = Unit
 
-  head-is : (at : ℕ) → Head at (parts_at address_parts b at)
+  head_is : (at : ℕ) → Head at (parts_at address_parts b at)
   unfolding Head parts_at part_at and_part prepend
-  head-is at =
+  head_is at =
       let P : Piece → Type 0 = λ r. Head at (and_part r (parts_at (port ∷ []) b)) in
       let Q : Piece → Type 0 = λ q. Head at (prepend (four (xdr.word b at) ∷ []) (and_part q (parts_at [] b))) in
       by_test P (leb (at + 4) (length b)) _ _
@@ -151,19 +151,19 @@ module _ (b : List ℕ) where
   Element at (got is x) = ElementIs at is
   Element at cut = Unit
 
-  head-pairs : (at : ℕ) (is : List (Item Text)) (g : Got) → HeadIs at is → Pairs g → Element at (prepend is g)
+  head_pairs : (at : ℕ) (is : List (Item Text)) (g : Got) → HeadIs at is → Pairs g → Element at (prepend is g)
   unfolding Pairs Element prepend
-  head-pairs at is (got js x) h p = record { pairs = p.pairs; texts = p.texts; shape = rw (h.shape, p.shape); long = p.long; within = h.within }
-  head-pairs at is cut h p = tt
+  head_pairs at is (got js x) h p = record { pairs = p.pairs; texts = p.texts; shape = rw (h.shape, p.shape); long = p.long; within = h.within }
+  head_pairs at is cut h p = tt
 
-  head-then : (at : ℕ) (g : Got) (f : ℕ → Got) → Head at g → ((x : ℕ) → Pairs (f x)) → Element at (and_got g f)
+  head_then : (at : ℕ) (g : Got) (f : ℕ → Got) → Head at g → ((x : ℕ) → Pairs (f x)) → Element at (and_got g f)
   unfolding Head Element and_got
-  head-then at (got is x) f h k = head-pairs at is (f x) h (k x)
-  head-then at cut f h k = tt
+  head_then at (got is x) f h k = head_pairs at is (f x) h (k x)
+  head_then at cut f h k = tt
 
-  element-is : (at : ℕ) → Element at (address_at b at)
+  element_is : (at : ℕ) → Element at (address_at b at)
   unfolding element_at
-  element-is at = head-then at (parts_at address_parts b at) (λ (x : ℕ). items_of (list_at most_listed (parts_at pair_parts b) b x)) (head-is at) pairs-are
+  element_is at = head_then at (parts_at address_parts b at) (λ (x : ℕ). items_of (list_at most_listed (parts_at pair_parts b) b x)) (head_is at) pairs_are
 
   -- ---- one address more
   within_of : (at x : ℕ) (g : Got) → Element at g → After.Next x ≡ forget g → at + 8 ≤ length b
@@ -171,18 +171,18 @@ module _ (b : List ℕ) where
   within_of at x (got is y) h e = h.within
   within_of at x cut h e = let z : ◌≡◌ {A = ℕ} 0 1 = cc in absurd (omega arith)
 
-  pub address-within : (at x : ℕ) → After.Next x ≡ forget (address_at b at) → at + 8 ≤ length b
-  address-within at x e = within_of at x (address_at b at) (element-is at) e
+  pub address_within : (at x : ℕ) → After.Next x ≡ forget (address_at b at) → at + 8 ≤ length b
+  address_within at x e = within_of at x (address_at b at) (element_is at) e
 
-  and-next : (x : ℕ) (g : Got) (f : ℕ → Addresses) → After.Next x ≡ forget g → and_address g f ≡ f x
+  and_next : (x : ℕ) (g : Got) (f : ℕ → Addresses) → After.Next x ≡ forget g → and_address g f ≡ f x
   unfolding and_address forget
-  and-next x (got is y) f e = let q : x ≡ y = cc in ap f (sym q)
-  and-next x cut f e = let z : ◌≡◌ {A = ℕ} 0 1 = cc in absurd (omega arith)
+  and_next x (got is y) f e = let q : x ≡ y = cc in ap f (sym q)
+  and_next x cut f e = let z : ◌≡◌ {A = ℕ} 0 1 = cc in absurd (omega arith)
 
-  and-short : (g : Got) (f : ℕ → Addresses) → After.Short ≡ forget g → and_address g f ≡ empty_addresses 0
+  and_short : (g : Got) (f : ℕ → Addresses) → After.Short ≡ forget g → and_address g f ≡ empty_addresses 0
   unfolding and_address forget
-  and-short (got is y) f e = let z : ◌≡◌ {A = ℕ} 0 1 = cc in absurd (omega arith)
-  and-short cut f e = refl
+  and_short (got is y) f e = let z : ◌≡◌ {A = ℕ} 0 1 = cc in absurd (omega arith)
+  and_short cut f e = refl
 
   module _ (at i : ℕ) (k : Addresses) where
     pub from_more : (n m x h p : ℕ) → n ≡ m + 1 → After.Next x ≡ forget (address_at b at) → h ≡ xdr.word b at → p ≡ xdr.word b (at + 4)
@@ -190,54 +190,54 @@ module _ (b : List ℕ) where
     unfolding addresses_from
     from_more n m x h p d e f g =
         let d₁ : n ≡ suc m = d ∙ add-one m in
-        rw (d₁, add-one i, f, g) (and-next x (address_at b at) (λ (y : ℕ). addresses_from m (suc i) b y (keep i (xdr.word b at) (xdr.word b (at + 4)) k)) e)
+        rw (d₁, add-one i, f, g) (and_next x (address_at b at) (λ (y : ℕ). addresses_from m (suc i) b y (keep i (xdr.word b at) (xdr.word b (at + 4)) k)) e)
 
-    pub from-short : (n : ℕ) → 0 < n → After.Short ≡ forget (address_at b at) → addresses_from n i b at k ≡ empty_addresses 0
+    pub from_short : (n : ℕ) → 0 < n → After.Short ≡ forget (address_at b at) → addresses_from n i b at k ≡ empty_addresses 0
     unfolding addresses_from
-    from-short zero h e = absurd (not-suc-le-zero h)
-    from-short (suc n) h e = and-short (address_at b at) (λ (y : ℕ). addresses_from n (suc i) b y (keep i (xdr.word b at) (xdr.word b (at + 4)) k)) e
+    from_short zero h e = absurd (not-suc-le-zero h)
+    from_short (suc n) h e = and_short (address_at b at) (λ (y : ℕ). addresses_from n (suc i) b y (keep i (xdr.word b at) (xdr.word b (at + 4)) k)) e
 
-    pub from-none : (n : ℕ) → n ≤ 0 → addresses_from n i b at k ≡ k
+    pub from_none : (n : ℕ) → n ≤ 0 → addresses_from n i b at k ≡ k
     unfolding addresses_from
-    from-none zero h = refl
-    from-none (suc n) h = absurd (not-suc-le-zero h)
+    from_none zero h = refl
+    from_none (suc n) h = absurd (not-suc-le-zero h)
 
   -- ---- the list: as many addresses as its count says
   record TimesAre (n at : ℕ) (is : List (Item Text)) : Type 0 where
     hosts : List ℕ
     ports : List ℕ
     items : AddressItems is hosts ports
-    hosts-long : length hosts ≡ n
-    ports-long : length ports ≡ n
+    hosts_long : length hosts ≡ n
+    ports_long : length ports ≡ n
     runs : (i : ℕ) (k : Addresses) → addresses_from n i b at k ≡ keeps i hosts ports k
 
   Times : ℕ → ℕ → Got → Type 0
   Times n at (got is x) = TimesAre n at is
   Times n at cut = Unit
 
-  prepend-times : (n at x : ℕ) (is : List (Item Text)) (r : Got) → address_at b at ≡ got is x → ElementIs at is → Times n x r → Times (suc n) at (prepend is r)
+  prepend_times : (n at x : ℕ) (is : List (Item Text)) (r : Got) → address_at b at ≡ got is x → ElementIs at is → Times n x r → Times (suc n) at (prepend is r)
   unfolding Times prepend addresses_from and_address keeps
-  prepend-times n at x is (got js y) e h t =
+  prepend_times n at x is (got js y) e h t =
       record {
         hosts = xdr.word b at ∷ t.hosts;
         ports = xdr.word b (at + 4) ∷ t.ports;
         items = rw h.shape (address_on h.texts h.long t.items);
-        hosts-long = ap suc t.hosts-long;
-        ports-long = ap suc t.ports-long;
+        hosts_long = ap suc t.hosts_long;
+        ports_long = ap suc t.ports_long;
         runs = λ i k. rw e (t.runs (suc i) (keep i (xdr.word b at) (xdr.word b (at + 4)) k));
       }
-  prepend-times n at x is cut e h t = tt
+  prepend_times n at x is cut e h t = tt
 
-  and-times : (n at : ℕ) (g : Got) → address_at b at ≡ g → Element at g → ((x : ℕ) → Times n x (times_at (address_at b) n x))
+  and_times : (n at : ℕ) (g : Got) → address_at b at ≡ g → Element at g → ((x : ℕ) → Times n x (times_at (address_at b) n x))
       → Times (suc n) at (and_got g (times_at (address_at b) n))
   unfolding Times Element and_got
-  and-times n at (got is x) e h k = prepend-times n at x is (times_at (address_at b) n x) e h (k x)
-  and-times n at cut e h k = tt
+  and_times n at (got is x) e h k = prepend_times n at x is (times_at (address_at b) n x) e h (k x)
+  and_times n at cut e h k = tt
 
-  times-are : (n at : ℕ) → Times n at (times_at (address_at b) n at)
+  times_are : (n at : ℕ) → Times n at (times_at (address_at b) n at)
   unfolding Times times_at addresses_from keeps
-  times-are zero at = record { hosts = []; ports = []; items = no_address; hosts-long = refl; ports-long = refl; runs = λ i k. refl }
-  times-are (suc n) at = and-times n at (address_at b at) refl (element-is at) (times-are n)
+  times_are zero at = record { hosts = []; ports = []; items = no_address; hosts_long = refl; ports_long = refl; runs = λ i k. refl }
+  times_are (suc n) at = and_times n at (address_at b at) refl (element_is at) (times_are n)
 
   record FieldIs (at : ℕ) (i : Item Text) (is : List (Item Text)) : Type 0 where
     n : ℕ
@@ -251,19 +251,19 @@ module _ (b : List ℕ) where
   Fielded at (stop v) = ⊥
   Fielded at bad = Unit
 
-  counted-fielded : (at n : ℕ) (g : Got) → n ≤ most_addresses → at + 4 ≤ length b → Times n (at + 4) g → Fielded at (counted n g)
+  counted_fielded : (at n : ℕ) (g : Got) → n ≤ most_addresses → at + 4 ≤ length b → Times n (at + 4) g → Fielded at (counted n g)
   unfolding Times Fielded counted
-  counted-fielded at n (got is x) f h t = record { n = n; first = refl; few = f; here = h; times = t }
-  counted-fielded at n cut f h t = tt
+  counted_fielded at n (got is x) f h t = record { n = n; first = refl; few = f; here = h; times = t }
+  counted_fielded at n cut f h t = tt
 
   fielded : (at : ℕ) → Fielded at (field_at addresses b at)
   unfolding Fielded field_at
   fielded at =
       by_test (Fielded at) (leb (at + 4) (length b)) _ _
       (λ h. by_test (Fielded at) (leb (xdr.word b at) most_addresses) _ _
-      (λ f. counted-fielded at (xdr.word b at) (times_at (address_at b) (xdr.word b at) (at + 4)) (leb-true (xdr.word b at) most_addresses f)
+      (λ f. counted_fielded at (xdr.word b at) (times_at (address_at b) (xdr.word b at) (at + 4)) (leb-true (xdr.word b at) most_addresses f)
       (leb-true (at + 4) (length b) h)
-      (times-are (xdr.word b at) (at + 4)))
+      (times_are (xdr.word b at) (at + 4)))
       (λ f. tt))
       (λ h. tt)
 
@@ -282,11 +282,11 @@ module _ (b : List ℕ) where
   seeable at bad h = record { few = omega arith; here = λ m. absurd (not-suc-le-zero m) }
 
   module _ (at n : ℕ) (e : n ≡ count_seen (field_seen (field_at addresses b at))) where
-    pub few-addresses : n ≤ most_addresses
-    few-addresses = rw e (seeable at (field_at addresses b at) (fielded at)).few
+    pub few_addresses : n ≤ most_addresses
+    few_addresses = rw e (seeable at (field_at addresses b at) (fielded at)).few
 
-    pub some-addresses : 0 < n → at + 4 ≤ length b
-    some-addresses h = (seeable at (field_at addresses b at) (fielded at)).here (rw e at h)
+    pub some_addresses : 0 < n → at + 4 ≤ length b
+    some_addresses h = (seeable at (field_at addresses b at) (fielded at)).here (rw e at h)
 
     pub first_of : addresses_at b at ≡ addresses_from n 0 b (at + 4) (empty_addresses n)
     unfolding addresses_at listed
@@ -295,24 +295,24 @@ module _ (b : List ℕ) where
     pub starts_with : (k : Addresses) → k ≡ empty_addresses n → addresses_at b at ≡ addresses_from (n - 0) 0 b (at + 4) k
     starts_with k f = let z : n - 0 ≡ n = omega arith in rw (z, f) first_of
 
-  kept-all : (at n : ℕ) (is : List (Item Text)) → n ≤ most_addresses → TimesAre n (at + 4) is → Given n is (listed b at n)
+  kept_all : (at n : ℕ) (is : List (Item Text)) → n ≤ most_addresses → TimesAre n (at + 4) is → Given n is (listed b at n)
   unfolding listed
-  kept-all at n is f t =
-      let e : length t.hosts ≡ length t.ports = t.hosts-long ∙ sym t.ports-long in
+  kept_all at n is f t =
+      let e : length t.hosts ≡ length t.ports = t.hosts_long ∙ sym t.ports_long in
       let r = t.runs 0 (empty_addresses n) in
       let z = keeps 0 t.hosts t.ports (empty_addresses n) in
-      let m : length t.hosts ≤ most_addresses = rw t.hosts-long f in
-      let q : length t.ports ≤ most_addresses = rw t.ports-long f in
+      let m : length t.hosts ≤ most_addresses = rw t.hosts_long f in
+      let q : length t.ports ≤ most_addresses = rw t.ports_long f in
       record {
         hosts = t.hosts;
         ports = t.ports;
         items = t.items;
-        counted = t.hosts-long;
+        counted = t.hosts_long;
         counts = ap (λ (k : Addresses). k.count) r ∙ keeps_count 0 t.hosts t.ports (empty_addresses n);
         hosts_are = ap (λ (k : Addresses). k.hosts) r ∙ keeps_hosts 0 t.hosts t.ports (empty_addresses n) e ∙ sets_all most_addresses t.hosts m
-            ∙ ap (λ (j : ℕ). t.hosts ++ replicate (most_addresses - j) 0) t.hosts-long;
+            ∙ ap (λ (j : ℕ). t.hosts ++ replicate (most_addresses - j) 0) t.hosts_long;
         ports_are = ap (λ (k : Addresses). k.ports) r ∙ keeps_ports 0 t.hosts t.ports (empty_addresses n) e ∙ sets_all most_addresses t.ports q
-            ∙ ap (λ (j : ℕ). t.ports ++ replicate (most_addresses - j) 0) t.ports-long;
+            ∙ ap (λ (j : ℕ). t.ports ++ replicate (most_addresses - j) 0) t.ports_long;
       }
 
   given : (at n : ℕ) (is : List (Item Text)) (x : ℕ) → field_at addresses b at ≡ field_got (four n) is x → Given n is (addresses_at b at)
@@ -320,7 +320,7 @@ module _ (b : List ℕ) where
   given at n is x e =
       let h : FieldIs at (four n) is = rw e at (fielded at) in
       let d : h.n ≡ n = cc h.first in
-      rw e (kept-all at n is (rw d at h.few) (rw d at h.times))
+      rw e (kept_all at n is (rw d at h.few) (rw d at h.times))
 
   none_given : (at : ℕ) → field_at addresses b at ≡ bad → addresses_at b at ≡ empty_addresses 0
   unfolding addresses_at listed count_seen field_seen addresses_from

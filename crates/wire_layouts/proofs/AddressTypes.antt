@@ -13,7 +13,7 @@ use Rattle.xdr.proofs.Tests.{by_test}
 use Rattle.xdr_opaque.specs.Opaque as o
 use Rattle.xdr_opaque.specs.declared.Word.TheVariants as Word
 use Rattle.xdr_opaque.proofs.Fields.{From, word_is}
-use Rattle.xdr_opaque.proofs.Laws.{word-within, word-missing}
+use Rattle.xdr_opaque.proofs.Laws.{word_within, word_missing}
 use Rattle.wire_layouts.specs.AddressLists.{is_tcp}
 
 -- a word that is cut short is 256 times its other bytes
@@ -24,18 +24,18 @@ cut_short b at h =
     sym (ne_eqb (xdr.word b at) tcp_address (λ e. omega arith))
 
 module _ (b : List ℕ) (at : ℕ) where
-  pub type-judged : is_tcp b at ≡ eqb (xdr.word b at) tcp_address
+  pub type_judged : is_tcp b at ≡ eqb (xdr.word b at) tcp_address
   unfolding is_tcp
-  type-judged =
+  type_judged =
       by_test (λ t. t ≡ eqb (xdr.word b at) tcp_address) (leb (at + 4) (length b)) (eqb (xdr.word b at) tcp_address) false (λ e. refl)
       (λ e. cut_short b at (leb-false _ _ e))
 
-  pub type-found : (v : ℕ) → Word.Value v ≡ o.word_at b at → eqb v tcp_address ≡ is_tcp b at
-  type-found v e = sym (type-judged ∙ ap (λ (w : ℕ). eqb w tcp_address) (sym (word-within b at v e).1))
+  pub type_found : (v : ℕ) → Word.Value v ≡ o.word_at b at → eqb v tcp_address ≡ is_tcp b at
+  type_found v e = sym (type_judged ∙ ap (λ (w : ℕ). eqb w tcp_address) (sym (word_within b at v e).1))
 
-  pub type-missing : Word.Short ≡ o.word_at b at → false ≡ is_tcp b at
-  type-missing e = cut_short b at (word-missing b at e) ∙ sym type-judged
+  pub type_missing : Word.Short ≡ o.word_at b at → false ≡ is_tcp b at
+  type_missing e = cut_short b at (word_missing b at e) ∙ sym type_judged
 
 -- of a body that was written
 pub type_written : {b : List ℕ} {at : ℕ} (q : List ℕ) (v : ℕ) → From b at (xdr.be32 v ++ q) → v < 2 ^ 32 → is_tcp b at ≡ eqb v tcp_address
-type_written {b} {at} q v f h = type-judged b at ∙ ap (λ (w : ℕ). eqb w tcp_address) (sym (word_is q v f h))
+type_written {b} {at} q v f h = type_judged b at ∙ ap (λ (w : ℕ). eqb w tcp_address) (sym (word_is q v f h))

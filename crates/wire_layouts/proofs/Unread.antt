@@ -90,54 +90,54 @@ module _ (b : List ℕ) where
   unfolding field_at OnAt part_at single
   word_on at = by_test (λ (r : Piece). OnAt (at + 4) (single r)) (leb (at + 4) (length b)) _ _ (λ _. refl) (λ _. tt)
 
-  hyper-on : (at : ℕ) → OnAt (at + 8) (field_at (one hyper) b at)
+  hyper_on : (at : ℕ) → OnAt (at + 8) (field_at (one hyper) b at)
   unfolding field_at OnAt part_at single
-  hyper-on at = by_test (λ (r : Piece). OnAt (at + 8) (single r)) (leb (at + 8) (length b)) _ _ (λ _. refl) (λ _. tt)
+  hyper_on at = by_test (λ (r : Piece). OnAt (at + 8) (single r)) (leb (at + 8) (length b)) _ _ (λ _. refl) (λ _. tt)
 
-  port-on : (at : ℕ) → OnAt (at + 4) (field_at (one port) b at)
+  port_on : (at : ℕ) → OnAt (at + 4) (field_at (one port) b at)
   unfolding field_at OnAt part_at single
-  port-on at =
+  port_on at =
       let P : Piece → Type 0 = λ r. OnAt (at + 4) (single r) in
       by_test P (leb (at + 4) (length b)) _ _ (λ _. by_test P (leb (xdr.word b at) most_port) _ _ (λ _. refl) (λ _. tt)) (λ _. tt)
 
-  digest-on : (at : ℕ) → OnAt (at + digest_length) (field_at (one digest) b at)
+  digest_on : (at : ℕ) → OnAt (at + digest_length) (field_at (one digest) b at)
   unfolding field_at OnAt part_at single
-  digest-on at = by_test (λ (r : Piece). OnAt (at + digest_length) (single r)) (leb (at + digest_length) (length b)) _ _ (λ _. refl) (λ _. tt)
+  digest_on at = by_test (λ (r : Piece). OnAt (at + digest_length) (single r)) (leb (at + digest_length) (length b)) _ _ (λ _. refl) (λ _. tt)
 
   -- ---- all fields
-  any-unread : (fs : List Field) (at : ℕ) → Unread (HasTag fs) (read_fields fs b at)
+  any_unread : (fs : List Field) (at : ℕ) → Unread (HasTag fs) (read_fields fs b at)
   unfolding read_fields Unread field_at and_read
-  any-unread [] at = by_test (Unread ⊥) (eqb at (length b)) _ _ (λ _. tt) (λ _. tt)
-  any-unread (one p ∷ fs) at = on_anywhere (HasTag fs) (field_at (one p) b at) (read_fields fs b) (one_on p at) (any-unread fs)
-  any-unread (many most ps ∷ fs) at = on_anywhere (HasTag fs) (field_at (many most ps) b at) (read_fields fs b) (list_on most (parts_at ps b) at) (any-unread fs)
-  any-unread (lists most ps inner qs ∷ fs) at =
-      on_anywhere (HasTag fs) (field_at (lists most ps inner qs) b at) (read_fields fs b) (list_on most (element_at ps inner qs b) at) (any-unread fs)
-  any-unread (tag k ∷ fs) at = any (read_fields (tag k ∷ fs) b at)
-  any-unread (never ∷ fs) at = tt
+  any_unread [] at = by_test (Unread ⊥) (eqb at (length b)) _ _ (λ _. tt) (λ _. tt)
+  any_unread (one p ∷ fs) at = on_anywhere (HasTag fs) (field_at (one p) b at) (read_fields fs b) (one_on p at) (any_unread fs)
+  any_unread (many most ps ∷ fs) at = on_anywhere (HasTag fs) (field_at (many most ps) b at) (read_fields fs b) (list_on most (parts_at ps b) at) (any_unread fs)
+  any_unread (lists most ps inner qs ∷ fs) at =
+      on_anywhere (HasTag fs) (field_at (lists most ps inner qs) b at) (read_fields fs b) (list_on most (element_at ps inner qs b) at) (any_unread fs)
+  any_unread (tag k ∷ fs) at = any (read_fields (tag k ∷ fs) b at)
+  any_unread (never ∷ fs) at = tt
 
-  tag-unread : (S : Type 0) (k at : ℕ) (f : ℕ → Read) → Unread S (f (at + 4))
+  tag_unread : (S : Type 0) (k at : ℕ) (f : ℕ → Read) → Unread S (f (at + 4))
       → Unread ((xdr.word b at ≡ k → ⊥) ⊎ S) (and_read (field_at (tag k) b at) f)
   unfolding field_at and_read Unread
-  tag-unread S k at f h =
+  tag_unread S k at f h =
       let P : FieldGot → Type 0 = λ g. Unread ((xdr.word b at ≡ k → ⊥) ⊎ S) (and_read g f) in
       by_test P (leb (at + 4) (length b)) _ _
       (λ _. by_test P (eqb (xdr.word b at) k) _ _ (λ _. first_unread _ _ (f (at + 4)) (right _ S (f (at + 4)) h)) (λ e. inl (eqb-false (xdr.word b at) k e)))
       (λ _. tt)
 
-  read-unread : (fs : List Field) (at : ℕ) → Unread (Stops fs b at) (read_fields fs b at)
+  read_unread : (fs : List Field) (at : ℕ) → Unread (Stops fs b at) (read_fields fs b at)
   unfolding read_fields Unread field_at and_read
-  read-unread [] at = by_test (Unread ⊥) (eqb at (length b)) _ _ (λ _. tt) (λ _. tt)
-  read-unread (one word ∷ fs) at = on_at (Stops fs b (at + 4)) (at + 4) (field_at (one word) b at) (read_fields fs b) (word_on at) (read-unread fs (at + 4))
-  read-unread (one hyper ∷ fs) at = on_at (Stops fs b (at + 8)) (at + 8) (field_at (one hyper) b at) (read_fields fs b) (hyper-on at) (read-unread fs (at + 8))
-  read-unread (one text ∷ fs) at = on_anywhere (HasTag fs) (field_at (one text) b at) (read_fields fs b) (one_on text at) (any-unread fs)
-  read-unread (one port ∷ fs) at = on_at (Stops fs b (at + 4)) (at + 4) (field_at (one port) b at) (read_fields fs b) (port-on at) (read-unread fs (at + 4))
-  read-unread (one digest ∷ fs) at =
-      on_at (Stops fs b (at + digest_length)) (at + digest_length) (field_at (one digest) b at) (read_fields fs b) (digest-on at) (read-unread fs (at + digest_length))
-  read-unread (many most ps ∷ fs) at = any-unread (many most ps ∷ fs) at
-  read-unread (lists most ps inner qs ∷ fs) at = any-unread (lists most ps inner qs ∷ fs) at
-  read-unread (tag k ∷ fs) at = tag-unread (Stops fs b (at + 4)) k at (read_fields fs b) (read-unread fs (at + 4))
-  read-unread (never ∷ fs) at = tt
+  read_unread [] at = by_test (Unread ⊥) (eqb at (length b)) _ _ (λ _. tt) (λ _. tt)
+  read_unread (one word ∷ fs) at = on_at (Stops fs b (at + 4)) (at + 4) (field_at (one word) b at) (read_fields fs b) (word_on at) (read_unread fs (at + 4))
+  read_unread (one hyper ∷ fs) at = on_at (Stops fs b (at + 8)) (at + 8) (field_at (one hyper) b at) (read_fields fs b) (hyper_on at) (read_unread fs (at + 8))
+  read_unread (one text ∷ fs) at = on_anywhere (HasTag fs) (field_at (one text) b at) (read_fields fs b) (one_on text at) (any_unread fs)
+  read_unread (one port ∷ fs) at = on_at (Stops fs b (at + 4)) (at + 4) (field_at (one port) b at) (read_fields fs b) (port_on at) (read_unread fs (at + 4))
+  read_unread (one digest ∷ fs) at =
+      on_at (Stops fs b (at + digest_length)) (at + digest_length) (field_at (one digest) b at) (read_fields fs b) (digest_on at) (read_unread fs (at + digest_length))
+  read_unread (many most ps ∷ fs) at = any_unread (many most ps ∷ fs) at
+  read_unread (lists most ps inner qs ∷ fs) at = any_unread (lists most ps inner qs ∷ fs) at
+  read_unread (tag k ∷ fs) at = tag_unread (Stops fs b (at + 4)) k at (read_fields fs b) (read_unread fs (at + 4))
+  read_unread (never ∷ fs) at = tt
 
 pub unread_rests : UnreadRests
 unfolding Unread
-unread_rests fs b ws e = rw e at (read-unread b fs 0)
+unread_rests fs b ws e = rw e at (read_unread b fs 0)

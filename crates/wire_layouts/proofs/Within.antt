@@ -14,7 +14,7 @@ use Rattle.xdr.proofs.Tests.{by_test}
 use Rattle.xdr_opaque.specs.Opaque.{opaque_at}
 use Rattle.xdr_opaque.specs.declared.Opaque.{Opaque}
 use Rattle.xdr_opaque.specs.declared.Opaque.TheVariants as Opaque
-use Rattle.xdr_opaque.proofs.Laws.{opaque-within}
+use Rattle.xdr_opaque.proofs.Laws.{opaque_within}
 use Rattle.wire_layouts.specs.Layout.{Part, word, hyper, text, port, digest, Field, one, many, lists, tag, never, Item, four, eight, bytes, fixed, Value, value, Piece, piece, short, piece_of, part_at}
 use Rattle.wire_layouts.specs.Layout.{Got, got, cut, parts_at, times_at, FieldGot, field_got, stop, bad, single, counted, list_at, element_at, field_at, Read, whole, before, broken, and_value, and_read, read_fields}
 use Rattle.wire_layouts.specs.Scans.{empty_scan, put, puts, summed, scanned}
@@ -77,14 +77,14 @@ module _ (b : List ℕ) where
   put_in i (fixed x) k h t =
       record { alike = simp length-set t.alike; within = set_in (length b) x.start x.len h k.starts k.lens t.alike t.within i }
 
-  puts-in : (i : ℕ) (vs : List (Value Text)) (k : Scan) → AllIn vs → TextsIn k → TextsIn (puts i vs k)
+  puts_in : (i : ℕ) (vs : List (Value Text)) (k : Scan) → AllIn vs → TextsIn k → TextsIn (puts i vs k)
   unfolding puts AllIn
-  puts-in i [] k h t = t
-  puts-in i (v ∷ vs) k h t = puts-in (suc i) vs (put i v.first k) h.1 (put_in i v.first k h.0 t)
+  puts_in i [] k h t = t
+  puts_in i (v ∷ vs) k h t = puts_in (suc i) vs (put i v.first k) h.1 (put_in i v.first k h.0 t)
 
   found_in : (at : ℕ) (r : Opaque) → r ≡ opaque_at b at → PieceIn (piece_of r)
   unfolding PieceIn ItemIn piece_of
-  found_in at (Opaque.At s n x) e = let w = opaque-within b at s n x e in omega arith
+  found_in at (Opaque.At s n x) e = let w = opaque_within b at s n x e in omega arith
   found_in at Opaque.Bad e = tt
 
   part_in : (p : Part) (at : ℕ) → PieceIn (part_at p b at)
@@ -95,56 +95,56 @@ module _ (b : List ℕ) where
   part_in port at = by_test PieceIn (leb (at + 4) (length b)) _ _ (λ e. by_test PieceIn (leb (xdr.word b at) most_port) _ _ (λ k. tt) (λ k. tt)) (λ e. tt)
   part_in digest at = by_test PieceIn (leb (at + digest_length) (length b)) _ _ (λ e. leb-true _ _ e) (λ e. tt)
 
-  single-in : (r : Piece) → PieceIn r → GivenIn (single r)
+  single_in : (r : Piece) → PieceIn r → GivenIn (single r)
   unfolding PieceIn GivenIn single
-  single-in (piece i x) h = h
-  single-in short h = tt
+  single_in (piece i x) h = h
+  single_in short h = tt
 
-  counted-in : (n : ℕ) (g : Got) → GivenIn (counted n g)
+  counted_in : (n : ℕ) (g : Got) → GivenIn (counted n g)
   unfolding GivenIn ItemIn counted
-  counted-in n (got is x) = tt
-  counted-in n cut = tt
+  counted_in n (got is x) = tt
+  counted_in n cut = tt
 
-  list-in : (most : ℕ) (element : ℕ → Got) (at : ℕ) → GivenIn (list_at most element b at)
+  list_in : (most : ℕ) (element : ℕ → Got) (at : ℕ) → GivenIn (list_at most element b at)
   unfolding GivenIn
-  list-in most element at =
+  list_in most element at =
       by_test GivenIn (leb (at + 4) (length b)) _ _ (λ e. by_test GivenIn (leb (xdr.word b at) most) _ _
-      (λ k. counted-in (xdr.word b at) (times_at element (xdr.word b at) (at + 4))) (λ k. tt)) (λ e. tt)
+      (λ k. counted_in (xdr.word b at) (times_at element (xdr.word b at) (at + 4))) (λ k. tt)) (λ e. tt)
 
   field_in : (f : Field) (at : ℕ) → GivenIn (field_at f b at)
   unfolding GivenIn ItemIn field_at
-  field_in (one p) at = single-in (part_at p b at) (part_in p at)
-  field_in (many most ps) at = list-in most (parts_at ps b) at
-  field_in (lists most ps inner qs) at = list-in most (element_at ps inner qs b) at
+  field_in (one p) at = single_in (part_at p b at) (part_in p at)
+  field_in (many most ps) at = list_in most (parts_at ps b) at
+  field_in (lists most ps inner qs) at = list_in most (element_at ps inner qs b) at
   field_in (tag k) at = by_test GivenIn (leb (at + 4) (length b)) _ _ (λ e. by_test GivenIn (eqb (xdr.word b at) k) _ _ (λ i. tt) (λ i. tt)) (λ e. tt)
   field_in never at = tt
 
-  first-in : (v : Value Text) (r : Read) → ItemIn v.first → ReadIn r → ReadIn (and_value v r)
+  first_in : (v : Value Text) (r : Read) → ItemIn v.first → ReadIn r → ReadIn (and_value v r)
   unfolding ReadIn AllIn and_value
-  first-in v (whole vs) h k = (h, k)
-  first-in v (before vs) h k = (h, k)
-  first-in v broken h k = tt
+  first_in v (whole vs) h k = (h, k)
+  first_in v (before vs) h k = (h, k)
+  first_in v broken h k = tt
 
-  and-read-in : (g : FieldGot) (f : ℕ → Read) → GivenIn g → ((x : ℕ) → ReadIn (f x)) → ReadIn (and_read g f)
+  and_read_in : (g : FieldGot) (f : ℕ → Read) → GivenIn g → ((x : ℕ) → ReadIn (f x)) → ReadIn (and_read g f)
   unfolding GivenIn ReadIn AllIn ItemIn and_read
-  and-read-in (field_got i is x) f h k = first-in (value i is) (f x) h (k x)
-  and-read-in (stop v) f h k = (tt, tt)
-  and-read-in bad f h k = tt
+  and_read_in (field_got i is x) f h k = first_in (value i is) (f x) h (k x)
+  and_read_in (stop v) f h k = (tt, tt)
+  and_read_in bad f h k = tt
 
-  read-in : (fs : List Field) (at : ℕ) → ReadIn (read_fields fs b at)
+  read_in : (fs : List Field) (at : ℕ) → ReadIn (read_fields fs b at)
   unfolding ReadIn AllIn read_fields
-  read-in [] at = by_test ReadIn (eqb at (length b)) _ _ (λ e. tt) (λ e. tt)
-  read-in (f ∷ fs) at = and-read-in (field_at f b at) (read_fields fs b) (field_in f at) (read-in fs)
+  read_in [] at = by_test ReadIn (eqb at (length b)) _ _ (λ e. tt) (λ e. tt)
+  read_in (f ∷ fs) at = and_read_in (field_at f b at) (read_fields fs b) (field_in f at) (read_in fs)
 
-  summed-in : (r : Read) → ReadIn r → TextsIn (summed 0 (empty_scan true) r)
+  summed_in : (r : Read) → ReadIn r → TextsIn (summed 0 (empty_scan true) r)
   unfolding ReadIn summed
-  summed-in (whole vs) h = puts-in 0 vs (empty_scan true) h (kept_in true)
-  summed-in (before vs) h = puts-in 0 vs (empty_scan true) h (kept_in true)
-  summed-in broken h = kept_in false
+  summed_in (whole vs) h = puts_in 0 vs (empty_scan true) h (kept_in true)
+  summed_in (before vs) h = puts_in 0 vs (empty_scan true) h (kept_in true)
+  summed_in broken h = kept_in false
 
 pub texts_in : (fs : List Field) (b : List ℕ) (i : ℕ) → get_or (scanned fs b).starts i 0 + get_or (scanned fs b).lens i 0 ≤ length b
 unfolding scanned
-texts_in fs b i = (summed-in b (read_fields fs b 0) (read-in b fs 0)).within i
+texts_in fs b i = (summed_in b (read_fields fs b 0) (read_in b fs 0)).within i
 
 -- what was read to its end was kept
 put_ok : (i : ℕ) (x : Item Text) (k : Scan) → (put i x k).ok ≡ k.ok

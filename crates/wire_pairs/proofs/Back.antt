@@ -101,18 +101,18 @@ unfolding text_bytes
 left p ps sum h = omega arith
 
 module _ (b : List ℕ) (p : Pair) (ps : List Pair) where
-  own-words : (at sum : ℕ) (q : List ℕ) → sum + text_bytes (p ∷ ps) < 2 ^ 32
+  own_words : (at sum : ℕ) (q : List ℕ) → sum + text_bytes (p ∷ ps) < 2 ^ 32
       → From b at (be32s (pair_words sum (p ∷ ps)) ++ q)
       → Words b at sum (length p.name) (sum + length p.name) (length p.value)
       (be32s (pair_words (ended sum p) ps) ++ q)
   unfolding pair_words text_bytes
-  own-words at sum q h f =
+  own_words at sum q h f =
       words_is _ _ _ _ _ (omega arith) (omega arith) (omega arith) (omega arith)
       (rw (pair_words_lem sum (length p.name) (sum + length p.name) (length p.value) (pair_words (ended sum p) ps) q) at f)
 
-  name-is : (at : ℕ) (r : List ℕ) → From b at (pair_texts (p ∷ ps) ++ r) → From b at (p.name ++ (p.value ++ (pair_texts ps ++ r)))
+  name_is : (at : ℕ) (r : List ℕ) → From b at (pair_texts (p ∷ ps) ++ r) → From b at (p.name ++ (p.value ++ (pair_texts ps ++ r)))
   unfolding pair_texts
-  name-is at r f = simp append_assoc at f
+  name_is at r f = simp append_assoc at f
 
 module _ (b : List ℕ) (first : ℕ) (q r : List ℕ) where
   kept_back : (ps : List Pair) (at sum : ℕ) → sum + text_bytes ps < 2 ^ 32 → From b at (be32s (pair_words sum ps) ++ q)
@@ -120,8 +120,8 @@ module _ (b : List ℕ) (first : ℕ) (q r : List ℕ) where
   unfolding kept_from
   kept_back [] at sum h f g = refl
   kept_back (p ∷ ps) at sum h f g =
-      let w = own-words b p ps at sum q h f in
-      let g₁ = name-is b p ps (first + sum) r g in
+      let w = own_words b p ps at sum q h f in
+      let g₁ = name_is b p ps (first + sum) r g in
       let g₂ : From b (first + (sum + length p.name)) (p.value ++ (pair_texts ps ++ r)) =
       from_at (omega arith) (past p.name g₁) in
       let g₃ : From b (first + ended sum p) (pair_texts ps ++ r) = from_at (omega arith) (past p.value g₂) in
@@ -131,13 +131,13 @@ module _ (b : List ℕ) (first : ℕ) (q r : List ℕ) where
       cc
 
 module _ (b : List ℕ) (q : List ℕ) where
-  laid-back : (ps : List Pair) (at sum : ℕ) → sum + text_bytes ps < 2 ^ 32 → From b at (be32s (pair_words sum ps) ++ q)
+  laid_back : (ps : List Pair) (at sum : ℕ) → sum + text_bytes ps < 2 ^ 32 → From b at (be32s (pair_words sum ps) ++ q)
       → at + 16 * length ps + sum + text_bytes ps ≤ length b → laid_from b (length ps) at sum ≡ true
   unfolding laid_from choose text_bytes
-  laid-back [] at sum h f k = le-leb (at + sum) (length b) (omega arith)
-  laid-back (p ∷ ps) at sum h f k =
-      let w = own-words b p ps at sum q h f in
-      let i = laid-back ps (at + 16) (ended sum p) (left p ps sum h) w.next (omega arith) in
+  laid_back [] at sum h f k = le-leb (at + sum) (length b) (omega arith)
+  laid_back (p ∷ ps) at sum h f k =
+      let w = own_words b p ps at sum q h f in
+      let i = laid_back ps (at + 16) (ended sum p) (left p ps sum h) w.next (omega arith) in
       let v : ℕ = sum + length p.name in
       rw (← w.first, ← w.second, ← w.third, ← w.fourth, eq-eqb sum sum refl, eq-eqb v v refl) i
 
@@ -152,58 +152,58 @@ module _ (ps : List Pair) (store : List ℕ) where
   behind : List ℕ
   behind = drop (taken ps) store
 
-  pub storing-is : storing ps store ≡ store_bytes ps ++ drop (taken ps) store
+  pub storing_is : storing ps store ≡ store_bytes ps ++ drop (taken ps) store
   unfolding storing overlay
-  storing-is = rw (zero-add, length_store ps)
+  storing_is = rw (zero-add, length_store ps)
 
   from_front : From (storing ps store) 0 (be32 (length ps) ++ (be32s (pair_words 0 ps) ++ (pair_texts ps ++ behind)))
   unfolding behind
-  from_front = rw (storing-is ∙ store_parts ps (drop (taken ps) store)) (all_of _)
+  from_front = rw (storing_is ∙ store_parts ps (drop (taken ps) store)) (all_of _)
 
-  from-words : From (storing ps store) 4 (be32s (pair_words 0 ps) ++ (pair_texts ps ++ behind))
-  from-words = from_at (rw length_be32) (past (be32 (length ps)) from_front)
+  from_words : From (storing ps store) 4 (be32s (pair_words 0 ps) ++ (pair_texts ps ++ behind))
+  from_words = from_at (rw length_be32) (past (be32 (length ps)) from_front)
 
-  from-texts : From (storing ps store) (4 + 16 * length ps + 0) (pair_texts ps ++ behind)
-  from-texts =
+  from_texts : From (storing ps store) (4 + 16 * length ps + 0) (pair_texts ps ++ behind)
+  from_texts =
       let e = length_words 0 ps in
-      from_at (rw length_be32s (omega arith)) (past (be32s (pair_words 0 ps)) from-words)
+      from_at (rw length_be32s (omega arith)) (past (be32s (pair_words 0 ps)) from_words)
 
-  pub storing-past : drop (taken ps) (storing ps store) ≡ drop (taken ps) store
-  storing-past = rw storing-is (drop_at (store_bytes ps) (drop (taken ps) store) (taken ps) (length_store ps))
+  pub storing_past : drop (taken ps) (storing ps store) ≡ drop (taken ps) store
+  storing_past = rw storing_is (drop_at (store_bytes ps) (drop (taken ps) store) (taken ps) (length_store ps))
 
-  pub storing-room : taken ps ≤ length store → length (storing ps store) ≡ length store
+  pub storing_room : taken ps ≤ length store → length (storing ps store) ≡ length store
   unfolding storing
-  storing-room h = length_overlay 0 (store_bytes ps) store (rw (zero-add, length_store ps) h)
+  storing_room h = length_overlay 0 (store_bytes ps) store (rw (zero-add, length_store ps) h)
 
-  pub storing-length : fits ps ≡ true → length store ≡ store_length → length (storing ps store) ≡ length store
-  storing-length h e = let k = fit_taken ps h in storing-room (omega arith)
+  pub storing_length : fits ps ≡ true → length store ≡ store_length → length (storing ps store) ≡ length store
+  storing_length h e = let k = fit_taken ps h in storing_room (omega arith)
 
   module _ (h : fits ps ≡ true) where
     small : 0 + text_bytes ps < 2 ^ 32
     small = let k = fit_taken ps h in omega arith
 
-    count-is : length ps ≡ word (storing ps store) 0
-    count-is = let k = fit_most ps h in word_is _ (length ps) from_front (omega arith)
+    count_is : length ps ≡ word (storing ps store) 0
+    count_is = let k = fit_most ps h in word_is _ (length ps) from_front (omega arith)
 
     room : 4 + 16 * length ps + 0 + text_bytes ps ≤ length (storing ps store)
-    room = let e = length_store ps in rw (storing-is, length-append) (omega arith)
+    room = let e = length_store ps in rw (storing_is, length-append) (omega arith)
 
-    pub storing-back : kept_pairs (storing ps store) ≡ ps
+    pub storing_back : kept_pairs (storing ps store) ≡ ps
     unfolding kept_pairs
-    storing-back =
+    storing_back =
         let first : ℕ = 4 + 16 * length ps in
-        rw (← count-is) (kept_back (storing ps store) first (pair_texts ps ++ behind) behind ps 4 0 small from-words from-texts)
+        rw (← count_is) (kept_back (storing ps store) first (pair_texts ps ++ behind) behind ps 4 0 small from_words from_texts)
 
-    pub storing-laid : is_laid (storing ps store) ≡ true
+    pub storing_laid : is_laid (storing ps store) ≡ true
     unfolding is_laid choose
-    storing-laid =
-        rw (← count-is, le-leb (length ps) most_listed (fit_most ps h))
-        (laid-back (storing ps store) (pair_texts ps ++ behind) ps 4 0 small from-words room)
+    storing_laid =
+        rw (← count_is, le-leb (length ps) most_listed (fit_most ps h))
+        (laid_back (storing ps store) (pair_texts ps ++ behind) ps 4 0 small from_words room)
 
     given : environment_of (storing ps store) ≡ with_separator ps
     unfolding environment_of
-    given = ap with_separator storing-back
+    given = ap with_separator storing_back
 
-    pub start-leaves : Stored ps store
-    start-leaves =
-        record { back = storing-back; laid = storing-laid; long = storing-length h; past = storing-past; given = given }
+    pub start_leaves : Stored ps store
+    start_leaves =
+        record { back = storing_back; laid = storing_laid; long = storing_length h; past = storing_past; given = given }

@@ -32,22 +32,22 @@ left_within {store} {first} {left} {at} {text} w = omega (arith, laid_within sto
 
 -- before the first pair
 module _ (store : List ℕ) (n : ℕ) (e : n ≡ word store 0) where
-  pub left-all : is_laid store ≡ true → Left store (4 + 16 * word store 0) n 4 (4 + 16 * n)
-  left-all h =
+  pub left_all : is_laid store ≡ true → Left store (4 + 16 * word store 0) n 4 (4 + 16 * n)
+  left_all h =
       let z : 4 + 16 * n - (4 + 16 * word store 0) ≡ 0 = omega arith in
       record { laid = rw (z, e) (laid_pairs store h); words = omega arith; texts = omega arith }
 
-  pub all-kept : kept_pairs store ≡ kept_from store (4 + 16 * word store 0) n 4
+  pub all_kept : kept_pairs store ≡ kept_from store (4 + 16 * word store 0) n 4
   unfolding kept_pairs
-  all-kept = rw e
+  all_kept = rw e
 
 pub laid_long : (store : List ℕ) → is_laid store ≡ true → 4 + 16 * word store 0 ≤ length store
-laid_long store h = left_within (left-all store (word store 0) refl h)
+laid_long store h = left_within (left_all store (word store 0) refl h)
 
 -- a pair of the walk: its name begins at `text`, its value behind the name, and the next pair's texts behind the value
 module _ (store : List ℕ) (first n at text : ℕ) (w : Left store first (suc n) at text) where
-  one-next : Left store first n (at + 16) (text + word store (at + 4) + word store (at + 12))
-  one-next =
+  one_next : Left store first n (at + 16) (text + word store (at + 4) + word store (at + 12))
+  one_next =
       let k = laid_one store n at _ w.laid in
       let t = w.texts in
       let g : text - first + word store (at + 4) + word store (at + 12) ≡ text + word store (at + 4) + word store (at + 12) - first = omega arith in
@@ -72,20 +72,20 @@ module _ {store : List ℕ} {first left at text : ℕ} (value end : ℕ) (w : Le
   before : Left store first (suc (left - 1)) at text
   before = rw less w
 
-  pub left-next : Left store first (left - 1) (at + 16) end
-  left-next =
+  pub left_next : Left store first (left - 1) (at + 16) end
+  left_next =
       let g : text + word store (at + 4) + word store (at + 12) ≡ end = omega arith in
-      rw g at (one-next store first (left - 1) at text before)
+      rw g at (one_next store first (left - 1) at text before)
 
-  pub left-ends : end ≤ length store
-  left-ends = left_within left-next
+  pub left_ends : end ≤ length store
+  left_ends = left_within left_next
 
-  pub left-value : value ≤ length store
-  left-value = omega (arith, left-ends)
+  pub left_value : value ≤ length store
+  left_value = omega (arith, left_ends)
 
-  pub left-kept : kept_from store first left at
+  pub left_kept : kept_from store first left at
       ≡ pair (take (value - text) (drop text store)) (take (end - value) (drop value store)) ∷ kept_from store first (left - 1) (at + 16)
-  left-kept =
+  left_kept =
       let a : word store (at + 4) ≡ value - text = omega arith in
       let b : word store (at + 12) ≡ end - value = omega arith in
       let o = one_kept store first (left - 1) at text before in
@@ -102,9 +102,9 @@ module _ (name value : List ℕ) (ps qs : List Pair) (e : qs ≡ pair name value
   unfolding is_named choose
   named_here h = rw (e, h)
 
-  pub named-later : same_bytes name separator_name ≡ false → is_named separator_name qs ≡ is_named separator_name ps
+  pub named_later : same_bytes name separator_name ≡ false → is_named separator_name qs ≡ is_named separator_name ps
   unfolding is_named choose
-  named-later h = rw (e, h)
+  named_later h = rw (e, h)
 
 pub named_none : (qs : List Pair) → qs ≡ [] → is_named separator_name qs ≡ false
 unfolding is_named
@@ -113,20 +113,20 @@ named_none qs e = rw e
 -- ---- what is given
 module _ (store : List ℕ) where
   module _ (h : is_named separator_name (kept_pairs store) ≡ true) where
-    pub as-kept : environment_of store ≡ kept_pairs store
+    pub as_kept : environment_of store ≡ kept_pairs store
     unfolding environment_of with_separator choose
-    as-kept = rw h
+    as_kept = rw h
 
     pub count_kept : word store 0 ≡ length (environment_of store)
-    count_kept = sym (rw as-kept (length_kept_pairs store))
+    count_kept = sym (rw as_kept (length_kept_pairs store))
 
   module _ (h : is_named separator_name (kept_pairs store) ≡ false) where
-    pub and-separator : environment_of store ≡ kept_pairs store ++ (pair separator_name separator ∷ [])
+    pub and_separator : environment_of store ≡ kept_pairs store ++ (pair separator_name separator ∷ [])
     unfolding environment_of with_separator choose
-    and-separator = rw h
+    and_separator = rw h
 
-    pub count-more : word store 0 + 1 ≡ length (environment_of store)
-    count-more = sym (rw (and-separator, length-append, length_kept_pairs store))
+    pub count_more : word store 0 + 1 ≡ length (environment_of store)
+    count_more = sym (rw (and_separator, length-append, length_kept_pairs store))
 
 -- ---- written
 pub pair_bytes_join : (ps qs : List Pair) → pair_bytes (ps ++ qs) ≡ pair_bytes ps ++ pair_bytes qs
@@ -174,9 +174,9 @@ given_all g e = rw (g.whole, e, append-nil) g.wrote
 
 -- the kept pairs, and behind them the separator's where no name is that
 module _ (store : List ℕ) {at next : ℕ} {l m : List ℕ} (p : Put at (pair_bytes (kept_pairs store)) l next m) where
-  pub put-kept : is_named separator_name (kept_pairs store) ≡ true → Put at (pair_bytes (environment_of store)) l next m
-  put-kept h = rw (as-kept store h) p
+  pub put_kept : is_named separator_name (kept_pairs store) ≡ true → Put at (pair_bytes (environment_of store)) l next m
+  put_kept h = rw (as_kept store h) p
 
-  pub put-separator : {last : ℕ} {m' : List ℕ} → is_named separator_name (kept_pairs store) ≡ false
+  pub put_separator : {last : ℕ} {m' : List ℕ} → is_named separator_name (kept_pairs store) ≡ false
       → Put next (pair_bytes (pair separator_name separator ∷ [])) m last m' → Put at (pair_bytes (environment_of store)) l last m'
-  put-separator h q = rw (and-separator store h, pair_bytes_join) (then p q)
+  put_separator h q = rw (and_separator store h, pair_bytes_join) (then p q)

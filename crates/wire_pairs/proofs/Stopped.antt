@@ -46,30 +46,30 @@ given_none ps h = unnamed_added ps (named_not separator_name ps h)
 
 -- ---- a count of 0
 module _ (store : List ℕ) where
-  pub emptied-past : drop 4 (emptied store) ≡ drop 4 store
+  pub emptied_past : drop 4 (emptied store) ≡ drop 4 store
   unfolding emptied overlay be32
-  emptied-past = refl
+  emptied_past = refl
 
   module _ (h : 4 ≤ length store) where
-    pub emptied-length : length (emptied store) ≡ length store
+    pub emptied_length : length (emptied store) ≡ length store
     unfolding emptied
-    emptied-length = length_overlay 0 (be32 0) store (rw length_be32 h)
+    emptied_length = length_overlay 0 (be32 0) store (rw length_be32 h)
 
     count_none : word (emptied store) 0 ≡ 0
     unfolding emptied
     count_none = word_overlay 0 0 store (omega arith) (omega arith)
 
-    pub emptied-kept : kept_pairs (emptied store) ≡ []
+    pub emptied_kept : kept_pairs (emptied store) ≡ []
     unfolding kept_pairs kept_from
-    emptied-kept = rw count_none
+    emptied_kept = rw count_none
 
-    pub emptied-laid : is_laid (emptied store) ≡ true
+    pub emptied_laid : is_laid (emptied store) ≡ true
     unfolding is_laid laid_from choose
-    emptied-laid = rw (count_none, emptied-length) (le-leb 4 (length store) h)
+    emptied_laid = rw (count_none, emptied_length) (le-leb 4 (length store) h)
 
-    pub emptied-given : environment_of (emptied store) ≡ pair separator_name separator ∷ []
+    pub emptied_given : environment_of (emptied store) ≡ pair separator_name separator ∷ []
     unfolding environment_of is_named
-    emptied-given = rw emptied-kept (unnamed_added [] refl)
+    emptied_given = rw emptied_kept (unnamed_added [] refl)
 
-    pub stop-leaves : Emptied store
-    stop-leaves = record { laid = emptied-laid; none = emptied-kept; long = emptied-length; past = emptied-past; given = emptied-given }
+    pub stop_leaves : Emptied store
+    stop_leaves = record { laid = emptied_laid; none = emptied_kept; long = emptied_length; past = emptied_past; given = emptied_given }

@@ -25,23 +25,23 @@ both false b e = let z : ◌≡◌ {A = ℕ} 0 1 = cc in absurd (omega arith)
 -- ---- judged
 module _ (s : List ℕ) where
   -- a store that is too short for its words
-  laid-cut : (n at sum : ℕ) → length s < at + 16 * n → laid_from s n at sum ≡ false
+  laid_cut : (n at sum : ℕ) → length s < at + 16 * n → laid_from s n at sum ≡ false
   unfolding laid_from
-  laid-cut zero at sum h = lt-leb (at + sum) (length s) (omega arith)
-  laid-cut (suc n) at sum h =
+  laid_cut zero at sum h = lt-leb (at + sum) (length s) (omega arith)
+  laid_cut (suc n) at sum h =
       if_so (eqb (word s at) sum)
-      (λ _. if_so (eqb (word s (at + 8)) (sum + word s (at + 4))) (λ _. laid-cut n (at + 16) (sum + word s (at + 4) + word s (at + 12)) (omega arith)))
+      (λ _. if_so (eqb (word s (at + 8)) (sum + word s (at + 4))) (λ _. laid_cut n (at + 16) (sum + word s (at + 4) + word s (at + 12)) (omega arith)))
 
   -- a name that begins elsewhere, and a value
-  pub laid-name : (n at sum : ℕ) → 0 < n → (word s at ≡ sum → ⊥) → laid_from s n at sum ≡ false
+  pub laid_name : (n at sum : ℕ) → 0 < n → (word s at ≡ sum → ⊥) → laid_from s n at sum ≡ false
   unfolding laid_from choose
-  laid-name zero at sum h p = absurd (omega arith)
-  laid-name (suc n) at sum h p = rw (ne_eqb (word s at) sum p)
+  laid_name zero at sum h p = absurd (omega arith)
+  laid_name (suc n) at sum h p = rw (ne_eqb (word s at) sum p)
 
-  pub laid-value : (n at sum : ℕ) → 0 < n → word s at ≡ sum → (word s (at + 8) ≡ sum + word s (at + 4) → ⊥) → laid_from s n at sum ≡ false
+  pub laid_value : (n at sum : ℕ) → 0 < n → word s at ≡ sum → (word s (at + 8) ≡ sum + word s (at + 4) → ⊥) → laid_from s n at sum ≡ false
   unfolding laid_from choose
-  laid-value zero at sum h p q = absurd (omega arith)
-  laid-value (suc n) at sum h p q = rw (eq-eqb (word s at) sum p, ne_eqb (word s (at + 8)) (sum + word s (at + 4)) q)
+  laid_value zero at sum h p q = absurd (omega arith)
+  laid_value (suc n) at sum h p q = rw (eq-eqb (word s at) sum p, ne_eqb (word s (at + 8)) (sum + word s (at + 4)) q)
 
   pub laid_next : (n at sum a b : ℕ) → 0 < n → word s at ≡ sum → word s (at + 8) ≡ sum + word s (at + 4) → a ≡ word s (at + 4) → b ≡ word s (at + 12)
       → laid_from s n at sum ≡ laid_from s (n - 1) (at + 16) (sum + (a + b))
@@ -57,28 +57,28 @@ module _ (s : List ℕ) where
   laid_end n at sum h = let e : n ≡ 0 = omega arith in rw e
 
   -- the count
-  pub laid-many : most_listed < word s 0 → is_laid s ≡ false
+  pub laid_many : most_listed < word s 0 → is_laid s ≡ false
   unfolding is_laid choose
-  laid-many h = rw (lt-leb (word s 0) most_listed h)
+  laid_many h = rw (lt-leb (word s 0) most_listed h)
 
-  pub laid-few : (n : ℕ) → n ≡ word s 0 → n ≤ most_listed → is_laid s ≡ laid_from s n 4 0
+  pub laid_few : (n : ℕ) → n ≡ word s 0 → n ≤ most_listed → is_laid s ≡ laid_from s n 4 0
   unfolding is_laid choose
-  laid-few n e h = rw (← e, le-leb n most_listed h)
+  laid_few n e h = rw (← e, le-leb n most_listed h)
 
-  pub laid-short : length s < 4 + 16 * word s 0 → is_laid s ≡ false
+  pub laid_short : length s < 4 + 16 * word s 0 → is_laid s ≡ false
   unfolding is_laid
-  laid-short h = if_so (leb (word s 0) most_listed) (λ _. laid-cut (word s 0) 4 0 h)
+  laid_short h = if_so (leb (word s 0) most_listed) (λ _. laid_cut (word s 0) 4 0 h)
 
 -- ---- the pairs of a body
 -- the text that a reader found at an offset
 module _ (b : List ℕ) (at : ℕ) where
-  pub text-read : (s n x : ℕ) → At s n x ≡ opaque_at b at → (take n (drop s b) ≡ text_at b at) × (x ≡ next_at b at)
+  pub text_read : (s n x : ℕ) → At s n x ≡ opaque_at b at → (take n (drop s b) ≡ text_at b at) × (x ≡ next_at b at)
   unfolding text_in behind
-  text-read s n x e = (rw (← e), rw (← e))
+  text_read s n x e = (rw (← e), rw (← e))
 
-  pub text-missing : Bad ≡ opaque_at b at → ([] ≡ text_at b at) × (at ≡ next_at b at)
+  pub text_missing : Bad ≡ opaque_at b at → ([] ≡ text_at b at) × (at ≡ next_at b at)
   unfolding text_in behind
-  text-missing e = (rw (← e), rw (← e))
+  text_missing e = (rw (← e), rw (← e))
 
 -- the first pair, and those behind it
 pub pairs_next : (b : List ℕ) (n at : ℕ) → 0 < n
@@ -98,23 +98,23 @@ length_pairs b (suc n) at = ap suc (length_pairs b n (next_at b (next_at b at)))
 
 -- what one pair takes, and those behind it
 module _ (n v : List ℕ) (ps : List Pair) where
-  pub size-cons : text_bytes (pair n v ∷ ps) ≡ length n + length v + text_bytes ps
+  pub size_cons : text_bytes (pair n v ∷ ps) ≡ length n + length v + text_bytes ps
   unfolding text_bytes
-  size-cons = refl
+  size_cons = refl
 
-  pub words-cons : (from : ℕ) → pair_words from (pair n v ∷ ps) ≡ from ∷ length n ∷ (from + length n) ∷ length v ∷ pair_words (from + length n + length v) ps
+  pub words_cons : (from : ℕ) → pair_words from (pair n v ∷ ps) ≡ from ∷ length n ∷ (from + length n) ∷ length v ∷ pair_words (from + length n + length v) ps
   unfolding pair_words
-  words-cons from = refl
+  words_cons from = refl
 
-  pub texts-cons : pair_texts (pair n v ∷ ps) ≡ n ++ (v ++ pair_texts ps)
+  pub texts_cons : pair_texts (pair n v ∷ ps) ≡ n ++ (v ++ pair_texts ps)
   unfolding pair_texts
-  texts-cons = refl
+  texts_cons = refl
 
 -- ---- which pairs fit
 module _ (b : List ℕ) (n at : ℕ) where
-  pub fits-many : most_listed < n → fits (pairs_from b n at) ≡ false
+  pub fits_many : most_listed < n → fits (pairs_from b n at) ≡ false
   unfolding fits choose
-  fits-many h = rw (length_pairs b n at, lt-leb n most_listed h)
+  fits_many h = rw (length_pairs b n at, lt-leb n most_listed h)
 
   pub fits_not : store_length < 4 + 16 * n + text_bytes (pairs_from b n at) → fits (pairs_from b n at) ≡ false
   unfolding fits
@@ -125,9 +125,9 @@ module _ (b : List ℕ) (n at : ℕ) where
   fits_all h k = rw (length_pairs b n at, le-leb n most_listed h, le-leb (4 + 16 * n + text_bytes (pairs_from b n at)) store_length k)
 
   -- and what follows where they do
-  pub fits-room : fits (pairs_from b n at) ≡ true → (n ≤ most_listed) × (4 + 16 * n + text_bytes (pairs_from b n at) ≤ store_length)
+  pub fits_room : fits (pairs_from b n at) ≡ true → (n ≤ most_listed) × (4 + 16 * n + text_bytes (pairs_from b n at) ≤ store_length)
   unfolding fits
-  fits-room e =
+  fits_room e =
       let p = both (leb (length (pairs_from b n at)) most_listed) (leb (4 + 16 * length (pairs_from b n at) + text_bytes (pairs_from b n at)) store_length) e in
       let k = length_pairs b n at in
       let h : length (pairs_from b n at) ≤ most_listed = leb-true _ _ p.0 in
@@ -144,13 +144,13 @@ pub fits_end : (b : List ℕ) (n at room k x : ℕ) → n ≤ most_listed → ro
 fits_end b n at room k x h e z = let s = size_none b k x z in fits_all b n at h (omega arith)
 
 module _ (b : List ℕ) (n at : ℕ) (h : n ≤ 0) (to : ℕ) (out : List ℕ) where
-  pub words-none : (from : ℕ) → overlay to (be32s (pair_words from (pairs_from b n at))) out ≡ out
+  pub words_none : (from : ℕ) → overlay to (be32s (pair_words from (pairs_from b n at))) out ≡ out
   unfolding pair_words be32s
-  words-none from = rw (pairs_none b n at h) (sym (overlay_none to out))
+  words_none from = rw (pairs_none b n at h) (sym (overlay_none to out))
 
-  pub texts-none : overlay to (pair_texts (pairs_from b n at)) out ≡ out
+  pub texts_none : overlay to (pair_texts (pairs_from b n at)) out ≡ out
   unfolding pair_texts
-  texts-none = rw (pairs_none b n at h) (sym (overlay_none to out))
+  texts_none = rw (pairs_none b n at h) (sym (overlay_none to out))
 
 -- ---- written
 -- the count, the words and the texts, written one after another, are a store

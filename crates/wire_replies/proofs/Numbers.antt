@@ -40,19 +40,19 @@ module _ (s t m c e : ℕ) (body : List ℕ) where
   abbrev header : List ℕ
   header = header_words (length body) s t 1 m c e
 
-  pub body-sent : body_in (record_bytes s t 1 m c e body) ≡ body
+  pub body_sent : body_in (record_bytes s t 1 m c e body) ≡ body
   unfolding record_bytes
-  body-sent = drop_at (be32s header) body 28 (length_be32s header)
+  body_sent = drop_at (be32s header) body 28 (length_be32s header)
 
-  error-sent : e < 2 ^ 32 → word (record_bytes s t 1 m c e body) 24 ≡ e
+  error_sent : e < 2 ^ 32 → word (record_bytes s t 1 m c e body) 24 ≡ e
   unfolding record_bytes
-  error-sent h = word_at header body 6 (omega arith) h
+  error_sent h = word_at header body 6 (omega arith) h
 
-  word-sent : (k : ℕ) → word (record_bytes s t 1 m c e body) (28 + k) ≡ word body k
-  word-sent k =
+  word_sent : (k : ℕ) → word (record_bytes s t 1 m c e body) (28 + k) ≡ word body k
+  word_sent k =
       let l : List ℕ = record_bytes s t 1 m c e body in
       word_drop l (28 + k) ∙ ap (λ (x : List ℕ). word x 0) (sym (drop-drop k 28 l))
-      ∙ sym (word_drop (drop 28 l) k) ∙ ap (λ (x : List ℕ). word x k) body-sent
+      ∙ sym (word_drop (drop 28 l) k) ∙ ap (λ (x : List ℕ). word x k) body_sent
 
 -- ---- where the number stands in a body's words
 pub record Numbered (r : Reply) (image : List ℕ) : Type 0 where
@@ -94,30 +94,30 @@ module _ (s t m c : ℕ) (image : List ℕ) where
   abbrev sent : Reply → List ℕ
   sent r = reply_bytes s t m c r image
 
-  told-body : (r : Reply) → number_of r < 2 ^ 32 → header_error r ≡ 0 → Numbered r image → number_in (place_of r) (sent r) ≡ number_of r
+  told_body : (r : Reply) → number_of r < 2 ^ 32 → header_error r ≡ 0 → Numbered r image → number_in (place_of r) (sent r) ≡ number_of r
   unfolding number_in reply_bytes body_bytes choose
-  told-body r h z n =
+  told_body r h z n =
       let body : List ℕ = body_bytes (shape_of r image) in
-      let low : word (record_bytes s t 1 m c (header_error r) body) 24 ≡ 0 = error-sent s t m c (header_error r) body (omega arith) ∙ z in
+      let low : word (record_bytes s t 1 m c (header_error r) body) 24 ≡ 0 = error_sent s t m c (header_error r) body (omega arith) ∙ z in
       let ws : List ℕ = (shape_of r image).words in
       let small : get_or ws (place_of r) 0 < 2 ^ 32 = (let e = n.is in omega arith) in
-      rw (eq-eqb _ _ low) (word-sent s t m c (header_error r) body (4 * place_of r) ∙ word_at ws _ (place_of r) n.there small ∙ n.is)
+      rw (eq-eqb _ _ low) (word_sent s t m c (header_error r) body (4 * place_of r) ∙ word_at ws _ (place_of r) n.there small ∙ n.is)
 
-  told-header : (e : ℕ) → e < 2 ^ 32 → number_in 0 (sent (Header e)) ≡ e
+  told_header : (e : ℕ) → e < 2 ^ 32 → number_in 0 (sent (Header e)) ≡ e
   unfolding number_in reply_bytes shape_of header_error body_bytes be32s opaques word
-  told-header e h =
-      let head : word (record_bytes s t 1 m c e []) 24 ≡ e = error-sent s t m c e [] h in
+  told_header e h =
+      let head : word (record_bytes s t 1 m c e []) 24 ≡ e = error_sent s t m c e [] h in
       by_test (λ (k : ℕ). k ≡ e) (eqb (word (record_bytes s t 1 m c e []) 24) 0) _ _
-      (λ z. word-sent s t m c e [] 0 ∙ sym (sym head ∙ eqb-true _ _ z)) (λ _. head)
+      (λ z. word_sent s t m c e [] 0 ∙ sym (sym head ∙ eqb-true _ _ z)) (λ _. head)
 
   told : (r : Reply) → number_of r < 2 ^ 32 → number_in (place_of r) (sent r) ≡ number_of r
   unfolding place_of number_of
-  told r h = in_body r image (told-body r h) (λ e z. rw (← z) (told-header e (rw (← z) at h)))
+  told r h = in_body r image (told_body r h) (λ e z. rw (← z) (told_header e (rw (← z) at h)))
 
   -- ---- what a body has beside its number
   headed : (e : ℕ) → body_in (sent (Header e)) ≡ []
   unfolding reply_bytes shape_of body_bytes be32s opaques
-  headed e = body-sent s t m c _ []
+  headed e = body_sent s t m c _ []
 
   zeros : (n : ℕ) → be32s (replicate n 0) ≡ replicate (4 * n) 0
   zeros n = sym (be32s_zeros n)
@@ -125,20 +125,20 @@ module _ (s t m c : ℕ) (image : List ℕ) where
   refused : (b e a : ℕ) → body_in (sent (Refused b e a)) ≡ bare b e a
   unfolding reply_bytes shape_of body_bytes opaques be32s
   refused b e a =
-      body-sent s t m c _ _ ∙ append-nil (be32s (replicate b 0 ++ (e ∷ replicate a 0))) ∙ be32s_append (replicate b 0) (e ∷ replicate a 0)
+      body_sent s t m c _ _ ∙ append-nil (be32s (replicate b 0 ++ (e ∷ replicate a 0))) ∙ be32s_append (replicate b 0) (e ∷ replicate a 0)
       ∙ rw (zeros b, zeros a)
 
   wrote : (e : ℕ) → body_in (sent (Wrote e 0)) ≡ bare 0 e 1
   unfolding reply_bytes shape_of body_bytes opaques be32s be32
-  wrote e = body-sent s t m c _ _
+  wrote e = body_sent s t m c _ _
 
   read : (e start : ℕ) → body_in (sent (Read e start 0)) ≡ bare 0 e 1
   unfolding reply_bytes shape_of body_bytes opaques opaque be32s be32
-  read e start = body-sent s t m c _ _
+  read e start = body_sent s t m c _ _
 
   spaced : (e residue : ℕ) → body_in (sent (Mtio e residue)) ≡ be32 e ++ be32 residue
   unfolding reply_bytes shape_of body_bytes opaques be32s be32
-  spaced e residue = body-sent s t m c _ _
+  spaced e residue = body_sent s t m c _ _
 
 pub numbers_told : NumbersTold
 unfolding place_of row_of look choose

@@ -14,7 +14,7 @@ use Rattle.xdr.proofs.Laws.{length_be32}
 use Rattle.xdr.proofs.Tests.{pick_if, pick_else}
 use Rattle.xdr_opaque.specs.Opaque.{filled}
 use Rattle.xdr_opaque.specs.Put.{opaque}
-use Rattle.xdr_opaque.proofs.Fields.{From, all_of, from_length, past, word_is, opaque-bytes}
+use Rattle.xdr_opaque.proofs.Fields.{From, all_of, from_length, past, word_is, opaque_bytes}
 use Rattle.wire_pairs.specs.Pairs.{Pair, pairs_from}
 use Rattle.wire_frame.specs.declared.ConnectKind.TheVariants as ConnectKind
 use Rattle.wire_frame.specs.declared.ConfigKind.TheVariants as ConfigKind
@@ -133,26 +133,26 @@ unfolding sent_bytes flat_map
 recover_pairs env list butype f = listed_back env _ (all_of (flat_map arg_bytes (args_of (start_recover env list butype)))) f.0.1
 
 module _ (butype : List ℕ) (env : List Pair) (f : SentFits (start_backup butype env)) where
-  from-method : From (sent_bytes (start_backup butype env)) 0 (opaque butype ++ (arg_bytes (pvals env) ++ []))
+  from_method : From (sent_bytes (start_backup butype env)) 0 (opaque butype ++ (arg_bytes (pvals env) ++ []))
   unfolding sent_bytes flat_map
-  from-method = all_of (sent_bytes (start_backup butype env))
+  from_method = all_of (sent_bytes (start_backup butype env))
 
-  backup-pairs : pairs_from (sent_bytes (start_backup butype env)) (length env) (4 + filled (length butype) + 4) ≡ env
-  backup-pairs = listed_back env [] (behind_text_lem butype _ from-method) f.1.0.1
+  backup_pairs : pairs_from (sent_bytes (start_backup butype env)) (length env) (4 + filled (length butype) + 4) ≡ env
+  backup_pairs = listed_back env [] (behind_text_lem butype _ from_method) f.1.0.1
 
-  backup-back : Means (start_backup butype env) (sent_bytes (start_backup butype env)) (decoded (Message.Data DataKind.Backup) (sent_bytes (start_backup butype env)))
+  backup_back : Means (start_backup butype env) (sent_bytes (start_backup butype env)) (decoded (Message.Data DataKind.Backup) (sent_bytes (start_backup butype env)))
   unfolding put sent_bytes
-  backup-back =
+  backup_back =
       let s = start_backup butype env in
       let e = args_written (args_of s) in
       let b = write_as (map value_for (args_of s)) in
       let p = place 4 (length butype) in
-      let from : From b 0 (opaque butype ++ (arg_bytes (pvals env) ++ [])) = rw e from-method in
-      let pairs-there : pairs_from b (length env) (4 + filled (length butype) + 4) ≡ env = rw e backup-pairs in
+      let from : From b 0 (opaque butype ++ (arg_bytes (pvals env) ++ [])) = rw e from_method in
+      let pairs-there : pairs_from b (length env) (4 + filled (length butype) + 4) ≡ env = rw e backup_pairs in
       rw (← e)
       (read_first (Message.Data DataKind.Backup) tt (value_for (octets butype)) (value_for (pvals env) ∷ []) (args_fit (args_of s) f) (value (bytes p) [])
       (λ ws r. first_text butype _ (pairs ∷ []) ws from f.0 r) (Means s b)
-      (at_place p (opaque-bytes _ butype from f.0) (at_pairs (pairs_at (behind_text p) (length env)) pairs-there refl)))
+      (at_place p (opaque_bytes _ butype from f.0) (at_pairs (pairs_at (behind_text p) (length env)) pairs-there refl)))
 
 sent_back : {m : Message} (s : Sent m) → SentFits s → Means s (sent_bytes s) (decoded m (sent_bytes s))
 unfolding put choose
@@ -174,7 +174,7 @@ sent_back (tape_mtio op count) f = by_args (tape_mtio op count) tt refl f refl
 sent_back (tape_write dataOut) f = by_args (tape_write dataOut) tt refl f (λ t e. at_place t e refl)
 sent_back (tape_read count) f = by_args (tape_read count) tt refl f refl
 sent_back data_state f = by_args data_state tt refl f refl
-sent_back (start_backup butype env) f = backup-back butype env f
+sent_back (start_backup butype env) f = backup_back butype env f
 sent_back (start_recover env list butype) f =
     by_args (start_recover env list butype) tt refl f (λ t e. at_place t e (at_pairs (pairs_at 0 (length env)) (recover_pairs env list butype f) refl))
 sent_back data_get_env f = by_args data_get_env tt refl f refl

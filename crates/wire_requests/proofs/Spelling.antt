@@ -22,7 +22,7 @@ use Rattle.wire_layouts.specs.Layout.{Read, whole, before, broken, read_fields}
 use Rattle.wire_layouts.specs.Laws.{Bytes, Stops}
 use Rattle.wire_layouts.specs.Scans.{scanned}
 use Rattle.wire_layouts.specs.AddressLists.{is_tcp}
-use Rattle.wire_layouts.proofs.AddressTypes.{type-judged}
+use Rattle.wire_layouts.proofs.AddressTypes.{type_judged}
 use Rattle.wire_layouts.proofs.Spelling.{spelled}
 use Rattle.wire_layouts.proofs.Unread.{unread_rests}
 use Rattle.wire_layouts.proofs.Within.{broken_kept}
@@ -34,21 +34,21 @@ use Rattle.wire_requests.proofs.Laws.{by_layout}
 -- a body that stops at the tag of its address: TCP's tag is of a word that is TCP's, and is passed; of LOCAL's the word is neither
 module _ (b : List ℕ) (at : ℕ) where
   by_type : (t : Bool) → is_tcp b at ≡ t → eqb (xdr.word b at) tcp_address ≡ t
-  by_type t e = sym (type-judged b at) ∙ e
+  by_type t e = sym (type_judged b at) ∙ e
 
-  never-tcp : is_tcp b at ≡ true → (xdr.word b at ≡ tcp_address → ⊥) → NoType (xdr.word b at)
-  never-tcp e h = absurd (h (eqb-true _ _ (by_type true e)))
+  never_tcp : is_tcp b at ≡ true → (xdr.word b at ≡ tcp_address → ⊥) → NoType (xdr.word b at)
+  never_tcp e h = absurd (h (eqb-true _ _ (by_type true e)))
 
   neither : is_tcp b at ≡ false → (xdr.word b at ≡ local_address → ⊥) → NoType (xdr.word b at)
   neither e h = (h, eqb-false _ _ (by_type false e))
 
-  listen-apart : (t : Bool) → is_tcp b at ≡ t → Stops (listen_fields t) b at → NoType (xdr.word b at)
-  listen-apart true e s = ⊎_elim (never-tcp e) absurd s
-  listen-apart false e s = ⊎_elim (neither e) absurd s
+  listen_apart : (t : Bool) → is_tcp b at ≡ t → Stops (listen_fields t) b at → NoType (xdr.word b at)
+  listen_apart true e s = ⊎_elim (never_tcp e) absurd s
+  listen_apart false e s = ⊎_elim (neither e) absurd s
 
-  connect-apart : (t : Bool) → is_tcp b at ≡ t → Stops (connect_fields t) b at → NoType (xdr.word b at)
-  connect-apart true e s = ⊎_elim (never-tcp e) absurd s
-  connect-apart false e s = ⊎_elim (neither e) absurd s
+  connect_apart : (t : Bool) → is_tcp b at ≡ t → Stops (connect_fields t) b at → NoType (xdr.word b at)
+  connect_apart true e s = ⊎_elim (never_tcp e) absurd s
+  connect_apart false e s = ⊎_elim (neither e) absurd s
 
 -- the messages that have a rest which may be unread
 apart : (m : Message) (b : List ℕ) → Stops (layout_of m b) b 0 → Apart m b
@@ -74,19 +74,19 @@ apart (Message.Data DataKind.Backup) b s = absurd s
 apart (Message.Data DataKind.Recover) b s = absurd s
 apart (Message.Data DataKind.Environment) b s = absurd s
 apart (Message.Data DataKind.Stop) b s = absurd s
-apart (Message.Data DataKind.Listen) b s = listen-apart b 0 (is_tcp b 0) refl s
+apart (Message.Data DataKind.Listen) b s = listen_apart b 0 (is_tcp b 0) refl s
 apart (Message.Mover MoverKind.State) b s = absurd s
-apart (Message.Mover MoverKind.Listen) b s = listen-apart b 4 (is_tcp b 4) refl s
+apart (Message.Mover MoverKind.Listen) b s = listen_apart b 4 (is_tcp b 4) refl s
 apart (Message.Mover MoverKind.Continue) b s = absurd s
 apart (Message.Mover MoverKind.Stop) b s = absurd s
 apart (Message.Mover MoverKind.Window) b s = absurd s
 apart (Message.Mover MoverKind.Read) b s = absurd s
 apart (Message.Mover MoverKind.Size) b s = absurd s
 apart (Message.Joint JointKind.DataAbort) b s = absurd s
-apart (Message.Joint JointKind.DataConnect) b s = connect-apart b 0 (is_tcp b 0) refl s
+apart (Message.Joint JointKind.DataConnect) b s = connect_apart b 0 (is_tcp b 0) refl s
 apart (Message.Joint JointKind.MoverAbort) b s = absurd s
 apart (Message.Joint JointKind.MoverClose) b s = absurd s
-apart (Message.Joint JointKind.MoverConnect) b s = connect-apart b 4 (is_tcp b 4) refl s
+apart (Message.Joint JointKind.MoverConnect) b s = connect_apart b 4 (is_tcp b 4) refl s
 apart Message.Unknown b s = absurd s
 
 spelling : (m : Message) (b : List ℕ) → Known m → Bytes b → (decoded m b ≡ Bad → ⊥) → (r : Read) → read_fields (layout_of m b) b 0 ≡ r → Spelling m b

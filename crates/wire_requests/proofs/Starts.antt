@@ -10,7 +10,7 @@ use Rattle.xdr.proofs.Laws.{length_be32}
 use Rattle.xdr_opaque.specs.Opaque.{filled}
 use Rattle.xdr_opaque.specs.Put.{opaque, Each}
 use Rattle.xdr_opaque.proofs.Laws.{length_opaque_filled}
-use Rattle.xdr_opaque.proofs.Fields.{From, past, grouped, opaque-found}
+use Rattle.xdr_opaque.proofs.Fields.{From, past, grouped, opaque_found}
 use Rattle.wire_pairs.specs.Pairs.{Pair, pairs_from, pair_bytes}
 use Rattle.wire_pairs.proofs.Sent.{pairs_sent}
 use Rattle.wire_layouts.specs.Layout.{text, Field, one, bytes, Value, value, place, piece_of, part_at, single, field_at, Read, whole, before, broken, and_value, and_read, read_fields}
@@ -50,5 +50,5 @@ pub first_text : {b : List ℕ} (s q : List ℕ) (fs : List Field) (ws : List (V
     → read_fields (one text ∷ fs) b 0 ≡ whole ws → After (value (bytes (place 4 (length s))) []) ws
 unfolding read_fields field_at and_read single part_at piece_of
 first_text {b} s q fs ws f h e =
-    let d : read_fields (one text ∷ fs) b 0 ≡ and_value (value (bytes (place 4 (length s))) []) (read_fields fs b (0 + length (opaque s))) = rw (← opaque-found q s f h) in
+    let d : read_fields (one text ∷ fs) b 0 ≡ and_value (value (bytes (place 4 (length s))) []) (read_fields fs b (0 + length (opaque s))) = rw (← opaque_found q s f h) in
     and_whole _ _ ws (sym d ∙ e)

@@ -57,16 +57,16 @@ use Rattle.wire_rmt.proofs.Numbers as Numbers
 use Rattle.wire_rmt.proofs.Lines.{
   line_feed_lem,
   line_more,
-  open-whole,
-  close-whole,
+  open_whole,
+  close_whole,
   read_whole,
-  write-whole,
-  operate-whole,
+  write_whole,
+  operate_whole,
   is_open,
-  is-close,
+  is_close,
   is_read,
-  is-write,
-  is-operate,
+  is_write,
+  is_operate,
 }
 
 -- ---- lines
@@ -96,13 +96,13 @@ back (open_path name mode) f =
     let s = size_of 79 name (mode ++ (10 ∷ [])) in
     let t = length-append mode (10 ∷ []) in
     let p : 1 + length name - 1 ≡ length name = omega arith in
-    let w = open-whole l (1 + length name) e (value_of mode) (1 + length name + 1 + length mode + 1) (omega arith) (sym m) (omega arith) in
+    let w = open_whole l (1 + length name) e (value_of mode) (1 + length name + 1 + length mode + 1) (omega arith) (sym m) (omega arith) in
     sym (is_open l 79 refl _ refl w) ∙ ap (λ (n : ℕ). Command.Open (place 1 n) (value_of mode)) p
 back (close_path name) f =
     let l : List ℕ = 67 ∷ (name ++ (10 ∷ [])) in
     let e : 1 + length name ≡ line_end l = ap (λ (n : ℕ). 1 + n) (sym (line_back name [] f)) in
     let s = size_of 67 name [] in
-    sym (is-close l 67 refl _ refl (close-whole l (1 + length name) e (omega arith) (omega arith)))
+    sym (is_close l 67 refl _ refl (close_whole l (1 + length name) e (omega arith) (omega arith)))
 back (read_count count) f =
     let l : List ℕ = 82 ∷ (count ++ (10 ∷ [])) in
     let m = Numbers.back l 1 count [] refl f in
@@ -112,15 +112,15 @@ back (write_data count bytes) f =
     let l : List ℕ = 87 ∷ (count ++ (10 ∷ bytes)) in
     let m = Numbers.back l 1 count bytes refl f.0 in
     let s = size_of 87 count bytes in
-    sym (is-write l 87 refl _ refl (write-whole l (value_of count) (1 + length count + 1) (sym m) (omega (arith, f.1))))
+    sym (is_write l 87 refl _ refl (write_whole l (value_of count) (1 + length count + 1) (sym m) (omega (arith, f.1))))
 back (operate_count op count) f =
     let l : List ℕ = 73 ∷ (op ++ (10 ∷ (count ++ (10 ∷ [])))) in
     let m = Numbers.back l 1 op (count ++ (10 ∷ [])) refl f.0 in
     let k = Numbers.back l (1 + length op + 1) count [] (behind 73 op (count ++ (10 ∷ []))) f.1 in
     let s = size_of 73 op (count ++ (10 ∷ [])) in
     let t = length-append count (10 ∷ []) in
-    sym (is-operate l 73 refl _ refl
-    (operate-whole l (value_of op) (1 + length op + 1) (sym m) (value_of count) (1 + length op + 1 + length count + 1) f.2 (sym k) (omega arith)))
+    sym (is_operate l 73 refl _ refl
+    (operate_whole l (value_of op) (1 + length op + 1) (sym m) (value_of count) (1 + length op + 1 + length count + 1) f.2 (sym k) (omega arith)))
 
 path : (name mode : List ℕ) → take (length name) (drop 1 (command_bytes (open_path name mode))) ≡ name
 unfolding command_bytes
@@ -228,9 +228,9 @@ module _ (x : ℕ) (r : List ℕ) where
   abbrev l : List ℕ
   l = x ∷ r
 
-  open-spelled : x ≡ 79 → (open_in l ≡ Command.Bad → ⊥) → Spelled l
+  open_spelled : x ≡ 79 → (open_in l ≡ Command.Bad → ⊥) → Spelled l
   unfolding open_in Fits command_bytes
-  open-spelled e f =
+  open_spelled e f =
       let h = held (ltb (line_end l) (length l)) _ f in
       let k : 1 + line_length r < suc (length r) = ltb-true _ _ h.0 in
       let n = line_of r (omega arith) in
@@ -246,9 +246,9 @@ module _ (x : ℕ) (r : List ℕ) where
         bytes = ap (λ (y : ℕ). y ∷ r) e ∙ ap (λ (y : List ℕ). 79 ∷ y) n.is ∙ ap (λ (y : List ℕ). 79 ∷ (n.name ++ (10 ∷ y))) b;
       }
 
-  close-spelled : x ≡ 67 → (close_in l ≡ Command.Bad → ⊥) → Spelled l
+  close_spelled : x ≡ 67 → (close_in l ≡ Command.Bad → ⊥) → Spelled l
   unfolding close_in Fits command_bytes
-  close-spelled e f =
+  close_spelled e f =
       let h = held (ltb (line_end l) (length l)) _ f in
       let k : 1 + line_length r < suc (length r) = ltb-true _ _ h.0 in
       let n = line_of r (omega arith) in
@@ -261,9 +261,9 @@ module _ (x : ℕ) (r : List ℕ) where
         bytes = ap (λ (y : ℕ). y ∷ r) e ∙ ap (λ (y : List ℕ). 67 ∷ y) n.is ∙ ap (λ (y : List ℕ). 67 ∷ (n.name ++ (10 ∷ y))) b;
       }
 
-  read-spelled : x ≡ 82 → (read_in l ≡ Command.Bad → ⊥) → Spelled l
+  read_spelled : x ≡ 82 → (read_in l ≡ Command.Bad → ⊥) → Spelled l
   unfolding read_in Fits command_bytes
-  read-spelled e f =
+  read_spelled e f =
       let m = reading_ends (length l) (number_at l 1) f in
       let t = Numbers.says l 1 m.v (length l) m.is in
       record {
@@ -272,9 +272,9 @@ module _ (x : ℕ) (r : List ℕ) where
         bytes = ap (λ (y : ℕ). y ∷ r) e ∙ ap (λ (y : List ℕ). 82 ∷ y) (ended l 1 m.v t);
       }
 
-  write-spelled : x ≡ 87 → (write_in l ≡ Command.Bad → ⊥) → Spelled l
+  write_spelled : x ≡ 87 → (write_in l ≡ Command.Bad → ⊥) → Spelled l
   unfolding write_in Fits command_bytes
-  write-spelled e f =
+  write_spelled e f =
       let m = writing_counts (length l) (number_at l 1) f in
       let t = Numbers.says l 1 m.v m.x m.is in
       record {
@@ -283,9 +283,9 @@ module _ (x : ℕ) (r : List ℕ) where
         bytes = ap (λ (y : ℕ). y ∷ r) e ∙ ap (λ (y : List ℕ). 87 ∷ y) t.there;
       }
 
-  operate-spelled : x ≡ 73 → (operate_in l ≡ Command.Bad → ⊥) → Spelled l
+  operate_spelled : x ≡ 73 → (operate_in l ≡ Command.Bad → ⊥) → Spelled l
   unfolding operate_in Fits command_bytes
-  operate-spelled e f =
+  operate_spelled e f =
       let m = operation_says l (number_at l 1) f in
       let t = Numbers.says l 1 m.v m.x m.is in
       let u = Numbers.says l m.x m.count.v (length l) m.count.is in
@@ -309,11 +309,11 @@ letter x n a b A f g h =
 by_letter : (x : ℕ) (r : List ℕ) → (rmt_command (x ∷ r) ≡ Command.Bad → ⊥) → Spelled (x ∷ r)
 unfolding rmt_command
 by_letter x r f =
-    letter x open_letter _ _ (Spelled (x ∷ r)) f (open-spelled x r)
-    (λ g. letter x close_letter _ _ (Spelled (x ∷ r)) g (close-spelled x r)
-    (λ h. letter x read_letter _ _ (Spelled (x ∷ r)) h (read-spelled x r)
-    (λ i. letter x write_letter _ _ (Spelled (x ∷ r)) i (write-spelled x r)
-    (λ j. letter x operate_letter _ _ (Spelled (x ∷ r)) j (operate-spelled x r)
+    letter x open_letter _ _ (Spelled (x ∷ r)) f (open_spelled x r)
+    (λ g. letter x close_letter _ _ (Spelled (x ∷ r)) g (close_spelled x r)
+    (λ h. letter x read_letter _ _ (Spelled (x ∷ r)) h (read_spelled x r)
+    (λ i. letter x write_letter _ _ (Spelled (x ∷ r)) i (write_spelled x r)
+    (λ j. letter x operate_letter _ _ (Spelled (x ∷ r)) j (operate_spelled x r)
     (λ k. absurd (k refl))))))
 
 spelled : (l : List ℕ) → (rmt_command l ≡ Command.Bad → ⊥) → Spelled l

@@ -99,29 +99,29 @@ module _ (l : List ℕ) (i n v : ℕ) where
   unfolding digits_on
   on_none h = let k : n ≡ 0 = omega arith in rw k
 
-  pub on-stop : 0 < n → is_digit (get_or l i 0) ≡ false → digits_on n v l i ≡ ending v l i
+  pub on_stop : 0 < n → is_digit (get_or l i 0) ≡ false → digits_on n v l i ≡ ending v l i
   unfolding digits_on choose
-  on-stop h e = let k : n ≡ suc (n - 1) = omega arith in rw (k, e)
+  on_stop h e = let k : n ≡ suc (n - 1) = omega arith in rw (k, e)
 
-  pub on-big : (w : ℕ) → 0 < n → is_digit (get_or l i 0) ≡ true → w ≡ v * 10 + (get_or l i 0 - 48) → most_number < w
+  pub on_big : (w : ℕ) → 0 < n → is_digit (get_or l i 0) ≡ true → w ≡ v * 10 + (get_or l i 0 - 48) → most_number < w
       → digits_on n v l i ≡ Bad
   unfolding digits_on choose
-  on-big w h e f g = let k : n ≡ suc (n - 1) = omega arith in rw (k, e, ← f, ltb_yes g)
+  on_big w h e f g = let k : n ≡ suc (n - 1) = omega arith in rw (k, e, ← f, ltb_yes g)
 
-  pub on-more : (w : ℕ) → 0 < n → is_digit (get_or l i 0) ≡ true → w ≡ v * 10 + (get_or l i 0 - 48) → w ≤ most_number
+  pub on_more : (w : ℕ) → 0 < n → is_digit (get_or l i 0) ≡ true → w ≡ v * 10 + (get_or l i 0 - 48) → w ≤ most_number
       → digits_on n v l i ≡ digits_on (n - 1) w l (i + 1)
   unfolding digits_on choose
-  on-more w h e f g =
+  on_more w h e f g =
       let k : n ≡ suc (n - 1) = omega arith in
       ap (λ (x : ℕ). digits_on x v l i) k ∙ rw (e, ← f, ltb_no g)
 
   -- a line feed ends them, however many more there may be
-  pub on-feed : get_or l i 0 ≡ line_feed → digits_on n v l i ≡ Value v (i + 1)
-  on-feed e =
+  pub on_feed : get_or l i 0 ≡ line_feed → digits_on n v l i ≡ Value v (i + 1)
+  on_feed e =
       let s : is_digit (get_or l i 0) ≡ false = ap is_digit e ∙ feed_no_digit in
       by_cases (leb n 0)
       (λ (p : leb n 0 ≡ true). on_none (leb-true _ _ p) ∙ sym (ending_yes v i l e))
-      (λ (p : leb n 0 ≡ false). on-stop (leb-false _ _ p) s ∙ sym (ending_yes v i l e))
+      (λ (p : leb n 0 ≡ false). on_stop (leb-false _ _ p) s ∙ sym (ending_yes v i l e))
 
 pub number_none : (l : List ℕ) (at : ℕ) → is_digit (get_or l at 0) ≡ false → Bad ≡ number_at l at
 unfolding number_at choose

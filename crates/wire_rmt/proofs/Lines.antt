@@ -48,9 +48,9 @@ line_more x l e = rw (eqb_no e)
 module _ (l : List ℕ) where
   -- ---- open
   module _ (n : ℕ) (e : n ≡ line_end l) where
-    pub open-short : length l ≤ n → Command.Bad ≡ open_in l
+    pub open_short : length l ≤ n → Command.Bad ≡ open_in l
     unfolding open_in choose
-    open-short h = rw (← e, ltb_no h)
+    open_short h = rw (← e, ltb_no h)
 
     pub open_none : n < length l → Number.Bad ≡ number_at l (n + 1) → Command.Bad ≡ open_in l
     unfolding open_in opened choose
@@ -60,22 +60,22 @@ module _ (l : List ℕ) where
     unfolding open_in opened choose
     open_more v x h m k = rw (← e, ltb_yes h, ← m, eqb_no k)
 
-    pub open-whole : (v x : ℕ) → n < length l → Number.Value v x ≡ number_at l (n + 1) → x ≡ length l → Command.Open (place 1 (n - 1)) v ≡ open_in l
+    pub open_whole : (v x : ℕ) → n < length l → Number.Value v x ≡ number_at l (n + 1) → x ≡ length l → Command.Open (place 1 (n - 1)) v ≡ open_in l
     unfolding open_in opened choose
-    open-whole v x h m k = let f : n - 1 ≡ line_length (drop 1 l) = omega arith in rw (← e, ltb_yes h, ← m, eqb_yes k, f)
+    open_whole v x h m k = let f : n - 1 ≡ line_length (drop 1 l) = omega arith in rw (← e, ltb_yes h, ← m, eqb_yes k, f)
 
     -- ---- close
-    pub close-short : length l ≤ n → Command.Bad ≡ close_in l
+    pub close_short : length l ≤ n → Command.Bad ≡ close_in l
     unfolding close_in choose
-    close-short h = rw (← e, ltb_no h)
+    close_short h = rw (← e, ltb_no h)
 
     pub close_more : n < length l → (n + 1 ≡ length l → ⊥) → Command.Bad ≡ close_in l
     unfolding close_in choose
     close_more h k = rw (← e, ltb_yes h, eqb_no k)
 
-    pub close-whole : n < length l → n + 1 ≡ length l → Command.Close ≡ close_in l
+    pub close_whole : n < length l → n + 1 ≡ length l → Command.Close ≡ close_in l
     unfolding close_in choose
-    close-whole h k = rw (← e, ltb_yes h, eqb_yes k)
+    close_whole h k = rw (← e, ltb_yes h, eqb_yes k)
 
   -- ---- read, write and operate, where there is no number
   module _ (m : Number.Bad ≡ number_at l 1) where
@@ -87,9 +87,9 @@ module _ (l : List ℕ) where
     unfolding write_in writing
     write_none = rw (← m)
 
-    pub operate-none : Command.Bad ≡ operate_in l
+    pub operate_none : Command.Bad ≡ operate_in l
     unfolding operate_in operation
-    operate-none = rw (← m)
+    operate_none = rw (← m)
 
   -- and where there is one
   module _ (v x : ℕ) (m : Number.Value v x ≡ number_at l 1) where
@@ -101,17 +101,17 @@ module _ (l : List ℕ) where
     unfolding read_in reading choose
     read_whole k = rw (← m, eqb_yes k)
 
-    pub write-other : (length l - x ≡ v → ⊥) → Command.Bad ≡ write_in l
+    pub write_other : (length l - x ≡ v → ⊥) → Command.Bad ≡ write_in l
     unfolding write_in writing choose
-    write-other k = rw (← m, eqb_no k)
+    write_other k = rw (← m, eqb_no k)
 
-    pub write-whole : length l - x ≡ v → Command.Write (place x v) ≡ write_in l
+    pub write_whole : length l - x ≡ v → Command.Write (place x v) ≡ write_in l
     unfolding write_in writing choose
-    write-whole k = rw (← m, eqb_yes k)
+    write_whole k = rw (← m, eqb_yes k)
 
-    pub operate-other : last_operation < v → Command.Bad ≡ operate_in l
+    pub operate_other : last_operation < v → Command.Bad ≡ operate_in l
     unfolding operate_in operation choose
-    operate-other h = rw (← m, leb_no h)
+    operate_other h = rw (← m, leb_no h)
 
     pub operate_bare : v ≤ last_operation → Number.Bad ≡ number_at l x → Command.Bad ≡ operate_in l
     unfolding operate_in operation operating choose
@@ -121,9 +121,9 @@ module _ (l : List ℕ) where
     unfolding operate_in operation operating choose
     operate_more w y h k n = rw (← m, leb_yes h, ← k, eqb_no n)
 
-    pub operate-whole : (w y : ℕ) → v ≤ last_operation → Number.Value w y ≡ number_at l x → y ≡ length l → Command.Operate v w ≡ operate_in l
+    pub operate_whole : (w y : ℕ) → v ≤ last_operation → Number.Value w y ≡ number_at l x → y ≡ length l → Command.Operate v w ≡ operate_in l
     unfolding operate_in operation operating choose
-    operate-whole w y h k n = rw (← m, leb_yes h, ← k, eqb_yes n)
+    operate_whole w y h k n = rw (← m, leb_yes h, ← k, eqb_yes n)
 
   -- ---- by the letter
   module _ (x : ℕ) (e : x ≡ get_or l 0 0) (r : Command) where
@@ -131,21 +131,21 @@ module _ (l : List ℕ) where
     unfolding rmt_command choose
     is_open h k = rw (← e, eqb_yes h) k
 
-    pub is-close : x ≡ close_letter → r ≡ close_in l → r ≡ rmt_command l
+    pub is_close : x ≡ close_letter → r ≡ close_in l → r ≡ rmt_command l
     unfolding rmt_command choose
-    is-close h k = rw (← e, h) k
+    is_close h k = rw (← e, h) k
 
     pub is_read : x ≡ read_letter → r ≡ read_in l → r ≡ rmt_command l
     unfolding rmt_command choose
     is_read h k = rw (← e, h) k
 
-    pub is-write : x ≡ write_letter → r ≡ write_in l → r ≡ rmt_command l
+    pub is_write : x ≡ write_letter → r ≡ write_in l → r ≡ rmt_command l
     unfolding rmt_command choose
-    is-write h k = rw (← e, h) k
+    is_write h k = rw (← e, h) k
 
-    pub is-operate : x ≡ operate_letter → r ≡ operate_in l → r ≡ rmt_command l
+    pub is_operate : x ≡ operate_letter → r ≡ operate_in l → r ≡ rmt_command l
     unfolding rmt_command choose
-    is-operate h k = rw (← e, h) k
+    is_operate h k = rw (← e, h) k
 
     pub is_none : (x ≡ open_letter → ⊥) → (x ≡ close_letter → ⊥) → (x ≡ read_letter → ⊥) → (x ≡ write_letter → ⊥) → (x ≡ operate_letter → ⊥)
         → r ≡ Command.Bad → r ≡ rmt_command l

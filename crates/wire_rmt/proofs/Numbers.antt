@@ -42,10 +42,10 @@ use Rattle.wire_rmt.proofs.Laws.{
   onward,
   chosen,
   ending_says,
-  on-stop,
-  on-big,
-  on-more,
-  on-feed,
+  on_stop,
+  on_big,
+  on_more,
+  on_feed,
   number_some,
 }
 
@@ -58,7 +58,7 @@ grows v (d ∷ ds) = omega (arith, grows (v * 10 + (d - 48)) ds)
 digits_back : (ds : List ℕ) (n v i : ℕ) (l q : List ℕ) → drop i l ≡ ds ++ (line_feed ∷ q) → Each Digit ds → length ds ≤ n → value_from v ds ≤ most_number
     → digits_on n v l i ≡ Value (value_from v ds) (i + length ds + 1)
 unfolding value_from
-digits_back [] n v i l q e d h m = rw add-zero (on-feed l i n v (first_of l i line_feed q e).0)
+digits_back [] n v i l q e d h m = rw add-zero (on_feed l i n v (first_of l i line_feed q e).0)
 digits_back (x ∷ ds) n v i l q e d h m =
     let f = first_of l i x (ds ++ (line_feed ∷ q)) e in
     let w : ℕ = v * 10 + (x - 48) in
@@ -67,7 +67,7 @@ digits_back (x ∷ ds) n v i l q e d h m =
     let k : length ds ≤ n - 1 = omega arith in
     let j : w ≤ most_number = omega (arith, grows w ds) in
     let a : i + 1 + length ds + 1 ≡ i + suc (length ds) + 1 = omega arith in
-    on-more l i n v w (omega arith) t s j ∙ digits_back ds (n - 1) w (i + 1) l q f.1 d.1 k m ∙ ap (λ (y : ℕ). Value (value_from w ds) y) a
+    on_more l i n v w (omega arith) t s j ∙ digits_back ds (n - 1) w (i + 1) l q f.1 d.1 k m ∙ ap (λ (y : ℕ). Value (value_from w ds) y) a
 
 starts : (l : List ℕ) (at : ℕ) (ds q : List ℕ) → drop at l ≡ ds ++ (line_feed ∷ q) → 1 ≤ length ds → Each Digit ds → is_digit (get_or l at 0) ≡ true
 starts l at [] q e h d = absurd (omega arith)
@@ -125,14 +125,14 @@ digits_say (suc n) v i l w k e h =
     let x : ℕ = v * 10 + (get_or l i 0 - 48) in
     by_cases (ltb most_number x)
     (λ (b : ltb most_number x ≡ true).
-    let f = sym (on-big l i (suc n) v x (omega arith) t refl (ltb-true _ _ b)) ∙ e in
+    let f = sym (on_big l i (suc n) v x (omega arith) t refl (ltb-true _ _ b)) ∙ e in
     let z : ◌≡◌ {A = ℕ} 0 1 = cc in absurd (omega arith))
     (λ (b : ltb most_number x ≡ false).
     let j : x ≤ most_number = ltb-false _ _ b in
     let m : suc n - 1 ≡ n = omega arith in
-    let f = ap (λ (y : ℕ). digits_on y x l (i + 1)) (sym m) ∙ sym (on-more l i (suc n) v x (omega arith) t refl j) ∙ e in
+    let f = ap (λ (y : ℕ). digits_on y x l (i + 1)) (sym m) ∙ sym (on_more l i (suc n) v x (omega arith) t refl j) ∙ e in
     one_more n v i l w k t (digits_say n x (i + 1) l w k f j)))
-    (λ (t : is_digit (get_or l i 0) ≡ false). ended (suc n) v i l w k (sym (on-stop l i (suc n) v (omega arith) t) ∙ e) h)
+    (λ (t : is_digit (get_or l i 0) ≡ false). ended (suc n) v i l w k (sym (on_stop l i (suc n) v (omega arith) t) ∙ e) h)
 
 number_parts : (l : List ℕ) (at v next : ℕ) → number_at l at ≡ Value v next → (is_digit (get_or l at 0) ≡ true) × (digits_on most_digits 0 l at ≡ Value v next)
 unfolding number_at

@@ -24,8 +24,8 @@ wide_is v b x e = ap (λ (y : ℕ). v * 10 + (y - 48)) e
 
 -- ---- a loop that has passed the bytes before an offset
 module _ (l : List ℕ) (at n : ℕ) (e : n ≡ at + line_length (drop at l)) where
-  pub at-feed : at < length l → get_or l at 0 ≡ line_feed → at ≡ n
-  at-feed h k =
+  pub at_feed : at < length l → get_or l at 0 ≡ line_feed → at ≡ n
+  at_feed h k =
       let z = ap line_length (onward l at h) ∙ line_feed_lem (get_or l at 0) (drop (at + 1) l) k in
       omega arith
 

@@ -32,11 +32,11 @@ count_none v = refl
 
 -- a loop that has counted so many, the first of what is left among them
 module _ (n count left : ℕ) (e : n + 1 ≡ count + count_on (10 - count) left) where
-  pub count-here : left < 10 → count ≡ n
-  count-here h = let z = count_small (10 - count) left h in omega arith
+  pub count_here : left < 10 → count ≡ n
+  count_here h = let z = count_small (10 - count) left h in omega arith
 
-  pub count-on : 10 ≤ left → count < 10 → n + 1 ≡ count + 1 + count_on (10 - (count + 1)) (left / 10)
-  count-on h k =
+  pub count_on_lem : 10 ≤ left → count < 10 → n + 1 ≡ count + 1 + count_on (10 - (count + 1)) (left / 10)
+  count_on_lem h k =
       let f : 10 - count ≡ suc (10 - (count + 1)) = omega arith in
       let z = ap (λ (y : ℕ). count_on y left) f ∙ count_suc (10 - (count + 1)) left h in
       omega arith
@@ -55,20 +55,20 @@ pub record Going (v at i left : ℕ) (l m : List ℕ) : Type 0 where
   pub wrote : m ≡ overlay (at + i) done l
 
 module _ {v at : ℕ} {l : List ℕ} where
-  pub going-first : (n : ℕ) → n ≡ digit_count v → Going v at n v l l
+  pub going_first : (n : ℕ) → n ≡ digit_count v → Going v at n v l l
   unfolding decimal
-  going-first n e = record { done = []; whole = ap (λ (k : ℕ). last_digits k v []) (sym e); wrote = overlay_none (at + n) l }
+  going_first n e = record { done = []; whole = ap (λ (k : ℕ). last_digits k v []) (sym e); wrote = overlay_none (at + n) l }
 
   module _ {i left : ℕ} {m : List ℕ} (g : Going v at i left l m) where
-    digit-next : 0 < i → decimal v ≡ last_digits (i - 1) (left / 10) ((48 + left % 10) ∷ g.done)
+    digit_next : 0 < i → decimal v ≡ last_digits (i - 1) (left / 10) ((48 + left % 10) ∷ g.done)
     unfolding last_digits
-    digit-next h = let e : i ≡ suc (i - 1) = omega arith in g.whole ∙ ap (λ (k : ℕ). last_digits k left g.done) e
+    digit_next h = let e : i ≡ suc (i - 1) = omega arith in g.whole ∙ ap (λ (k : ℕ). last_digits k left g.done) e
 
     pub going_on : 0 < i → at + i ≤ length l → length m ≡ length l → Going v at (i - 1) (left / 10) l (set m (at + (i - 1)) (48 + left % 10))
     going_on h k n =
         record {
           done = (48 + left % 10) ∷ g.done;
-          whole = digit-next h;
+          whole = digit_next h;
           wrote =
               store_one (at + (i - 1)) (48 + left % 10) m (omega arith)
               ∙ ap (λ (x : List ℕ). overlay (at + (i - 1)) ((48 + left % 10) ∷ []) x) g.wrote
@@ -141,14 +141,14 @@ unfolding refused headed error_text decimal last_digits count_on choose
 bytes_5 p = p
 
 module _ (code e : ℕ) (is : e ≡ error_of code) {at next : ℕ} {l m : List ℕ} where
-  of-error : (k : ℕ) → e ≡ k → Put at (refused k) l next m → Put at (refused (error_of code)) l next m
-  of-error k h p = let f : error_of code ≡ k = sym is ∙ h in rw f p
+  of_error : (k : ℕ) → e ≡ k → Put at (refused k) l next m → Put at (refused (error_of code)) l next m
+  of_error k h p = let f : error_of code ≡ k = sym is ∙ h in rw f p
 
   pub refused_22 : e ≡ invalid → Put at text22 l next m → Put at (refused (error_of code)) l next m
-  refused_22 h p = of-error 22 h (bytes_22 p)
+  refused_22 h p = of_error 22 h (bytes_22 p)
 
   pub refused_6 : e ≡ no_such_device → Put at text6 l next m → Put at (refused (error_of code)) l next m
-  refused_6 h p = of-error 6 h (bytes_6 p)
+  refused_6 h p = of_error 6 h (bytes_6 p)
 
   pub refused_5 : (e ≡ invalid → ⊥) → (e ≡ no_such_device → ⊥) → Put at text5 l next m → Put at (refused (error_of code)) l next m
-  refused_5 h k p = of-error 5 (last_error code e is h k) (bytes_5 p)
+  refused_5 h k p = of_error 5 (last_error code e is h k) (bytes_5 p)

@@ -19,7 +19,7 @@ use Rattle.xdr_opaque.specs.declared.Opaque.{Opaque}
 use Rattle.xdr_opaque.specs.declared.Opaque.TheVariants as Opaque
 use Rattle.wire_layouts.specs.declared.After.{After}
 use Rattle.wire_layouts.specs.declared.After.TheVariants as After
-use Rattle.xdr_opaque.proofs.Laws.{word-within, word-missing}
+use Rattle.xdr_opaque.proofs.Laws.{word_within, word_missing}
 use Rattle.wire_layouts.specs.Layout.{Part, word, hyper, text, port, digest, one, tag, never, Item, four, eight, bytes, fixed, Value, value, place, Piece, piece, short, piece_of}
 use Rattle.wire_layouts.specs.Layout.{part_at, Got, got, cut, prepend, and_part, and_got, parts_at, times_at, FieldGot, field_got, stop, bad, single, counted, list_at, items_of, element_at, field_at, Read, whole}
 use Rattle.wire_layouts.specs.Layout.{before, broken, and_value, and_read, read_fields}
@@ -62,9 +62,9 @@ module _ (l : List ℕ) (b : List ℕ) (i at : ℕ) where
   unfolding parts_at
   parts_more x h e = rw (add-one, drop-cons l i 0 h) (forget_part (part_at (part_of (get_or l i 0)) b at) (parts_at (map part_of (drop (suc i) l)) b) x e)
 
-  pub parts-short : i < length l → After.Short ≡ past (part_at (part_of (get_or l i 0)) b at) → After.Short ≡ forget (parts_at (map part_of (drop i l)) b at)
+  pub parts_short : i < length l → After.Short ≡ past (part_at (part_of (get_or l i 0)) b at) → After.Short ≡ forget (parts_at (map part_of (drop i l)) b at)
   unfolding parts_at
-  parts-short h e = rw (drop-cons l i 0 h) (forget_short (part_at (part_of (get_or l i 0)) b at) (parts_at (map part_of (drop (suc i) l)) b) e)
+  parts_short h e = rw (drop-cons l i 0 h) (forget_short (part_at (part_of (get_or l i 0)) b at) (parts_at (map part_of (drop (suc i) l)) b) e)
 
   pub parts_none : length l ≤ i → After.Next at ≡ forget (parts_at (map part_of (drop i l)) b at)
   unfolding parts_at forget
@@ -77,10 +77,10 @@ module _ (element : ℕ → Got) (at : ℕ) where
   times_more zero x h e = absurd (not-suc-le-zero h)
   times_more (suc n) x h e = let k : suc n - 1 ≡ n = omega arith in rw k (forget_got (element at) (times_at element n) x e)
 
-  pub times-short : (n : ℕ) → 0 < n → After.Short ≡ forget (element at) → After.Short ≡ forget (times_at element n at)
+  pub times_short : (n : ℕ) → 0 < n → After.Short ≡ forget (element at) → After.Short ≡ forget (times_at element n at)
   unfolding times_at
-  times-short zero h e = absurd (not-suc-le-zero h)
-  times-short (suc n) h e = forget_cut (element at) (times_at element n) e
+  times_short zero h e = absurd (not-suc-le-zero h)
+  times_short (suc n) h e = forget_cut (element at) (times_at element n) e
 
   pub times_none : (n : ℕ) → n ≤ 0 → After.Next at ≡ forget (times_at element n at)
   unfolding times_at forget
@@ -99,68 +99,68 @@ seen_cut n cut e = refl
 
 module _ (b : List ℕ) (at : ℕ) where
   -- ---- one field
-  pub sees-word : (v : ℕ) → Word.Value v ≡ o.word_at b at → Seen.Word v (at + 4) ≡ field_seen (field_at (one word) b at)
+  pub sees_word : (v : ℕ) → Word.Value v ≡ o.word_at b at → Seen.Word v (at + 4) ≡ field_seen (field_at (one word) b at)
   unfolding field_seen field_at single part_at choose
-  sees-word v e = let w = word-within b at v e in rw (le-leb (at + 4) (length b) w.0, w.1)
+  sees_word v e = let w = word_within b at v e in rw (le-leb (at + 4) (length b) w.0, w.1)
 
-  pub misses-word : Word.Short ≡ o.word_at b at → Seen.Bad ≡ field_seen (field_at (one word) b at)
+  pub misses_word : Word.Short ≡ o.word_at b at → Seen.Bad ≡ field_seen (field_at (one word) b at)
   unfolding field_seen field_at single part_at choose
-  misses-word e = rw (lt-leb (at + 4) (length b) (word-missing b at e))
+  misses_word e = rw (lt-leb (at + 4) (length b) (word_missing b at e))
 
-  pub sees-hyper : (v : ℕ) → v ≡ xdr.hyper b at → at + 8 ≤ length b → Seen.Hyper v (at + 8) ≡ field_seen (field_at (one hyper) b at)
+  pub sees_hyper : (v : ℕ) → v ≡ xdr.hyper b at → at + 8 ≤ length b → Seen.Hyper v (at + 8) ≡ field_seen (field_at (one hyper) b at)
   unfolding field_seen field_at single part_at choose
-  sees-hyper v e h = rw (le-leb (at + 8) (length b) h, e)
+  sees_hyper v e h = rw (le-leb (at + 8) (length b) h, e)
 
-  pub misses-hyper : length b < at + 8 → Seen.Bad ≡ field_seen (field_at (one hyper) b at)
+  pub misses_hyper : length b < at + 8 → Seen.Bad ≡ field_seen (field_at (one hyper) b at)
   unfolding field_seen field_at single part_at choose
-  misses-hyper h = rw (lt-leb (at + 8) (length b) h)
+  misses_hyper h = rw (lt-leb (at + 8) (length b) h)
 
-  pub sees-text : (s n x : ℕ) → Opaque.At s n x ≡ o.opaque_at b at → Seen.Place s n x ≡ field_seen (field_at (one text) b at)
+  pub sees_text : (s n x : ℕ) → Opaque.At s n x ≡ o.opaque_at b at → Seen.Place s n x ≡ field_seen (field_at (one text) b at)
   unfolding field_seen field_at single part_at piece_of
-  sees-text s n x e = rw (← e)
+  sees_text s n x e = rw (← e)
 
-  pub misses-text : Opaque.Bad ≡ o.opaque_at b at → Seen.Bad ≡ field_seen (field_at (one text) b at)
+  pub misses_text : Opaque.Bad ≡ o.opaque_at b at → Seen.Bad ≡ field_seen (field_at (one text) b at)
   unfolding field_seen field_at single part_at piece_of
-  misses-text e = rw (← e)
+  misses_text e = rw (← e)
 
-  pub sees-digest : at + digest_length ≤ length b → Seen.Place at digest_length (at + digest_length) ≡ field_seen (field_at (one digest) b at)
+  pub sees_digest : at + digest_length ≤ length b → Seen.Place at digest_length (at + digest_length) ≡ field_seen (field_at (one digest) b at)
   unfolding field_seen field_at single part_at choose
-  sees-digest h = rw (le-leb (at + digest_length) (length b) h)
+  sees_digest h = rw (le-leb (at + digest_length) (length b) h)
 
-  pub misses-digest : length b < at + digest_length → Seen.Bad ≡ field_seen (field_at (one digest) b at)
+  pub misses_digest : length b < at + digest_length → Seen.Bad ≡ field_seen (field_at (one digest) b at)
   unfolding field_seen field_at single part_at choose
-  misses-digest h = rw (lt-leb (at + digest_length) (length b) h)
+  misses_digest h = rw (lt-leb (at + digest_length) (length b) h)
 
-  pub sees-tag : (k v : ℕ) → Word.Value v ≡ o.word_at b at → v ≡ k → Seen.Word v (at + 4) ≡ field_seen (field_at (tag k) b at)
+  pub sees_tag : (k v : ℕ) → Word.Value v ≡ o.word_at b at → v ≡ k → Seen.Word v (at + 4) ≡ field_seen (field_at (tag k) b at)
   unfolding field_seen field_at choose
-  sees-tag k v e h = let w = word-within b at v e in rw (le-leb (at + 4) (length b) w.0, ← w.1, eq-eqb v k h)
+  sees_tag k v e h = let w = word_within b at v e in rw (le-leb (at + 4) (length b) w.0, ← w.1, eq-eqb v k h)
 
   pub stops : (k v : ℕ) → Word.Value v ≡ o.word_at b at → (v ≡ k → ⊥) → Seen.Stop v ≡ field_seen (field_at (tag k) b at)
   unfolding field_seen field_at choose
-  stops k v e h = let w = word-within b at v e in rw (le-leb (at + 4) (length b) w.0, ← w.1, ne_eqb v k h)
+  stops k v e h = let w = word_within b at v e in rw (le-leb (at + 4) (length b) w.0, ← w.1, ne_eqb v k h)
 
-  pub misses-tag : (k : ℕ) → Word.Short ≡ o.word_at b at → Seen.Bad ≡ field_seen (field_at (tag k) b at)
+  pub misses_tag : (k : ℕ) → Word.Short ≡ o.word_at b at → Seen.Bad ≡ field_seen (field_at (tag k) b at)
   unfolding field_seen field_at choose
-  misses-tag k e = rw (lt-leb (at + 4) (length b) (word-missing b at e))
+  misses_tag k e = rw (lt-leb (at + 4) (length b) (word_missing b at e))
 
   -- ---- a counted list
   module _ (most : ℕ) (element : ℕ → Got) where
-    pub misses-count : Word.Short ≡ o.word_at b at → Seen.Bad ≡ field_seen (list_at most element b at)
+    pub misses_count : Word.Short ≡ o.word_at b at → Seen.Bad ≡ field_seen (list_at most element b at)
     unfolding field_seen choose
-    misses-count e = rw (lt-leb (at + 4) (length b) (word-missing b at e))
+    misses_count e = rw (lt-leb (at + 4) (length b) (word_missing b at e))
 
     pub too_many : (n : ℕ) → Word.Value n ≡ o.word_at b at → most < n → Seen.Bad ≡ field_seen (list_at most element b at)
     unfolding field_seen choose
-    too_many n e h = let w = word-within b at n e in rw (le-leb (at + 4) (length b) w.0, ← w.1, lt-leb n most h)
+    too_many n e h = let w = word_within b at n e in rw (le-leb (at + 4) (length b) w.0, ← w.1, lt-leb n most h)
 
-    pub misses-list : (n : ℕ) → Word.Value n ≡ o.word_at b at → n ≤ most
+    pub misses_list : (n : ℕ) → Word.Value n ≡ o.word_at b at → n ≤ most
         → After.Short ≡ forget (times_at element n (at + 4)) → Seen.Bad ≡ field_seen (list_at most element b at)
     unfolding choose
-    misses-list n e h k = let w = word-within b at n e in rw (le-leb (at + 4) (length b) w.0, ← w.1, le-leb n most h) (seen_cut n (times_at element n (at + 4)) k)
+    misses_list n e h k = let w = word_within b at n e in rw (le-leb (at + 4) (length b) w.0, ← w.1, le-leb n most h) (seen_cut n (times_at element n (at + 4)) k)
 
-    pub sees-list : (n x : ℕ) → Word.Value n ≡ o.word_at b at → n ≤ most → After.Next x ≡ forget (times_at element n (at + 4)) → Seen.Word n x ≡ field_seen (list_at most element b at)
+    pub sees_list : (n x : ℕ) → Word.Value n ≡ o.word_at b at → n ≤ most → After.Next x ≡ forget (times_at element n (at + 4)) → Seen.Word n x ≡ field_seen (list_at most element b at)
     unfolding choose
-    sees-list n x e h k = let w = word-within b at n e in rw (le-leb (at + 4) (length b) w.0, ← w.1, le-leb n most h) (seen_counted n (times_at element n (at + 4)) x k)
+    sees_list n x e h k = let w = word_within b at n e in rw (le-leb (at + 4) (length b) w.0, ← w.1, le-leb n most h) (seen_counted n (times_at element n (at + 4)) x k)
 
 after_single : (r : Piece) → after_seen (field_seen (single r)) ≡ past r
 unfolding after_seen field_seen single past
@@ -172,47 +172,47 @@ after_single short = refl
 
 -- a part that is passed over
 module _ (b : List ℕ) (at : ℕ) where
-  pub passes-word : (v : ℕ) → Word.Value v ≡ o.word_at b at → After.Next (at + 4) ≡ past (part_at word b at)
+  pub passes_word : (v : ℕ) → Word.Value v ≡ o.word_at b at → After.Next (at + 4) ≡ past (part_at word b at)
   unfolding past part_at choose
-  passes-word v e = rw (le-leb (at + 4) (length b) (word-within b at v e).0)
+  passes_word v e = rw (le-leb (at + 4) (length b) (word_within b at v e).0)
 
-  pub short-word : Word.Short ≡ o.word_at b at → After.Short ≡ past (part_at word b at)
+  pub short_word : Word.Short ≡ o.word_at b at → After.Short ≡ past (part_at word b at)
   unfolding past part_at choose
-  short-word e = rw (lt-leb (at + 4) (length b) (word-missing b at e))
+  short_word e = rw (lt-leb (at + 4) (length b) (word_missing b at e))
 
-  pub passes-hyper : at + 8 ≤ length b → After.Next (at + 8) ≡ past (part_at hyper b at)
+  pub passes_hyper : at + 8 ≤ length b → After.Next (at + 8) ≡ past (part_at hyper b at)
   unfolding past part_at choose
-  passes-hyper h = rw (le-leb (at + 8) (length b) h)
+  passes_hyper h = rw (le-leb (at + 8) (length b) h)
 
-  pub short-hyper : length b < at + 8 → After.Short ≡ past (part_at hyper b at)
+  pub short_hyper : length b < at + 8 → After.Short ≡ past (part_at hyper b at)
   unfolding past part_at choose
-  short-hyper h = rw (lt-leb (at + 8) (length b) h)
+  short_hyper h = rw (lt-leb (at + 8) (length b) h)
 
-  pub passes-port : (v : ℕ) → Word.Value v ≡ o.word_at b at → v ≤ most_port → After.Next (at + 4) ≡ past (part_at port b at)
+  pub passes_port : (v : ℕ) → Word.Value v ≡ o.word_at b at → v ≤ most_port → After.Next (at + 4) ≡ past (part_at port b at)
   unfolding past part_at choose
-  passes-port v e h = let w = word-within b at v e in rw (le-leb (at + 4) (length b) w.0, ← w.1, le-leb v most_port h)
+  passes_port v e h = let w = word_within b at v e in rw (le-leb (at + 4) (length b) w.0, ← w.1, le-leb v most_port h)
 
-  pub short-port : Word.Short ≡ o.word_at b at → After.Short ≡ past (part_at port b at)
+  pub short_port : Word.Short ≡ o.word_at b at → After.Short ≡ past (part_at port b at)
   unfolding past part_at choose
-  short-port e = rw (lt-leb (at + 4) (length b) (word-missing b at e))
+  short_port e = rw (lt-leb (at + 4) (length b) (word_missing b at e))
 
-  pub no-port : (v : ℕ) → Word.Value v ≡ o.word_at b at → most_port < v → After.Short ≡ past (part_at port b at)
+  pub no_port : (v : ℕ) → Word.Value v ≡ o.word_at b at → most_port < v → After.Short ≡ past (part_at port b at)
   unfolding past part_at choose
-  no-port v e h = let w = word-within b at v e in rw (le-leb (at + 4) (length b) w.0, ← w.1, lt-leb v most_port h)
+  no_port v e h = let w = word_within b at v e in rw (le-leb (at + 4) (length b) w.0, ← w.1, lt-leb v most_port h)
 
   -- as a field of this one part
-  pub passes-single : (p : Part) → after_seen (field_seen (field_at (one p) b at)) ≡ past (part_at p b at)
+  pub passes_single : (p : Part) → after_seen (field_seen (field_at (one p) b at)) ≡ past (part_at p b at)
   unfolding field_at
-  passes-single p = after_single (part_at p b at)
+  passes_single p = after_single (part_at p b at)
 
   module _ (c : ℕ) (w : c ≡ 119 → ⊥) (h : c ≡ 104 → ⊥) (p : c ≡ 115 → ⊥) (d : c ≡ 100 → ⊥) where
-    pub passes-text : (s n x : ℕ) → Opaque.At s n x ≡ o.opaque_at b at → After.Next x ≡ past (part_at (part_of c) b at)
+    pub passes_text : (s n x : ℕ) → Opaque.At s n x ≡ o.opaque_at b at → After.Next x ≡ past (part_at (part_of c) b at)
     unfolding past part_at piece_of
-    passes-text s n x e = rw (ne_eqb c 119 w, ne_eqb c 104 h, ne_eqb c 115 p, ne_eqb c 100 d, ← e)
+    passes_text s n x e = rw (ne_eqb c 119 w, ne_eqb c 104 h, ne_eqb c 115 p, ne_eqb c 100 d, ← e)
 
-    pub short-text : Opaque.Bad ≡ o.opaque_at b at → After.Short ≡ past (part_at (part_of c) b at)
+    pub short_text : Opaque.Bad ≡ o.opaque_at b at → After.Short ≡ past (part_at (part_of c) b at)
     unfolding past part_at piece_of
-    short-text e = rw (ne_eqb c 119 w, ne_eqb c 104 h, ne_eqb c 115 p, ne_eqb c 100 d, ← e)
+    short_text e = rw (ne_eqb c 119 w, ne_eqb c 104 h, ne_eqb c 115 p, ne_eqb c 100 d, ← e)
 
 -- ---- an address
 after_items : (g : FieldGot) → after_seen (field_seen g) ≡ forget (items_of g)
@@ -225,20 +225,20 @@ after_items (stop v) = refl
 after_items bad = refl
 
 module _ (ps : List Part) (inner : ℕ) (qs : List Part) (b : List ℕ) (at : ℕ) where
-  pub element-short : After.Short ≡ forget (parts_at ps b at) → After.Short ≡ forget (element_at ps inner qs b at)
+  pub element_short : After.Short ≡ forget (parts_at ps b at) → After.Short ≡ forget (element_at ps inner qs b at)
   unfolding element_at
-  element-short e = forget_cut (parts_at ps b at) (λ (x : ℕ). items_of (list_at inner (parts_at qs b) b x)) e
+  element_short e = forget_cut (parts_at ps b at) (λ (x : ℕ). items_of (list_at inner (parts_at qs b) b x)) e
 
-  pub element-then : (x : ℕ) → After.Next x ≡ forget (parts_at ps b at) → after_seen (field_seen (list_at inner (parts_at qs b) b x)) ≡ forget (element_at ps inner qs b at)
+  pub element_then : (x : ℕ) → After.Next x ≡ forget (parts_at ps b at) → after_seen (field_seen (list_at inner (parts_at qs b) b x)) ≡ forget (element_at ps inner qs b at)
   unfolding element_at
-  element-then x e =
+  element_then x e =
       after_items (list_at inner (parts_at qs b) b x) ∙ sym (forget_got (parts_at ps b at) (λ (y : ℕ). items_of (list_at inner (parts_at qs b) b y)) x e)
 
 -- ---- a letter that no field has
 module _ (c : ℕ) (w : c ≡ 119 → ⊥) (h : c ≡ 104 → ⊥) (t : c ≡ 116 → ⊥) (p : c ≡ 112 → ⊥) (n : c ≡ 110 → ⊥) (a : c ≡ 97 → ⊥)
     (i : c ≡ 105 → ⊥) (l : c ≡ 108 → ⊥) (m : c ≡ 109 → ⊥) (d : c ≡ 100 → ⊥) where
-  other-letter : never ≡ field_of c
-  other-letter =
+  other_letter : never ≡ field_of c
+  other_letter =
       rw (
         ne_eqb c 119 w,
         ne_eqb c 104 h,
@@ -254,7 +254,7 @@ module _ (c : ℕ) (w : c ≡ 119 → ⊥) (h : c ≡ 104 → ⊥) (t : c ≡ 11
 
   pub unknown : (b : List ℕ) (at : ℕ) → Seen.Bad ≡ field_seen (field_at (field_of c) b at)
   unfolding field_seen field_at
-  unknown b at = rw (← other-letter)
+  unknown b at = rw (← other_letter)
 
 -- ---- the scan
 summed_first : (i : ℕ) (k : Scan) (v : Value Text) (r : Read) → summed i k (and_value v r) ≡ summed (suc i) (put i v.first k) r
@@ -289,35 +289,35 @@ unfolding scanned left
 starts l b k e = rw e
 
 module _ (l : List ℕ) (i : ℕ) (b : List ℕ) (at : ℕ) (k : Scan) (h : i < length l) where
-  left-more : (s : Seen) → s ≡ field_seen (field_at (field_of (get_or l i 0)) b at) → left l i b at k ≡ carried i k (read_fields (map field_of (drop (suc i) l)) b) s
+  left_more : (s : Seen) → s ≡ field_seen (field_at (field_of (get_or l i 0)) b at) → left l i b at k ≡ carried i k (read_fields (map field_of (drop (suc i) l)) b) s
   unfolding left read_fields
-  left-more s e = rw (drop-cons l i 0 h, e) (carries i k (read_fields (map field_of (drop (suc i) l)) b) (field_at (field_of (get_or l i 0)) b at))
+  left_more s e = rw (drop-cons l i 0 h, e) (carries i k (read_fields (map field_of (drop (suc i) l)) b) (field_at (field_of (get_or l i 0)) b at))
 
   pub next_word : (v x : ℕ) → Seen.Word v x ≡ field_seen (field_at (field_of (get_or l i 0)) b at) → left l i b at k ≡ left l (i + 1) b x (put i (four v) k)
   unfolding left carried
-  next_word v x e = rw add-one (left-more (Seen.Word v x) e)
+  next_word v x e = rw add-one (left_more (Seen.Word v x) e)
 
-  pub next-hyper : (v x : ℕ) → Seen.Hyper v x ≡ field_seen (field_at (field_of (get_or l i 0)) b at) → left l i b at k ≡ left l (i + 1) b x (put i (eight v) k)
+  pub next_hyper : (v x : ℕ) → Seen.Hyper v x ≡ field_seen (field_at (field_of (get_or l i 0)) b at) → left l i b at k ≡ left l (i + 1) b x (put i (eight v) k)
   unfolding left carried
-  next-hyper v x e = rw add-one (left-more (Seen.Hyper v x) e)
+  next_hyper v x e = rw add-one (left_more (Seen.Hyper v x) e)
 
   pub next_place : (s n x : ℕ) → Seen.Place s n x ≡ field_seen (field_at (field_of (get_or l i 0)) b at) → left l i b at k ≡ left l (i + 1) b x (put i (bytes (place s n)) k)
   unfolding left carried
-  next_place s n x e = rw add-one (left-more (Seen.Place s n x) e)
+  next_place s n x e = rw add-one (left_more (Seen.Place s n x) e)
 
-  pub last-stop : (v : ℕ) → Seen.Stop v ≡ field_seen (field_at (field_of (get_or l i 0)) b at) → put i (four v) k ≡ left l i b at k
+  pub last_stop : (v : ℕ) → Seen.Stop v ≡ field_seen (field_at (field_of (get_or l i 0)) b at) → put i (four v) k ≡ left l i b at k
   unfolding carried
-  last-stop v e = sym (left-more (Seen.Stop v) e)
+  last_stop v e = sym (left_more (Seen.Stop v) e)
 
-  pub last-bad : Seen.Bad ≡ field_seen (field_at (field_of (get_or l i 0)) b at) → empty_scan false ≡ left l i b at k
+  pub last_bad : Seen.Bad ≡ field_seen (field_at (field_of (get_or l i 0)) b at) → empty_scan false ≡ left l i b at k
   unfolding carried
-  last-bad e = sym (left-more Seen.Bad e)
+  last_bad e = sym (left_more Seen.Bad e)
 
 module _ (l : List ℕ) (i : ℕ) (b : List ℕ) (at : ℕ) (k : Scan) (h : length l ≤ i) where
   pub last_end : at ≡ length b → k ≡ left l i b at k
   unfolding left read_fields summed puts choose
   last_end e = rw (drop_of_length-le l h, eq-eqb at (length b) e)
 
-  pub last-over : (at ≡ length b → ⊥) → empty_scan false ≡ left l i b at k
+  pub last_over : (at ≡ length b → ⊥) → empty_scan false ≡ left l i b at k
   unfolding left read_fields summed choose
-  last-over e = rw (drop_of_length-le l h, ne_eqb at (length b) e)
+  last_over e = rw (drop_of_length-le l h, ne_eqb at (length b) e)

@@ -64,13 +64,13 @@ module _ (l : List ℕ) (i : ℕ) {z : Bool} (e : z ≡ all_zero (drop i l)) whe
   unfolding all_zero choose
   zero_more h k = let d : all_zero (drop i l) ≡ all_zero (drop (i + 1) l) = rw (add-one, drop-cons l i 0 h, eq-eqb (get_or l i 0) 0 k) in e ∙ d
 
-  pub zero-not : i < length l → (get_or l i 0 ≡ 0 → ⊥) → false ≡ z
+  pub zero_not : i < length l → (get_or l i 0 ≡ 0 → ⊥) → false ≡ z
   unfolding all_zero choose
-  zero-not h k = let d : all_zero (drop i l) ≡ false = rw (drop-cons l i 0 h, ne_eqb (get_or l i 0) 0 k) in sym (e ∙ d)
+  zero_not h k = let d : all_zero (drop i l) ≡ false = rw (drop-cons l i 0 h, ne_eqb (get_or l i 0) 0 k) in sym (e ∙ d)
 
-  pub zero-none : length l ≤ i → true ≡ z
+  pub zero_none : length l ≤ i → true ≡ z
   unfolding all_zero
-  zero-none h = let d : all_zero (drop i l) ≡ true = rw (drop_of_length-le l h) in sym (e ∙ d)
+  zero_none h = let d : all_zero (drop i l) ≡ true = rw (drop_of_length-le l h) in sym (e ∙ d)
 
 pub zero_replicate : (n : ℕ) → all_zero (replicate n 0) ≡ true
 unfolding all_zero choose
@@ -91,63 +91,63 @@ zero_is (x ∷ xs) e =
 
 module _ (l : List ℕ) (at : ℕ) where
   -- a word that may be missing
-  pub word-short : length l < at + 4 → Word.Short ≡ word_at l at
+  pub word_short : length l < at + 4 → Word.Short ≡ word_at l at
   unfolding word_at choose
-  word-short h = rw (lt-leb (at + 4) (length l) h)
+  word_short h = rw (lt-leb (at + 4) (length l) h)
 
-  pub word-there : (v : ℕ) → at + 4 ≤ length l → v ≡ word l at → Word.Value v ≡ word_at l at
+  pub word_there : (v : ℕ) → at + 4 ≤ length l → v ≡ word l at → Word.Value v ≡ word_at l at
   unfolding word_at choose
-  word-there v h e = rw (le-leb (at + 4) (length l) h, e)
+  word_there v h e = rw (le-leb (at + 4) (length l) h, e)
 
   -- where a word was found, it is within the list
-  pub word-within : (v : ℕ) → Word.Value v ≡ word_at l at → (at + 4 ≤ length l) × (v ≡ word l at)
+  pub word_within : (v : ℕ) → Word.Value v ≡ word_at l at → (at + 4 ≤ length l) × (v ≡ word l at)
   unfolding word_at
-  word-within v e = let w = word_chosen (leb (at + 4) (length l)) v (word l at) e in (leb-true _ _ w.0, w.1)
+  word_within v e = let w = word_chosen (leb (at + 4) (length l)) v (word l at) e in (leb-true _ _ w.0, w.1)
 
-  pub word-missing : Word.Short ≡ word_at l at → length l < at + 4
+  pub word_missing : Word.Short ≡ word_at l at → length l < at + 4
   unfolding word_at
-  word-missing e = leb-false _ _ (none_chosen (leb (at + 4) (length l)) (word l at) e)
+  word_missing e = leb-false _ _ (none_chosen (leb (at + 4) (length l)) (word l at) e)
 
   -- opaque data
-  pub opaque-short : length l < at + 4 → Bad ≡ opaque_at l at
+  pub opaque_short : length l < at + 4 → Bad ≡ opaque_at l at
   unfolding opaque_at choose
-  opaque-short h = rw (lt-leb (at + 4) (length l) h)
+  opaque_short h = rw (lt-leb (at + 4) (length l) h)
 
-  pub opaque-cut : (n : ℕ) → n ≡ word l at → at + 4 ≤ length l → length l < at + 4 + filled n → Bad ≡ opaque_at l at
+  pub opaque_cut : (n : ℕ) → n ≡ word l at → at + 4 ≤ length l → length l < at + 4 + filled n → Bad ≡ opaque_at l at
   unfolding opaque_at choose
-  opaque-cut n e h k = rw (le-leb (at + 4) (length l) h, ← e, lt-leb (at + 4 + filled n) (length l) k)
+  opaque_cut n e h k = rw (le-leb (at + 4) (length l) h, ← e, lt-leb (at + 4 + filled n) (length l) k)
 
   -- the fill that n bytes at an offset have
-  pub opaque-rubbish : (n : ℕ) → n ≡ word l at → at + 4 + filled n ≤ length l → all_zero (between (at + 4 + n) (at + 4 + filled n) l) ≡ false → Bad ≡ opaque_at l at
+  pub opaque_rubbish : (n : ℕ) → n ≡ word l at → at + 4 + filled n ≤ length l → all_zero (between (at + 4 + n) (at + 4 + filled n) l) ≡ false → Bad ≡ opaque_at l at
   unfolding opaque_at choose
-  opaque-rubbish n e k z =
+  opaque_rubbish n e k z =
       let h : at + 4 ≤ length l = omega arith in
       rw (le-leb (at + 4) (length l) h, ← e, le-leb (at + 4 + filled n) (length l) k, z)
 
-  pub opaque-whole : (n : ℕ) → n ≡ word l at → at + 4 + filled n ≤ length l → all_zero (between (at + 4 + n) (at + 4 + filled n) l) ≡ true → At
+  pub opaque_whole : (n : ℕ) → n ≡ word l at → at + 4 + filled n ≤ length l → all_zero (between (at + 4 + n) (at + 4 + filled n) l) ≡ true → At
       (at + 4) n (at + 4 + filled n) ≡ opaque_at l at
   unfolding opaque_at choose
-  opaque-whole n e k z =
+  opaque_whole n e k z =
       let h : at + 4 ≤ length l = omega arith in
       rw (le-leb (at + 4) (length l) h, ← e, le-leb (at + 4 + filled n) (length l) k, z)
 
   -- where opaque data was found: its length word, its end, and its fill
-  opaque-choice : (s n x : ℕ) → At s n x ≡ opaque_at l at
+  opaque_choice : (s n x : ℕ) → At s n x ≡ opaque_at l at
       → Chosen (leb (at + 4) (length l)) (leb (at + 4 + filled (word l at)) (length l)) (all_zero (between (at + 4 + word l at) (at + 4 + filled (word l at)) l)) s n x
       (at + 4) (word l at) (at + 4 + filled (word l at))
   unfolding opaque_at
-  opaque-choice s n x e = chosen _ _ _ s n x (at + 4) (word l at) (at + 4 + filled (word l at)) e
+  opaque_choice s n x e = chosen _ _ _ s n x (at + 4) (word l at) (at + 4 + filled (word l at)) e
 
-  pub opaque-read : (s n x : ℕ) → At s n x ≡ opaque_at l at → Found l at s n x
-  opaque-read s n x e =
-      let w = opaque-choice s n x e in
+  pub opaque_read : (s n x : ℕ) → At s n x ≡ opaque_at l at → Found l at s n x
+  opaque_read s n x e =
+      let w = opaque_choice s n x e in
       let k : at + 4 + filled (word l at) ≤ length l = leb-true _ _ w.test in
       record { start = w.start; len = w.len; next = omega (arith, w.len, w.next); within = omega (arith, w.next); zero = rw (w.next, w.start, w.len) w.zero }
 
   -- where opaque data was found, its bytes and its fill are within the list
-  pub opaque-within : (s n x : ℕ) → At s n x ≡ opaque_at l at → (s + n ≤ x) × (x ≤ length l)
-  opaque-within s n x e =
-      let w = opaque-read s n x e in
+  pub opaque_within : (s n x : ℕ) → At s n x ≡ opaque_at l at → (s + n ≤ x) × (x ≤ length l)
+  opaque_within s n x e =
+      let w = opaque_read s n x e in
       (omega (arith, w.start, w.next), w.within)
 
 -- a write, and a write where it ends, are one write

@@ -12,7 +12,7 @@ use Rattle.xdr_opaque.specs.Opaque.{all_zero, between, filled, opaque_at}
 use Rattle.xdr_opaque.specs.Put.{fill, opaque}
 use Rattle.xdr_opaque.specs.RoundTrip.{OpaqueRoundTrip}
 use Rattle.xdr_opaque.specs.declared.Opaque.TheVariants.{At}
-use Rattle.xdr_opaque.proofs.Laws.{opaque-whole, length_opaque_filled, filled_fill, zero_replicate}
+use Rattle.xdr_opaque.proofs.Laws.{opaque_whole, length_opaque_filled, filled_fill, zero_replicate}
 
 module _ (p s q : List ℕ) where
   -- what stands after the length word
@@ -54,7 +54,7 @@ module _ (p s q : List ℕ) where
   found : length s < 2 ^ 32 → At (length p + 4) (length s) (length p + length (opaque s)) ≡ opaque_at (p ++ (opaque s ++ q)) (length p)
   found h =
       let e : length p + length (opaque s) ≡ length p + 4 + filled (length s) = omega (arith, length_opaque_filled s) in
-      rw e (opaque-whole (p ++ (opaque s ++ q)) (length p) (length s) (length_back h) within zeroes)
+      rw e (opaque_whole (p ++ (opaque s ++ q)) (length p) (length s) (length_back h) within zeroes)
 
   bytes : take (length s) (drop (length p + 4) (p ++ (opaque s ++ q))) ≡ s
   unfolding tail

@@ -3,7 +3,7 @@ use native.Mathlib.Omega.{arith}
 use borrow.Author.Rules.{rules}
 use borrow.Author.Tests.{not-true, not-false}
 use Rattle.xdr.proofs.Tests.{asked}
-use Rattle.call_accounts.proofs.Laws.{told-short, told_none, told-all}
+use Rattle.call_accounts.proofs.Laws.{told_short, told_none, told_all}
 use Rattle.call_accounts.proofs.list_accounts.Statement.{statement}
 use Rattle.call_accounts.proofs.list_accounts.Tie as tie
 use Rattle.call_accounts.proofs.list_accounts.Reads as reads
@@ -12,7 +12,7 @@ use Rattle.call_accounts.proofs.put_lines.Reads as put-lines-reads
 use Rattle.wire_accounts.proofs.is_laid.Reads as is-laid-reads
 
 returns : tie.Need-returns
-returns c = told-short _ _ c.if1.true
+returns c = told_short _ _ c.if1.true
 
 is-laid-requires : tie.Need-is-laid-requires
 is-laid-requires c κs = search rules
@@ -27,7 +27,7 @@ same_length : tie.Need-same-length
 same_length c = search rules
 
 returns-3 : tie.Need-returns-3
-returns-3 c = told-all _ _ _ _ (omega arith) c.before.before.put-lines.ensures
+returns-3 c = told_all _ _ _ _ (omega arith) c.before.before.put-lines.ensures
 
 pub list-accounts-spec : {M : Type 1} → statement M
 list-accounts-spec =

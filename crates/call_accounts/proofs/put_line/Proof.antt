@@ -4,7 +4,7 @@ use mathlib.Core.Path.{◌∙◌}
 use lib.ListN.{length-set}
 use native.Mathlib.Omega.{arith}
 use borrow.Author.Rules.{rules}
-use Rattle.call_accounts.proofs.Laws.{line-md5, line-withdrawn}
+use Rattle.call_accounts.proofs.Laws.{line_md5, line_withdrawn}
 use Rattle.call_accounts.proofs.put_line.Statement.{statement}
 use Rattle.call_accounts.proofs.put_line.Tie as tie
 use Rattle.call_accounts.proofs.put_line.Reads as reads
@@ -34,7 +34,7 @@ same_length c =
 returns : tie.Need-returns
 returns c =
     let k = c.before.before.before.before.before in
-    line-md5 _ _ (omega arith) k.if1.true c.before.before.put-text.ensures
+    line_md5 _ _ (omega arith) k.if1.true c.before.before.put-text.ensures
 
 add-put-text-2 : tie.Need-overflow-add-put-text-2
 add-put-text-2 c = search rules
@@ -53,7 +53,7 @@ same-length-2 c =
 returns-2 : tie.Need-returns-2
 returns-2 c =
     let k = c.before.before.before.before.before in
-    line-withdrawn _ _ (omega arith) k.if1.false c.before.before.put-text2.ensures
+    line_withdrawn _ _ (omega arith) k.if1.false c.before.before.put-text2.ensures
 
 pub put-line-spec : {M : Type 1} → statement M
 put-line-spec =

@@ -4,7 +4,7 @@ use lib.ListN.{length}
 use native.Mathlib.Omega.{arith}
 use borrow.Author.Rules.{rules}
 use Rattle.wire_accounts.proofs.Laws.{counted}
-use Rattle.call_accounts.proofs.Laws.{Going, going-first, going_on, going_end}
+use Rattle.call_accounts.proofs.Laws.{Going, going_first, going_on, going_end}
 use Rattle.call_accounts.proofs.put_lines.Statement.{statement}
 use Rattle.call_accounts.proofs.put_lines.Tie as tie
 use Rattle.call_accounts.proofs.put_lines.Reads as reads
@@ -23,7 +23,7 @@ read-word-requires : tie.Need-read-word-requires invariant-loop decreases-loop
 read-word-requires c κs = (counted _ c.before.before.requires.1).0
 
 loop-holds : tie.Need-loop-init invariant-loop decreases-loop
-loop-holds c = (refl, going-first _ c.read_word.ensures c.before.before.before.requires.1)
+loop-holds c = (refl, going_first _ c.read_word.ensures c.before.before.before.requires.1)
 
 account-at-requires : tie.Need-account-at-requires invariant-loop decreases-loop
 account-at-requires c κs = c.before.loop.invariant.1.ahead.within

@@ -2,7 +2,7 @@
 use mathlib.Core.Path.{sym, ◌∙◌}
 use native.Mathlib.Omega.{arith}
 use Rattle.xdr.proofs.Laws.{rest}
-use Rattle.wire_frame.proofs.Laws.{request-well}
+use Rattle.wire_frame.proofs.Laws.{request_well}
 use Rattle.call_addresses.specs.Reading.{of_frame}
 use Rattle.call_addresses.proofs.Reading.{by_frame}
 use borrow.Author.Rules.{rules}
@@ -33,10 +33,10 @@ enum-known-message : tie.Need-enum-known-message
 enum-known-message c = search rules
 
 sub-of-request : tie.Need-overflow-sub-of-request
-sub-of-request c = omega (arith, request-well _ _ _ (sym c.before.message.given.1 ∙ c.before.before.before.read-frame.ensures))
+sub-of-request c = omega (arith, request_well _ _ _ (sym c.before.message.given.1 ∙ c.before.before.before.read-frame.ensures))
 
 part-of-request-start : tie.Need-slice-bounds-of-request-start
-part-of-request-start c = omega (arith, request-well _ _ _ (sym c.before.message.given.1 ∙ c.before.before.before.read-frame.ensures))
+part-of-request-start c = omega (arith, request_well _ _ _ (sym c.before.message.given.1 ∙ c.before.before.before.read-frame.ensures))
 
 part-of-request-end : tie.Need-slice-bounds-of-request-end
 part-of-request-end c = search rules

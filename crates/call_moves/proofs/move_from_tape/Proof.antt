@@ -5,7 +5,7 @@ use lib.ListN.{length}
 use Rattle.rules.specs.Answer.{held}
 use Rattle.rules_moves.specs.Events.{stamped}
 use Rattle.rules.proofs.Guarding.{guard_goes}
-use Rattle.call_moves.proofs.Telling.{from-stopped, from_goes}
+use Rattle.call_moves.proofs.Telling.{from_stopped, from_goes}
 use borrow.Author.Rules.{rules}
 use Rattle.call_moves.proofs.move_from_tape.Statement.{statement}
 use Rattle.call_moves.proofs.move_from_tape.Tie as tie
@@ -26,7 +26,7 @@ returns c =
     λ variables.
     let c8 = c.before.before.before.before.before.before.before.before in
     let a = c8.args in
-    from-stopped (held a.s a.image.now variables) (stamped a.time (length a.out.now)) a.dest.now _
+    from_stopped (held a.s a.image.now variables) (stamped a.time (length a.out.now)) a.dest.now _
     (sym c.before.before.guard2.given.1 ∙ c.before.before.before.before.guard.ensures) (c.unmoved.ensures _ _ _ _)
 
 enum_told : tie.Need-enum-told

@@ -5,7 +5,7 @@ use lib.ListN.{length}
 use Rattle.rules.specs.Answer.{held}
 use Rattle.rules_moves.specs.Events.{stamped}
 use Rattle.rules.proofs.Guarding.{guard_goes}
-use Rattle.call_moves.proofs.Telling.{to-stopped, to-goes}
+use Rattle.call_moves.proofs.Telling.{to_stopped, to_goes}
 use borrow.Author.Rules.{rules}
 use Rattle.call_moves.proofs.move_to_tape.Statement.{statement}
 use Rattle.call_moves.proofs.move_to_tape.Tie as tie
@@ -26,7 +26,7 @@ returns c =
     λ variables.
     let c8 = c.before.before.before.before.before.before.before.before in
     let a = c8.args in
-    to-stopped (held a.s a.image.now variables) (stamped a.time (length a.out.now)) a.stream.now a.last _
+    to_stopped (held a.s a.image.now variables) (stamped a.time (length a.out.now)) a.stream.now a.last _
     (sym c.before.before.guard2.given.1 ∙ c.before.before.before.before.guard.ensures) (c.unmoved.ensures _ _ _ _)
 
 enum_told : tie.Need-enum-told
@@ -48,7 +48,7 @@ returns-2 c =
     λ variables.
     let c8 = c.before.before.before.before.before.before.before.before in
     let a = c8.before.before.before.before.before.args in
-    to-goes (held a.s a.image.now variables) (stamped a.time (length a.out.now)) a.stream.now a.last
+    to_goes (held a.s a.image.now variables) (stamped a.time (length a.out.now)) a.stream.now a.last
     (sym c.before.before.before.before.before.before.before.enum_told.given.1 ∙ c8.before.guard.ensures)
     (c.before.before.before.before.feed.ensures variables)
 

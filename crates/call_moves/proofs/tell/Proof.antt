@@ -5,7 +5,7 @@ use lib.ListN.{length}
 use Rattle.rules.specs.Answer.{held}
 use Rattle.rules_moves.specs.Events.{stamped}
 use Rattle.rules.proofs.Guarding.{guard_goes}
-use Rattle.call_moves.proofs.Telling.{event-stopped, event-goes}
+use Rattle.call_moves.proofs.Telling.{event_stopped, event_goes}
 use borrow.Author.Rules.{rules}
 use Rattle.call_moves.proofs.tell.Statement.{statement}
 use Rattle.call_moves.proofs.tell.Tie as tie
@@ -25,7 +25,7 @@ returns : tie.Need-returns
 returns c =
     λ image variables.
     let a = c.before.before.before.before.before.before.args in
-    event-stopped (held a.s image variables) (stamped a.time (length a.out.now)) a.mv _
+    event_stopped (held a.s image variables) (stamped a.time (length a.out.now)) a.mv _
     (sym c.before.before.guard2.given.1 ∙ c.before.before.before.before.guard.ensures) (c.quiet.ensures _ _ _)
 
 enum_told : tie.Need-enum-told
@@ -44,7 +44,7 @@ returns-2 c =
     let c4 = c.before.before.before.before in
     λ image variables.
     let a = c4.before.before.before.before.args in
-    event-goes (held a.s image variables) (stamped a.time (length a.out.now)) a.mv
+    event_goes (held a.s image variables) (stamped a.time (length a.out.now)) a.mv
     (sym c4.enum_told.given.1 ∙ c4.before.before.guard.ensures)
     (c.before.before.announce.ensures image image variables)
 

@@ -20,7 +20,7 @@ shut-requires c κs = search rules
 
 returns : tie.Need-returns
 returns c =
-    λ image variables. call_if _ (sym c.before.before.is-close.ensures ∙ c.before.if1.true)
+    λ image variables. call_if _ (sym c.before.before.is_close.ensures ∙ c.before.if1.true)
     (c.shut.ensures image variables _)
 
 sub-serve : tie.Need-overflow-sub-serve
@@ -54,7 +54,7 @@ returns-2 c =
     let c8 = c.before.before.before.before.before.before.before.before in
     λ image variables.
     let a = c8.before.before.before.before.before.args in
-    call_else _ (sym c8.before.is-close.ensures ∙ c8.if1.false)
+    call_else _ (sym c8.before.is_close.ensures ∙ c8.if1.false)
     (rw (c.before.before.before.before.before.serve.ensures a.challenge.now, body_is a.input.now) at
     (c.before.before.login-call.ensures image variables (Request.Connect a.q) refl))
 

@@ -9,7 +9,7 @@ use Rattle.rules.specs.Answer.{held, is_unread, with_data}
 use Rattle.rules.specs.DataService.{data_step}
 use Rattle.rules.proofs.Sending.{data_sends}
 use Rattle.call_request.proofs.Framing.{body_is}
-use Rattle.call_request.proofs.Routing.{accepted_says, call-refused, call-accepted, shown_sends, shown-reply}
+use Rattle.call_request.proofs.Routing.{accepted_says, call_refused, call_accepted, shown_sends, shown_reply}
 use borrow.Author.Rules.{rules}
 use Rattle.call_request.proofs.data_call.Statement.{statement}
 use Rattle.call_request.proofs.data_call.Tie as tie
@@ -79,7 +79,7 @@ returns c =
     let k = held a.s image v in
     let told = rw (c.before.before.before.before.before.done.given.1, body_is a.input.now) at c8.before.serve.ensures in
     rw told.1
-    (call-refused k a.time a.input.now (Request.Data a.q) (with_data k a.q body list)
+    (call_refused k a.time a.input.now (Request.Data a.q) (with_data k a.q body list)
     (data_step a.s.source a.q body list v) _ refl
     told.0 (c.before.before.refuse.ensures image v))
 
@@ -101,9 +101,9 @@ returns-2 c =
     let k = held a.s image v in
     let told = rw (c8.before.before.before.done2.given.1, body_is a.input.now) at
     c8.before.before.before.before.before.before.before.serve.ensures in
-    call-accepted k a.time a.input.now (Request.Data a.q) (with_data k a.q body list)
+    call_accepted k a.time a.input.now (Request.Data a.q) (with_data k a.q body list)
     (data_step a.s.source a.q body list v) _ _ refl refl told.0
-    (shown-reply a.q body list v _ told.1 a.input.now a.time _ image _ _ _ _ _
+    (shown_reply a.q body list v _ told.1 a.input.now a.time _ image _ _ _ _ _
     c.before.before.before.before.before.with-parts.ensures (c.before.before.data-reply.ensures image _))
 
 pub data-call-spec : {M : Type 1} → statement M

@@ -4,7 +4,7 @@ use mathlib.Core.Path.{refl, sym, ◌∙◌}
 use Rattle.rules.specs.Answer.{held}
 use Rattle.call_request.specs.Call.{lent}
 use Rattle.call_request.proofs.Framing.{body_is}
-use Rattle.call_request.proofs.Routing.{request_is, texts_in, call-locked, call-free}
+use Rattle.call_request.proofs.Routing.{request_is, texts_in, call_locked, call_free}
 use borrow.Author.Rules.{rules}
 use Rattle.call_request.proofs.framed_call.Statement.{statement}
 use Rattle.call_request.proofs.framed_call.Tie as tie
@@ -44,7 +44,7 @@ returns c =
     let a = c16.args in
     let k = held a.s a.image.now a.variables.now in
     let l = lent a.accounts.now a.challenge.now a.addresses.now a.made a.time a.out.now in
-    call-locked k l a.input.now _
+    call_locked k l a.input.now _
     (request_is a.input.now (body_is a.input.now) c16.requires.1 c8.before.row_of.ensures refl
     c.before.before.before.before.before.before.before.decode.ensures)
     (sym c.before.before.before.before.before.is-locked.ensures ∙
@@ -78,7 +78,7 @@ returns-2 c =
     let a = c16.before.before.before.before.before.before.args in
     let k = held a.s a.image.now a.variables.now in
     let l = lent a.accounts.now a.challenge.now a.addresses.now a.made a.time a.out.now in
-    call-free k l a.input.now _
+    call_free k l a.input.now _
     (request_is a.input.now (body_is a.input.now)
     c16.before.before.before.before.before.before.requires.1
     c8.before.before.before.before.before.before.before.row_of.ensures refl

@@ -9,7 +9,7 @@ use Rattle.rules.specs.Answer.{held, is_unread, with_ends}
 use Rattle.rules.specs.Joint.{joint_step}
 use Rattle.rules.proofs.Sending.{joint_sends}
 use Rattle.serve_joint.specs.Done.{outcome_of}
-use Rattle.call_request.proofs.Routing.{accepted_says, call-refused, call-ended}
+use Rattle.call_request.proofs.Routing.{accepted_says, call_refused, call_ended}
 use borrow.Author.Rules.{rules}
 use Rattle.call_request.proofs.joint_call.Statement.{statement}
 use Rattle.call_request.proofs.joint_call.Tie as tie
@@ -59,7 +59,7 @@ returns c =
     λ image variables.
     let a = c8.before.before.before.before.before.args in
     let k = held a.s image variables in
-    call-refused k a.time a.input.now (Request.Joint a.q) (with_ends k) (joint_step a.s.source a.s.mover a.s.tape a.q a.made) _ refl
+    call_refused k a.time a.input.now (Request.Joint a.q) (with_ends k) (joint_step a.s.source a.s.mover a.s.tape a.q a.made) _ refl
     (ap outcome_of (sym c.before.before.before.before.before.done.given.1) ∙ c.before.before.before.before.before.before.before.serve.ensures)
     (c.before.before.refuse.ensures image variables)
 
@@ -75,7 +75,7 @@ returns-2 c =
     let k = held a.s image variables in
     let sent = rw c8.before.with-parts.ensures at
     (c.before.before.before.before.before.before.finish.ensures.1 image variables) in
-    call-ended k a.time a.input.now (Request.Joint a.q) (with_ends k) (joint_step a.s.source a.s.mover a.s.tape a.q a.made) _ _
+    call_ended k a.time a.input.now (Request.Joint a.q) (with_ends k) (joint_step a.s.source a.s.mover a.s.tape a.q a.made) _ _
     (ap outcome_of (sym c8.before.before.before.before.before.before.before.done2.given.1) ∙
     c16.before.serve.ensures) (c.before.before.halts.ensures.1 _ image variables _ sent)
 

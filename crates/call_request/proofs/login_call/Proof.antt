@@ -4,7 +4,7 @@ use mathlib.Core.Path.{refl, sym, ap}
 use Rattle.rules.specs.Answer.{held, with_login}
 use Rattle.serve_connect.specs.Done.{outcome_of}
 use Rattle.call_request.specs.Call.{Sends}
-use Rattle.call_request.proofs.Routing.{accepted_says, call-refused, call-accepted}
+use Rattle.call_request.proofs.Routing.{accepted_says, call_refused, call_accepted}
 use borrow.Author.Rules.{rules}
 use Rattle.call_request.proofs.login_call.Statement.{statement}
 use Rattle.call_request.proofs.login_call.Tie as tie
@@ -44,7 +44,7 @@ returns c =
     let outcome = outcome_of a.s.login a.challenge.now in
     λ image variables q u.
     let k = held a.s image variables in
-    call-refused k a.time a.input.now q (with_login k a.shown.now) (outcome a.done) _ u (ap outcome (sym c.before.before.before.before.before.done.given.1))
+    call_refused k a.time a.input.now q (with_login k a.shown.now) (outcome a.done) _ u (ap outcome (sym c.before.before.before.before.before.done.given.1))
     (c.before.before.refuse.ensures image variables)
 
 same-length-2 : tie.Need-same-length-2
@@ -57,7 +57,7 @@ returns-2 c =
     let outcome = outcome_of a.s.login a.challenge.now in
     λ image variables q u.
     let k = held a.s image variables in
-    call-accepted k a.time a.input.now q (with_login k a.shown.now) (outcome a.done) _ _ refl refl (ap outcome (sym c9.before.before.before.done2.given.1))
+    call_accepted k a.time a.input.now q (with_login k a.shown.now) (outcome a.done) _ _ refl refl (ap outcome (sym c9.before.before.before.done2.given.1))
     (rw (c.before.before.before.before.with-parts.ensures, c9.changed.ensures) at (c.before.before.finish.ensures.1 image variables))
 
 pub login-call-spec : {M : Type 1} → statement M

@@ -8,7 +8,7 @@ use Rattle.rules.specs.Answer.{held, is_unread, tape_part, with_part}
 use Rattle.rules.specs.TapeService.{mover_part_step}
 use Rattle.rules.proofs.Sending.{mover_sends}
 use Rattle.serve_mover.specs.Done.{outcome_of}
-use Rattle.call_request.proofs.Routing.{accepted_says, call-refused, call-accepted, mover_refuses, mover-accepts}
+use Rattle.call_request.proofs.Routing.{accepted_says, call_refused, call_accepted, mover_refuses, mover_accepts}
 use borrow.Author.Rules.{rules}
 use Rattle.call_request.proofs.mover_call.Statement.{statement}
 use Rattle.call_request.proofs.mover_call.Tie as tie
@@ -50,7 +50,7 @@ returns c =
     let a = c8.before.before.before.before.before.args in
     let k = held a.s image variables in
     let list = a.addresses.now in
-    call-refused k a.time a.input.now (Request.Mover a.q) (with_part k list) (mover_part_step (tape_part k) a.q list) _ refl
+    call_refused k a.time a.input.now (Request.Mover a.q) (with_part k list) (mover_part_step (tape_part k) a.q list) _ refl
     (mover_refuses (tape_part k) a.q list _
     (ap outcome_of (sym c.before.before.before.before.before.done.given.1) ∙ c.before.before.before.before.before.before.before.serve.ensures))
     (c.before.before.refuse.ensures image variables)
@@ -66,8 +66,8 @@ returns-2 c =
     let a = c16.before.args in
     let k = held a.s image variables in
     let list = a.addresses.now in
-    call-accepted k a.time a.input.now (Request.Mover a.q) (with_part k list) (mover_part_step (tape_part k) a.q list) _ _ refl refl
-    (mover-accepts (tape_part k) a.q list _ _ (ap outcome_of (sym c8.before.done2.given.1) ∙ c8.before.before.before.serve.ensures))
+    call_accepted k a.time a.input.now (Request.Mover a.q) (with_part k list) (mover_part_step (tape_part k) a.q list) _ _ refl refl
+    (mover_accepts (tape_part k) a.q list _ _ (ap outcome_of (sym c8.before.done2.given.1) ∙ c8.before.before.before.serve.ensures))
     (rw c.before.before.before.before.with-parts.ensures at (c.before.before.finish.ensures.1 image variables))
 
 pub mover-call-spec : {M : Type 1} → statement M

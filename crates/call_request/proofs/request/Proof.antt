@@ -2,12 +2,12 @@
 use native.Mathlib.Omega.{arith}
 use mathlib.Core.Path.{sym, ◌∙◌}
 use Rattle.rules.specs.Answer.{held, requested}
-use Rattle.wire_frame.proofs.Laws.{request-well}
+use Rattle.wire_frame.proofs.Laws.{request_well}
 use Rattle.rules.proofs.Guarding.{guard_goes}
 use Rattle.call_sending.proofs.Calling.{call_if, call_else}
 use Rattle.call_request.specs.Call.{lent}
-use Rattle.call_request.proofs.Framing.{frame-broken, frame-other, frame-request}
-use Rattle.call_request.proofs.Routing.{call-stopped, call-goes, room_is, room_there}
+use Rattle.call_request.proofs.Framing.{frame_broken, frame_other, frame_request}
+use Rattle.call_request.proofs.Routing.{call_stopped, call_goes, room_is, room_there}
 use borrow.Author.Rules.{rules}
 use Rattle.call_request.proofs.request.Statement.{statement}
 use Rattle.call_request.proofs.request.Tie as tie
@@ -32,7 +32,7 @@ returns c =
     let a = c8.before.before.before.before.args in
     let k = held a.s a.image.now a.variables.now in
     let l = lent a.accounts.now a.challenge.now a.addresses.now a.made a.time a.out.now in
-    call-stopped k l a.input.now _ (room_is k l c.before.before.before.before.before.room_of.ensures) _
+    call_stopped k l a.input.now _ (room_is k l c.before.before.before.before.before.room_of.ensures) _
     (sym c.before.before.guard2.given.1 ∙ c.before.before.before.before.guard.ensures)
     (c.quiet.ensures _ _ _)
 
@@ -69,7 +69,7 @@ framed-call-requires c κs =
     let g = guard_goes _ _ (sym c.before.before.before.before.before.before.before.enum_told.given.1 ∙
     c8.before.guard.ensures) in
     let there = room_there k l (room_is k l c8.before.before.room_of.ensures) g.roomy in
-    (record { long = (request-well _ _ _ f).long; room = omega (arith, there.0) }, (frame-request _ _ _ f).2, there.1)
+    (record { long = (request_well _ _ _ f).long; room = omega (arith, there.0) }, (frame_request _ _ _ f).2, there.1)
 
 returns-2 : tie.Need-returns-2
 returns-2 c =
@@ -77,11 +77,11 @@ returns-2 c =
     let a = c8.before.before.before.before.before.before.args in
     let k = held a.s a.image.now a.variables.now in
     let l = lent a.accounts.now a.challenge.now a.addresses.now a.made a.time a.out.now in
-    call-goes k l a.input.now _ (room_is k l
+    call_goes k l a.input.now _ (room_is k l
     c.before.before.before.before.before.before.before.room_of.ensures)
     (sym c.before.before.before.before.enum_told.given.1 ∙
     c.before.before.before.before.before.before.guard.ensures)
-    (call_else _ (frame-broken _ (sym c.before.enum-told2.given.1 ∙
+    (call_else _ (frame_broken _ (sym c.before.enum-told2.given.1 ∙
     c.before.before.before.read-frame.ensures)) (c.shut.ensures _ _ _))
 
 returns-3 : tie.Need-returns-3
@@ -91,8 +91,8 @@ returns-3 c =
     let a = c8.before.before.before.before.before.before.args in
     let k = held a.s a.image.now a.variables.now in
     let l = lent a.accounts.now a.challenge.now a.addresses.now a.made a.time a.out.now in
-    let f = frame-other _ (sym c.before.enum-told3.given.1 ∙ c.before.before.before.read-frame.ensures) in
-    call-goes k l a.input.now _ (room_is k l
+    let f = frame_other _ (sym c.before.enum-told3.given.1 ∙ c.before.before.before.read-frame.ensures) in
+    call_goes k l a.input.now _ (room_is k l
     c.before.before.before.before.before.before.before.room_of.ensures)
     (sym c.before.before.before.before.enum_told.given.1 ∙
     c.before.before.before.before.before.before.guard.ensures)
@@ -115,9 +115,9 @@ returns-4 c =
     let a = c16.before.before.before.before.before.before.before.before.args in
     let k = held a.s a.image.now a.variables.now in
     let l = lent a.accounts.now a.challenge.now a.addresses.now a.made a.time a.out.now in
-    let f = frame-request _ _ _ (sym c8.before.before.before.message.given.1 ∙
+    let f = frame_request _ _ _ (sym c8.before.before.before.message.given.1 ∙
     c8.before.before.before.before.before.read-frame.ensures) in
-    call-goes k l a.input.now _ (room_is k l c16.before.room_of.ensures)
+    call_goes k l a.input.now _ (room_is k l c16.before.room_of.ensures)
     (sym c8.before.before.before.before.before.before.enum_told.given.1 ∙ c16.guard.ensures)
     (call_if _ f.0 (call_else _ f.1 c.before.before.before.before.before.before.framed-call.ensures))
 

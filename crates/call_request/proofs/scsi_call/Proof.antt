@@ -9,7 +9,7 @@ use Rattle.rules.specs.Answer.{held, is_unread, with_changer}
 use Rattle.rules.specs.ScsiService.{scsi_step, scsi_shown}
 use Rattle.serve_changer.specs.Done.{changed}
 use Rattle.call_request.proofs.Framing.{body_is}
-use Rattle.call_request.proofs.Routing.{call-refused, call-accepted, change_sends, shows_as}
+use Rattle.call_request.proofs.Routing.{call_refused, call_accepted, change_sends, shows_as}
 use borrow.Author.Rules.{rules}
 use Rattle.call_request.proofs.scsi_call.Statement.{statement}
 use Rattle.call_request.proofs.scsi_call.Tie as tie
@@ -77,7 +77,7 @@ returns c =
     let told = rw (c.before.before.before.before.before.done.given.1, body_is a.input.now) at c7.serve.ensures in
     λ image variables.
     let k = held a.s image variables in
-    call-refused k a.time a.input.now (Request.Scsi a.q) (with_changer k (scsi_shown a.q body a.s.changer.slots))
+    call_refused k a.time a.input.now (Request.Scsi a.q) (with_changer k (scsi_shown a.q body a.s.changer.slots))
     (scsi_step a.s.tape.opened a.s.changer a.q body) _ refl (sym told) (c.before.before.refuse.ensures image variables)
 
 same-length-2 : tie.Need-same-length-2
@@ -93,7 +93,7 @@ returns-2 c =
     let told = rw (c9.before.before.done2.given.1, body_is a.input.now) at c13.serve.ensures in
     λ image variables.
     let k = held a.s image variables in
-    call-accepted k a.time a.input.now (Request.Scsi a.q) (with_changer k (scsi_shown a.q body a.s.changer.slots))
+    call_accepted k a.time a.input.now (Request.Scsi a.q) (with_changer k (scsi_shown a.q body a.s.changer.slots))
     (scsi_step a.s.tape.opened a.s.changer a.q body) _ _ refl refl (sym told.0)
     (shows_as a.input.now a.time done.0 (with_changer k [] (changed a.s.changer done.1.0)).kept (sym told.1)
     (rw (c.before.before.before.before.before.with-parts.ensures, c9.changed.ensures) at (c.before.before.finish.ensures.1 image variables)))
@@ -109,7 +109,7 @@ returns-3 c =
     let told = rw (c.before.before.before.before.before.done3.given.1, body_is a.input.now) at c7.serve.ensures in
     λ image variables.
     let k = held a.s image variables in
-    call-accepted k a.time a.input.now (Request.Scsi a.q) (with_changer k (scsi_shown a.q body a.s.changer.slots))
+    call_accepted k a.time a.input.now (Request.Scsi a.q) (with_changer k (scsi_shown a.q body a.s.changer.slots))
     (scsi_step a.s.tape.opened a.s.changer a.q body) Reply.Elements a.s.changer refl refl (sym told.0)
     (shows_as a.input.now a.time Reply.Elements k (sym told.1) (c.before.before.status-reply.ensures image variables))
 

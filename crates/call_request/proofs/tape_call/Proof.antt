@@ -11,7 +11,7 @@ use Rattle.rules.specs.TapeService.{Loaded, tape_step}
 use Rattle.rules.proofs.Sending.{tape_sends}
 use Rattle.call_sending.proofs.Calling.{same_reply}
 use Rattle.call_request.proofs.Framing.{body_is}
-use Rattle.call_request.proofs.Routing.{accepted_says, call-refused, call-accepted, tape_refuses, tape-accepts}
+use Rattle.call_request.proofs.Routing.{accepted_says, call_refused, call_accepted, tape_refuses, tape_accepts}
 use borrow.Author.Rules.{rules}
 use Rattle.call_request.proofs.tape_call.Statement.{statement}
 use Rattle.call_request.proofs.tape_call.Tie as tie
@@ -75,7 +75,7 @@ returns c =
     λ variables.
     let k = held a.s a.image.now variables in
     rw told.1
-    (call-refused k a.time a.input.now (Request.Tape a.q) (with_tape k) (tape_step drive (tape_part k) a.q body) _ refl
+    (call_refused k a.time a.input.now (Request.Tape a.q) (with_tape k) (tape_step drive (tape_part k) a.q body) _ refl
     (tape_refuses (tape_part k) drive a.q body _ told.0)
     (c.before.before.refuse.ensures a.image.now variables))
 
@@ -95,8 +95,8 @@ returns-2 c =
     let told = rw (c9.done2.given.1, body_is a.input.now) at c13.serve.ensures in
     λ variables.
     let k = held a.s a.image.now variables in
-    call-accepted k a.time a.input.now (Request.Tape a.q) (with_tape k) (tape_step drive (tape_part k) a.q body) _ _ refl refl
-    (tape-accepts (tape_part k) drive a.q body _ _ told)
+    call_accepted k a.time a.input.now (Request.Tape a.q) (with_tape k) (tape_step drive (tape_part k) a.q body) _ _ refl refl
+    (tape_accepts (tape_part k) drive a.q body _ _ told)
     (same_reply _ _ _ _ _ _ _ _ _ _ _ _ refl c.before.before.before.before.before.with-parts.ensures (c.before.before.finish.ensures.1 _ _))
 
 pub tape-call-spec : {M : Type 1} → statement M

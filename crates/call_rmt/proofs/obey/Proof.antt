@@ -2,7 +2,7 @@
 use native.Mathlib.Omega.{arith}
 use borrow.Author.Tests.{not-true, not-false}
 use Rattle.rules.specs.Answer.{held}
-use Rattle.call_rmt.proofs.Commanding.{read-bad, read-tape, read_within, told-bad, told-locked, told-known}
+use Rattle.call_rmt.proofs.Commanding.{read_bad, read_tape, read_within, told_bad, told_locked, told_known}
 use borrow.Author.Rules.{rules}
 use Rattle.call_rmt.proofs.obey.Statement.{statement}
 use Rattle.call_rmt.proofs.obey.Tie as tie
@@ -32,9 +32,9 @@ returns : tie.Need-returns
 returns c =
     let c5 = c.before.before.before.before.before in
     let a = c5.before.before.before.before.before.args in
-    let bad = read-bad _ c5.before.command.ensures c5.request-of.ensures c.before.before.before.before.match.keys2 in
+    let bad = read_bad _ c5.before.command.ensures c5.request-of.ensures c.before.before.before.before.match.keys2 in
     λ variables.
-    told-bad (held a.s a.image.now variables) a.command.now bad (c.before.before.refuse.ensures a.image.now variables)
+    told_bad (held a.s a.image.now variables) a.command.now bad (c.before.before.refuse.ensures a.image.now variables)
 
 refuse-requires-2 : tie.Need-refuse-requires-2
 refuse-requires-2 c κs = search rules
@@ -47,9 +47,9 @@ returns-2 c =
     let c8 = c.before.before.before.before.before.before.before.before in
     let c10 = c8.before.before in
     let a = c10.before.before.before.before.before.args in
-    let tape = read-tape _ c10.before.command.ensures c10.request-of.ensures _ c8.asked.given.1 in
+    let tape = read_tape _ c10.before.command.ensures c10.request-of.ensures _ c8.asked.given.1 in
     λ variables.
-    told-locked (held a.s a.image.now variables) a.command.now _ tape (not-true _ c.before.before.before.before.if1.true)
+    told_locked (held a.s a.image.now variables) a.command.now _ tape (not-true _ c.before.before.before.before.if1.true)
     (c.before.before.refuse2.ensures a.image.now variables)
 
 work-requires : tie.Need-work-requires
@@ -69,9 +69,9 @@ returns-3 c =
     let c11 = c.before.before.before.before.before.before.before.before.before.before.before in
     let c13 = c11.before.before in
     let a = c13.before.before.before.before.before.args in
-    let tape = read-tape _ c13.before.command.ensures c13.request-of.ensures _ c11.asked.given.1 in
+    let tape = read_tape _ c13.before.command.ensures c13.request-of.ensures _ c11.asked.given.1 in
     λ variables.
-    told-known (held a.s a.image.now variables) a.command.now _ tape (not-false _ c.before.before.before.before.before.before.before.if1.false)
+    told_known (held a.s a.image.now variables) a.command.now _ tape (not-false _ c.before.before.before.before.before.before.before.if1.false)
     (c.before.before.before.before.work.ensures variables)
 
 pub obey-spec : {M : Type 1} → statement M

@@ -3,7 +3,7 @@ use native.Mathlib.Omega.{arith}
 use mathlib.Core.Path.{refl}
 use Rattle.xdr_opaque.proofs.Laws.{then, put}
 use Rattle.wire_rmt.proofs.Replies.{accepted_fits}
-use Rattle.call_rmt.proofs.Commanding.{told-refused, told-accepted}
+use Rattle.call_rmt.proofs.Commanding.{told_refused, told_accepted}
 use borrow.Author.Rules.{rules}
 use Rattle.call_rmt.proofs.put_told.Statement.{statement}
 use Rattle.call_rmt.proofs.put_told.Tie as tie
@@ -20,7 +20,7 @@ same_length : tie.Need-same-length
 same_length c = search rules
 
 returns : tie.Need-returns
-returns c = told-refused _ _ _ c.before.before.before.before.if1.true c.before.before.Put-refused.ensures
+returns c = told_refused _ _ _ c.before.before.before.before.if1.true c.before.before.Put-refused.ensures
 
 put-accepted-requires : tie.Need-put-accepted-requires
 put-accepted-requires c κs = search rules
@@ -41,7 +41,7 @@ same-length-2 c = search rules
 returns-2 : tie.Need-returns-2
 returns-2 c =
     let c6 = c.before.before.before.before.before.before in
-    told-accepted _ _ _ c6.before.before.if1.false (then c6.put-accepted.ensures (put _ c.before.before.copy_blocks.ensures refl))
+    told_accepted _ _ _ c6.before.before.if1.false (then c6.put-accepted.ensures (put _ c.before.before.copy_blocks.ensures refl))
 
 pub put-told-spec : {M : Type 1} → statement M
 put-told-spec =

@@ -4,7 +4,7 @@ use native.Mathlib.Omega.{arith}
 use lib.ListN.{length}
 use Rattle.rules.specs.Answer.{held}
 use Rattle.rules.proofs.Guarding.{guard_goes}
-use Rattle.call_rmt.proofs.Commanding.{command-stopped, command-goes}
+use Rattle.call_rmt.proofs.Commanding.{command_stopped, command_goes}
 use borrow.Author.Rules.{rules}
 use Rattle.call_rmt.proofs.rmt.Statement.{statement}
 use Rattle.call_rmt.proofs.rmt.Tie as tie
@@ -27,7 +27,7 @@ returns : tie.Need-returns
 returns c =
     let a = c.before.before.before.before.before.before.before.before.args in
     λ variables.
-    command-stopped (held a.s a.image.now variables) (length a.out.now) a.command.now _
+    command_stopped (held a.s a.image.now variables) (length a.out.now) a.command.now _
     (sym c.before.before.guard2.given.1 ∙ c.before.before.before.before.guard.ensures) (c.quiet.ensures _ _ _)
 
 enum_told : tie.Need-enum-told
@@ -49,7 +49,7 @@ returns-2 c =
     let c7 = c.before.before.before.before.before.before.before in
     let a = c7.before.before.before.before.before.before.args in
     λ variables.
-    command-goes (held a.s a.image.now variables) (length a.out.now) a.command.now
+    command_goes (held a.s a.image.now variables) (length a.out.now) a.command.now
     (sym c7.enum_told.given.1 ∙ c7.before.before.guard.ensures) (c.before.before.before.before.obey.ensures variables)
 
 pub rmt-spec : {M : Type 1} → statement M

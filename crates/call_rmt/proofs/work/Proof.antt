@@ -1,7 +1,7 @@
 -- Refused, the image is as it was; accepted, it is the one that the step says.
 use native.Mathlib.Omega.{arith}
 use Rattle.rules.specs.Answer.{held}
-use Rattle.call_rmt.proofs.Commanding.{work-refused, work-accepted, work_sends}
+use Rattle.call_rmt.proofs.Commanding.{work_refused, work_accepted, work_sends}
 use borrow.Author.Rules.{rules}
 use Rattle.call_rmt.proofs.work.Statement.{statement}
 use Rattle.call_rmt.proofs.work.Tie as tie
@@ -50,7 +50,7 @@ returns c =
     let told = rw c.before.before.before.before.before.done.given.1 at c9.serve.ensures in
     λ variables.
     let k = held a.s a.image.now variables in
-    rw told.1 (work-refused k a.command.now a.q _ told.0 (c.before.before.refuse.ensures a.image.now variables))
+    rw told.1 (work_refused k a.command.now a.q _ told.0 (c.before.before.refuse.ensures a.image.now variables))
 
 same-length-3 : tie.Need-same-length-3
 same-length-3 c = search rules
@@ -66,7 +66,7 @@ returns-2 c =
     let told = rw c9.done2.given.1 at c13.serve.ensures in
     λ variables.
     let k = held a.s a.image.now variables in
-    work-accepted k a.command.now a.q _ _ told c.before.before.before.before.before.with-parts.ensures
+    work_accepted k a.command.now a.q _ _ told c.before.before.before.before.before.with-parts.ensures
     (c.before.before.tell.ensures variables)
 
 pub work-spec : {M : Type 1} → statement M

@@ -1,4 +1,4 @@
-use Rattle.changer_moves.proofs.Laws.{twice-here, twice-next, twice-end}
+use Rattle.changer_moves.proofs.Laws.{twice_here, twice_next, twice_end}
 use Rattle.changer_elements.specs.Slots.{names_none_twice, some_again}
 use borrow.Author.Rules.{rules}
 use mathlib.Core.Path.{◌≡◌, refl, sym, ◌∙◌}
@@ -24,7 +24,7 @@ is-again-requires : tie.Need-is-again-requires invariant-loop decreases-loop
 is-again-requires c κs = search rules
 
 returns : tie.Need-returns invariant-loop decreases-loop
-returns c = twice-here _ _ c.before.before.before.loop.invariant.1 c.before.before.loop-test.true (sym c.before.is-again.ensures ∙ c.if1.true)
+returns c = twice_here _ _ c.before.before.before.loop.invariant.1 c.before.before.loop-test.true (sym c.before.is-again.ensures ∙ c.if1.true)
 
 add-i : tie.Need-overflow-add-i invariant-loop decreases-loop
 add-i c = search rules
@@ -33,10 +33,10 @@ loop-less : tie.Need-loop-smaller invariant-loop decreases-loop
 loop-less c = search rules
 
 loop-again : tie.Need-loop-preserved invariant-loop decreases-loop
-loop-again c = (search rules, twice-next _ _ c.before.before.before.loop.invariant.1 c.before.before.loop-test.true (sym c.before.is-again.ensures ∙ c.if1.false))
+loop-again c = (search rules, twice_next _ _ c.before.before.before.loop.invariant.1 c.before.before.loop-test.true (sym c.before.is-again.ensures ∙ c.if1.false))
 
 returns-2 : tie.Need-returns-2 invariant-loop decreases-loop
-returns-2 c = twice-end _ _ c.before.loop.invariant.1 c.loop-test.false
+returns-2 c = twice_end _ _ c.before.loop.invariant.1 c.loop-test.false
 
 pub names-none-twice-spec : {M : Type 1} → statement M
 names-none-twice-spec =

@@ -1,6 +1,6 @@
 use borrow.Author.Tests.{not-true}
 use Rattle.xdr.proofs.Tests.{asked, yes}
-use Rattle.changer_status.proofs.Laws.{flags-none, flags-empty, flags_full}
+use Rattle.changer_status.proofs.Laws.{flags_none, flags_empty, flags_full}
 use native.Mathlib.Omega.{arith}
 use borrow.Author.Rules.{rules}
 use Rattle.changer_status.proofs.flags_of.Statement.{statement}
@@ -14,7 +14,7 @@ has-place-requires : tie.Need-has-place-requires
 has-place-requires c κs = search rules
 
 returns : tie.Need-returns
-returns c = (flags-none _ _ 0 (asked c.before.has-place.ensures (not-true _ c.if1.true)), omega arith)
+returns c = (flags_none _ _ 0 (asked c.before.has-place.ensures (not-true _ c.if1.true)), omega arith)
 
 place-of-requires : tie.Need-place-of-requires
 place-of-requires c κs = asked c.before.has-place.ensures (yes c.if1.false)
@@ -28,7 +28,7 @@ array-read-if2 c = search rules
 returns-2 : tie.Need-returns-2
 returns-2 c = let on = c.before.before in
     let has = asked on.before.has-place.ensures (yes on.if1.false) in
-    (flags-empty _ _ _ has c.before.place_of.ensures.0 c.if2.true, omega arith)
+    (flags_empty _ _ _ has c.before.place_of.ensures.0 c.if2.true, omega arith)
 
 returns-3 : tie.Need-returns-3
 returns-3 c = let on = c.before.before in

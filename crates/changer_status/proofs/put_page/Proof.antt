@@ -1,5 +1,5 @@
 -- The descriptors are written behind the header's place, and the header then knows their bytes.
-use Rattle.changer_status.proofs.Laws.{page-left, page-put}
+use Rattle.changer_status.proofs.Laws.{page_left, page_put}
 use Rattle.changer_elements.proofs.Bytes.{descriptors_length}
 use Rattle.changer_elements.specs.Status.{of_type}
 use native.Mathlib.Omega.{arith}
@@ -22,7 +22,7 @@ same_length : tie.Need-same-length
 same_length c = search rules
 
 returns : tie.Need-returns
-returns c = page-left _ _ _ _ _ _ _ c.before.before.before.put-descriptors.ensures c.if1.true
+returns c = page_left _ _ _ _ _ _ _ c.before.before.before.put-descriptors.ensures c.if1.true
 
 mul-t15 : tie.Need-overflow-mul-t15
 mul-t15 c = search rules
@@ -55,7 +55,7 @@ same-length-2 c = search rules
 returns-2 : tie.Need-returns-2
 returns-2 c = let put = c.before.before.before.before.before.before.before.before in
     let p = put.before.before.before.before.requires in
-    page-put _ _ _ _ _ _ _ put.put-descriptors.ensures _ c.before.before.before.before.before.if1.false p.2 p.0 p.1
+    page_put _ _ _ _ _ _ _ put.put-descriptors.ensures _ c.before.before.before.before.before.if1.false p.2 p.0 p.1
     c.before.before.write-words.ensures
 
 pub put-page-spec : {M : Type 1} → statement M

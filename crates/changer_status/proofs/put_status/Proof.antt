@@ -1,5 +1,5 @@
 -- The pages are written behind the header's place, one after another, and the header then knows their bytes.
-use Rattle.changer_status.proofs.Laws.{pages-end, status-put}
+use Rattle.changer_status.proofs.Laws.{pages_end, status_put}
 use Rattle.changer_elements.proofs.Bytes.{page_length, pages_most}
 use Rattle.changer_elements.specs.Status.{of_type}
 use native.Mathlib.Omega.{arith}
@@ -76,7 +76,7 @@ cast-t23 c = let three = c.before.before.before.before in
     let p = start.requires in
     omega (
       arith,
-      pages-end _ _ _ _ _ _ _ _ _ p.1 p.0 one.put-page.ensures two.put-page2.ensures three.put-page3.ensures,
+      pages_end _ _ _ _ _ _ _ _ _ p.1 p.0 one.put-page.ensures two.put-page2.ensures three.put-page3.ensures,
       pages_most start.args.slots start.args.es.now p.1.types,
     )
 
@@ -95,7 +95,7 @@ returns c = let three = c.before.before.before.before.before.before.before.befor
     let one = two.before.before.before.before in
     let p = one.before.before.before.before.requires in
     let first = c.before.before.before.before.before.first_of.ensures in
-    status-put _ _ _ _ _ _ _ _ _ p.1 p.0 one.put-page.ensures two.put-page2.ensures three.put-page3.ensures _ _
+    status_put _ _ _ _ _ _ _ _ _ p.1 p.0 one.put-page.ensures two.put-page2.ensures three.put-page3.ensures _ _
     first.0 first.1 (pages_most _ _ p.1.types) c.before.before.write-words.ensures
 
 pub put-status-spec : {M : Type 1} → statement M

@@ -1,5 +1,5 @@
 -- The list has what is reported of the elements that were looked at, and the rest is still to come.
-use Rattle.changer_status.proofs.Laws.{Reporting, reporting_start, reporting-more, reporting-skip, reporting_end, reporting_same, taken_as, some_left}
+use Rattle.changer_status.proofs.Laws.{Reporting, reporting_start, reporting_more, reporting_skip, reporting_end, reporting_same, taken_as, some_left}
 use borrow.Author.Rules.{rules}
 use native.Mathlib.Omega.{arith}
 use mathlib.Core.Logic.{⊎_elim}
@@ -61,8 +61,8 @@ loop-again c = let r = c.before.before.before.before.loop.invariant in
     let is = c.before.takes.ensures in
     let same = c.before.before.wide.ensures.0 in
     ⊎_elim
-    (λ w. reporting_same _ _ (reporting-more _ _ _ _ _ _ r on refl (taken_as _ _ _ is same w.0.taken)) w.1 w.2 w.3)
-    (λ w. reporting_same _ _ (reporting-skip _ _ _ _ _ _ r on refl (taken_as _ _ _ is same w.0.left)) w.1 w.2 w.3)
+    (λ w. reporting_same _ _ (reporting_more _ _ _ _ _ _ r on refl (taken_as _ _ _ is same w.0.taken)) w.1 w.2 w.3)
+    (λ w. reporting_same _ _ (reporting_skip _ _ _ _ _ _ r on refl (taken_as _ _ _ is same w.0.left)) w.1 w.2 w.3)
     c.if1.branch
 
 same_length : tie.Need-same-length invariant-loop decreases-loop

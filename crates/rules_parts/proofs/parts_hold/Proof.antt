@@ -2,7 +2,7 @@
 use Rattle.std.proofs.Common.{refl, arith}
 use Rattle.rules_parts.specs.Names.{endless}
 use Rattle.rules_parts.proofs.Addressing.{local_right, tcp_right, other_wrong, source_alone_lem, mover_alone_lem, source_joined, mover_joined_lem}
-use Rattle.rules_parts.proofs.Ending.{end_endless, end_other, right-length}
+use Rattle.rules_parts.proofs.Ending.{end_endless, end_other, right_length}
 use Rattle.rules_parts.proofs.parts_hold.Statement.{statement}
 use Rattle.rules_parts.proofs.parts_hold.Tie as tie
 use Rattle.rules_parts.proofs.parts_hold.Reads as reads
@@ -48,7 +48,7 @@ returns c =
         pending = λ slots c. (refl, refl, refl);
         opened = λ slots c. refl;
       };
-      untested = λ size offset h. right-length size offset endless (record { whole = λ n. absurd (n refl); starts = rw (end_endless offset endless refl) h; fits = rw (end_endless offset endless refl) (omega arith) });
+      untested = λ size offset h. right_length size offset endless (record { whole = λ n. absurd (n refl); starts = rw (end_endless offset endless refl) h; fits = rw (end_endless offset endless refl) (omega arith) });
     }
 
 pub parts-hold-spec : {M : Type 1} → statement M

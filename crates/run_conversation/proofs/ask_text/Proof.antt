@@ -2,7 +2,7 @@
 use mathlib.Core.Path.{sym}
 use native.Mathlib.Omega.{arith}
 use lib.Seq.{length-take-le}
-use Rattle.hex.proofs.Laws.{reads_within}
+use Rattle.hex_text.proofs.Laws.{reads_within}
 use borrow.Author.Rules.{rules}
 use Rattle.run_conversation.proofs.ask_text.Statement.{statement}
 use Rattle.run_conversation.proofs.ask_text.Tie as tie

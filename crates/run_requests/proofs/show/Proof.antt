@@ -1,6 +1,6 @@
 use mathlib.Core.Path.{sym, ◌∙◌}
 use native.Mathlib.Omega.{arith}
-use Rattle.wire_frame.proofs.Laws.{request-well}
+use Rattle.wire_frame.proofs.Laws.{request_well}
 use borrow.Author.Rules.{rules}
 use Rattle.run_requests.proofs.show.Statement.{statement}
 use Rattle.run_requests.proofs.show.Tie as tie
@@ -39,10 +39,10 @@ put-number-requires : tie.Need-put-number-requires
 put-number-requires c κs = search rules
 
 sub-show-request : tie.Need-overflow-sub-show-request
-sub-show-request c = omega (arith, request-well _ _ _ (sym c.before.before.before.f.given.1 ∙ c.before.before.before.before.before.read-frame.ensures))
+sub-show-request c = omega (arith, request_well _ _ _ (sym c.before.before.before.f.given.1 ∙ c.before.before.before.before.before.read-frame.ensures))
 
 part-show-request-start : tie.Need-slice-bounds-show-request-start
-part-show-request-start c = omega (arith, request-well _ _ _ (sym c.before.before.before.f.given.1 ∙ c.before.before.before.before.before.read-frame.ensures))
+part-show-request-start c = omega (arith, request_well _ _ _ (sym c.before.before.before.f.given.1 ∙ c.before.before.before.before.before.read-frame.ensures))
 
 part-show-request-end : tie.Need-slice-bounds-show-request-end
 part-show-request-end c = search rules

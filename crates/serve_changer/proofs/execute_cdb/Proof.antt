@@ -3,7 +3,7 @@ use mathlib.Core.Path.{sym}
 use Rattle.rules.specs.ScsiService.{scsi_cdb}
 use Rattle.rules.specs.Judge.{judge}
 use Rattle.xdr.proofs.Tests.{picking}
-use Rattle.serve_changer.proofs.Telling.{on-length}
+use Rattle.serve_changer.proofs.Telling.{on_length}
 use borrow.Author.Rules.{rules}
 use Rattle.serve_changer.proofs.execute_cdb.Statement.{statement}
 use Rattle.serve_changer.proofs.execute_cdb.Tie as tie
@@ -29,7 +29,7 @@ run-cdb-requires c κs = search rules
 returns-4 : tie.Need-returns-4
 returns-4 c =
     let a = c.before.before.before.before.before.before.args in
-    on-length a.tape a.c a.cdb.now a.room c.run-cdb.result
+    on_length a.tape a.c a.cdb.now a.room c.run-cdb.result
     c.before.before.before.if1.false c.before.before.if2.false c.before.if3.false c.run-cdb.ensures
 
 pub execute-cdb-spec : {M : Type 1} → statement M

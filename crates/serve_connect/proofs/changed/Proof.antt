@@ -25,7 +25,7 @@ returns : tie.Need-returns
 returns c = search rules
 
 returns-2 : tie.Need-returns-2
-returns-2 c = rw c.before.enum-told2.given.1 c.logged-in.ensures
+returns-2 c = rw c.before.enum-told2.given.1 c.logged_in.ensures
 
 returns-3 : tie.Need-returns-3
 returns-3 c = rw c.before.enum-told3.given.1 c.challenged-by.ensures

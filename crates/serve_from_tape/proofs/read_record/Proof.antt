@@ -1,7 +1,7 @@
 -- A wrong length is the fault's halt; else the bytes copied are those of the record from the place in it on.
 use Prim.Native.Nat.{◌+◌}
 use native.Mathlib.Omega.{arith}
-use Rattle.serve_from_tape.proofs.Handing.{read-wrong, read_right}
+use Rattle.serve_from_tape.proofs.Handing.{read_wrong, read_right}
 use borrow.Author.Rules.{rules}
 use Rattle.serve_from_tape.proofs.read_record.Statement.{statement}
 use Rattle.serve_from_tape.proofs.read_record.Tie as tie
@@ -25,7 +25,7 @@ halt-with-requires : tie.Need-halt-with-requires
 halt-with-requires c κs = search rules
 
 returns : tie.Need-returns
-returns c = read-wrong _ _ _ _ _ _ _ (λ e. c.before.if1.true (omega arith)) c.halt-with.ensures
+returns c = read_wrong _ _ _ _ _ _ _ (λ e. c.before.if1.true (omega arith)) c.halt-with.ensures
 
 into-record-requires : tie.Need-into-record-requires
 into-record-requires c κs = search rules

@@ -1,6 +1,6 @@
 -- Each return by what the walk found; a record that it found is an entry of the table.
 use Rattle.serve_seeking.proofs.Walk.{target_in}
-use Rattle.serve_from_tape.proofs.Handing.{on_target, on-mark, on-end}
+use Rattle.serve_from_tape.proofs.Handing.{on_target, on_mark, on_end}
 use borrow.Author.Rules.{rules}
 use Rattle.serve_from_tape.proofs.walk_back.Statement.{statement}
 use Rattle.serve_from_tape.proofs.walk_back.Tie as tie
@@ -53,10 +53,10 @@ returns : tie.Need-returns
 returns c = on_target _ _ _ _ _ _ _ _ (cc) c.before.before.read_record.ensures
 
 returns-2 : tie.Need-returns-2
-returns-2 c = on-mark _ _ _ _ _ _ _ (cc) c.pause-there.ensures
+returns-2 c = on_mark _ _ _ _ _ _ _ (cc) c.pause-there.ensures
 
 returns-3 : tie.Need-returns-3
-returns-3 c = on-end _ _ _ _ _ _ (cc) (cc)
+returns-3 c = on_end _ _ _ _ _ _ (cc) (cc)
 
 pub walk-back-spec : {M : Type 1} → statement M
 walk-back-spec =

@@ -1,6 +1,6 @@
 -- Each return by the end that the event names, and by that end's test.
 use Rattle.xdr.proofs.Tests.{pick_if, pick_else}
-use Rattle.serve_moves.proofs.Laws.{lost-mover, lost-source}
+use Rattle.serve_moves.proofs.Laws.{lost_mover, lost_source}
 use borrow.Author.Rules.{rules}
 use Rattle.serve_moves.proofs.lost_at.Statement.{statement}
 use Rattle.serve_moves.proofs.lost_at.Tie as tie
@@ -23,13 +23,13 @@ halt-mover-requires : tie.Need-halt-mover-requires
 halt-mover-requires c κs = search rules
 
 returns : tie.Need-returns
-returns c = lost-mover _ _ _ _ _ _ (cc) (cc) (pick_if _ c.before.if2.true c.halt-mover.ensures)
+returns c = lost_mover _ _ _ _ _ _ (cc) (cc) (pick_if _ c.before.if2.true c.halt_mover.ensures)
 
 no-move-requires : tie.Need-no-move-requires
 no-move-requires c κs = search rules
 
 returns-2 : tie.Need-returns-2
-returns-2 c = lost-mover _ _ _ _ _ _ (cc) (cc) (pick_else _ c.before.if2.false c.no_move.ensures)
+returns-2 c = lost_mover _ _ _ _ _ _ (cc) (cc) (pick_else _ c.before.if2.false c.no_move.ensures)
 
 is-joined-requires-2 : tie.Need-is-joined-requires-2
 is-joined-requires-2 c κs = search rules
@@ -41,13 +41,13 @@ halt-source-requires : tie.Need-halt-source-requires
 halt-source-requires c κs = search rules
 
 returns-3 : tie.Need-returns-3
-returns-3 c = lost-source _ _ _ _ _ _ (cc) (cc) (pick_if _ c.before.if3.true c.halt-source.ensures)
+returns-3 c = lost_source _ _ _ _ _ _ (cc) (cc) (pick_if _ c.before.if3.true c.halt-source.ensures)
 
 no-move-requires-2 : tie.Need-no-move-requires-2
 no-move-requires-2 c κs = search rules
 
 returns-4 : tie.Need-returns-4
-returns-4 c = lost-source _ _ _ _ _ _ (cc) (cc) (pick_else _ c.before.if3.false c.no-move2.ensures)
+returns-4 c = lost_source _ _ _ _ _ _ (cc) (cc) (pick_else _ c.before.if3.false c.no-move2.ensures)
 
 pub lost-at-spec : {M : Type 1} → statement M
 lost-at-spec =

@@ -1,7 +1,7 @@
 -- What is left of the walk from the origin is invariant, and the entries ahead get fewer; each way out is a case of the walk.
 use native.Mathlib.Omega.{arith}
 use borrow.Author.Rules.{rules}
-use Rattle.serve_seeking.proofs.Walk.{Walking, turn, found-end, found-mark, found_target}
+use Rattle.serve_seeking.proofs.Walk.{Walking, turn, found_end, found_mark, found_target}
 use Rattle.serve_seeking.proofs.find_record.Statement.{statement}
 use Rattle.serve_seeking.proofs.find_record.Tie as tie
 use Rattle.serve_seeking.proofs.find_record.Reads as reads
@@ -42,10 +42,10 @@ loop-again : tie.Need-loop-preserved invariant-loop decreases-loop
 loop-again c = turn c.before.before.before.before.loop.invariant c.before.before.before.if1.false (λ e. c.before.if2.false (omega arith)) c.if3.false
 
 returns : tie.Need-returns invariant-loop decreases-loop
-returns c = found-end c.before.loop.invariant c.if1.true
+returns c = found_end c.before.loop.invariant c.if1.true
 
 returns-2 : tie.Need-returns-2 invariant-loop decreases-loop
-returns-2 c = found-mark c.before.before.before.loop.invariant c.before.before.if1.false (omega arith)
+returns-2 c = found_mark c.before.before.before.loop.invariant c.before.before.if1.false (omega arith)
 
 returns-3 : tie.Need-returns-3 invariant-loop decreases-loop
 returns-3 c = found_target c.before.before.before.before.loop.invariant c.before.before.before.if1.false (λ e. c.before.if2.false (omega arith)) c.if3.true

@@ -2,7 +2,7 @@
 use borrow.Author.Rules.{rules}
 use borrow.Author.Tests.{not-true, not-false}
 use native.Mathlib.Omega.{arith}
-use Rattle.tape_calls.proofs.Laws.{header-whole, told-unsound, told-past, told-entry, entry-table}
+use Rattle.tape_calls.proofs.Laws.{header_whole, told_unsound, told_past, told_entry, entry_table}
 use Rattle.tape_calls.proofs.entry_at.Statement.{statement}
 use Rattle.tape_calls.proofs.entry_at.Tie as tie
 use Rattle.tape_calls.proofs.entry_at.Reads as reads
@@ -12,28 +12,28 @@ sound-requires : tie.Need-sound-requires
 sound-requires c κs = search rules
 
 returns : tie.Need-returns
-returns c = told-unsound _ _ _ c.before.sound.ensures (not-true _ c.if1.true)
+returns c = told_unsound _ _ _ c.before.sound.ensures (not-true _ c.if1.true)
 
 count-requires : tie.Need-count-requires
-count-requires c κs = header-whole _ 0 _ c.before.sound.ensures (not-false _ c.if1.false)
+count-requires c κs = header_whole _ 0 _ c.before.sound.ensures (not-false _ c.if1.false)
 
 returns-2 : tie.Need-returns-2
 returns-2 c =
-    told-past _ _ _ c.before.before.before.sound.ensures _ (not-false _ c.before.before.if1.false) c.before.count.ensures.is (omega arith)
+    told_past _ _ _ c.before.before.before.sound.ensures _ (not-false _ c.before.before.if1.false) c.before.count.ensures.is (omega arith)
 
 entry-len-requires : tie.Need-entry-len-requires
 entry-len-requires c κs =
-    entry-table _ _ _ c.before.before.before.sound.ensures _ (not-false _ c.before.before.if1.false) c.before.count.ensures.is (omega arith)
+    entry_table _ _ _ c.before.before.before.sound.ensures _ (not-false _ c.before.before.if1.false) c.before.count.ensures.is (omega arith)
 
 entry-start-requires : tie.Need-entry-start-requires
 entry-start-requires c κs =
-    entry-table _ _ _ c.before.before.before.before.sound.ensures _ (not-false _ c.before.before.before.if1.false)
+    entry_table _ _ _ c.before.before.before.before.sound.ensures _ (not-false _ c.before.before.before.if1.false)
     c.before.before.count.ensures.is (omega arith)
 
 returns-3 : tie.Need-returns-3
 returns-3 c =
-    told-entry _ _ _ c.before.before.before.before.before.sound.ensures _ (not-false _ c.before.before.before.before.if1.false)
-    c.before.before.before.count.ensures.is _ _ (omega arith) c.before.entry-len.ensures.is c.entry-start.ensures.is
+    told_entry _ _ _ c.before.before.before.before.before.sound.ensures _ (not-false _ c.before.before.before.before.if1.false)
+    c.before.before.before.count.ensures.is _ _ (omega arith) c.before.entry_len_lem.ensures.is c.entry_start_lem.ensures.is
 
 pub entry-at-spec : {M : Type 1} → statement M
 entry-at-spec =

@@ -1,7 +1,7 @@
 -- The bytes copied are those of the part that the operation tells; a buffer too short is refused first.
 use native.Mathlib.Omega.{arith}
 use borrow.Author.Rules.{rules}
-use Rattle.tape_calls.proofs.Laws.{read_within, handed-none, handed-all}
+use Rattle.tape_calls.proofs.Laws.{read_within, handed_none, handed_all}
 use Rattle.tape_calls.proofs.read_to.Statement.{statement}
 use Rattle.tape_calls.proofs.read_to.Tie as tie
 use Rattle.tape_calls.proofs.read_to.Reads as reads
@@ -13,7 +13,7 @@ read-requires : tie.Need-read-requires
 read-requires c κs = search rules
 
 returns : tie.Need-returns
-returns c = handed-none _ _ _ _ c.before.read.ensures _ c.if1.true
+returns c = handed_none _ _ _ _ c.before.read.ensures _ c.if1.true
 
 add-copy-blocks : tie.Need-overflow-add-copy-blocks
 add-copy-blocks c =
@@ -36,7 +36,7 @@ same_length : tie.Need-same-length
 same_length c = search rules
 
 returns-2 : tie.Need-returns-2
-returns-2 c = handed-all _ _ _ _ c.before.before.before.before.before.before.read.ensures _ _ (omega arith) c.before.before.copy_blocks.ensures
+returns-2 c = handed_all _ _ _ _ c.before.before.before.before.before.before.read.ensures _ _ (omega arith) c.before.before.copy_blocks.ensures
 
 pub read-to-spec : {M : Type 1} → statement M
 read-to-spec =

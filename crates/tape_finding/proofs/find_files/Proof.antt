@@ -2,9 +2,9 @@
 use mathlib.Core.Path.{sym}
 use native.Mathlib.Omega.{arith}
 use borrow.Author.Rules.{rules}
-use Rattle.tape_marks.proofs.Jump.{jump-done}
+use Rattle.tape_marks.proofs.Jump.{jump_done}
 use Rattle.tape_marks.proofs.Words.{length_words}
-use Rattle.tape_finding.proofs.Found.{found-end, found-mark}
+use Rattle.tape_finding.proofs.Found.{found_end, found_mark}
 use Rattle.tape_finding.proofs.find_files.Statement.{statement}
 use Rattle.tape_finding.proofs.find_files.Tie as tie
 use Rattle.tape_finding.proofs.find_files.Reads as reads
@@ -17,7 +17,7 @@ use Rattle.tape_finding.proofs.marks_before.Reads as marks-before-reads
 use Rattle.tape_finding.proofs.stops_at.Reads as stops-at-reads
 
 returns : tie.Need-returns
-returns c = sym (jump-done _ _ _ _ _ c.if1.true)
+returns c = sym (jump_done _ _ _ _ _ c.if1.true)
 
 marks-before-requires : tie.Need-marks-before-requires
 marks-before-requires c κs = search rules
@@ -37,7 +37,7 @@ cast-residue c = search rules
 returns-2 : tie.Need-returns-2
 returns-2 c =
     let tested = c.before.before in
-    found-end _ _ _ _ _ _ _ _ (length_words _ _ _) tested.before.marks-before.ensures.0 tested.marks-ahead.ensures _ c.end_of_lem.ensures c.before.if2.true
+    found_end _ _ _ _ _ _ _ _ (length_words _ _ _) tested.before.marks-before.ensures.0 tested.marks-ahead.ensures _ c.end_of_lem.ensures c.before.if2.true
 
 count-th-requires : tie.Need-count-th-requires
 count-th-requires c κs = let e = c.before.marks-ahead.ensures in (omega arith, omega arith, omega arith, omega arith)
@@ -51,7 +51,7 @@ stops-at-requires c κs = search rules
 returns-3 : tie.Need-returns-3
 returns-3 c =
     let tested = c.before.before.before.before in
-    found-mark _ _ _ _ _ _ _ _ (length_words _ _ _) tested.before.marks-before.ensures.0 tested.marks-ahead.ensures _ _ _ tested.before.before.if1.false
+    found_mark _ _ _ _ _ _ _ _ (length_words _ _ _) tested.before.marks-before.ensures.0 tested.marks-ahead.ensures _ _ _ tested.before.before.if1.false
     c.before.before.before.if2.false c.before.before.count-th.ensures.0 c.before.listed.ensures.is c.stops_at.ensures
 
 pub find-files-spec : {M : Type 1} → statement M

@@ -3,7 +3,7 @@ use Prim.Native.Nat.{◌≤◌}
 use native.Mathlib.Omega.{arith}
 use Rattle.tape_marks.specs.Marks.{words_at, before}
 use Rattle.tape_marks.proofs.Words.{length_words}
-use Rattle.tape_finding.proofs.Halves.{Between, turns, start, upper-less, lower-less, upper, lower, found}
+use Rattle.tape_finding.proofs.Halves.{Between, turns, start, upper_less, lower_less, upper, lower, found}
 use Rattle.tape_finding.proofs.marks_before.Statement.{statement}
 use Rattle.tape_finding.proofs.marks_before.Tie as tie
 use Rattle.tape_finding.proofs.marks_before.Reads as reads
@@ -32,7 +32,7 @@ add_low : tie.Need-overflow-add-low invariant-loop decreases-loop
 add_low c = omega arith
 
 loop-less : tie.Need-loop-smaller invariant-loop decreases-loop
-loop-less c = upper-less _ _ c.before.before.loop-test.true (omega arith)
+loop-less c = upper_less _ _ c.before.before.loop-test.true (omega arith)
 
 loop-again : tie.Need-loop-preserved invariant-loop decreases-loop
 loop-again c =
@@ -43,7 +43,7 @@ loop-again c =
     )
 
 loop-less-2 : tie.Need-loop-smaller-2 invariant-loop decreases-loop
-loop-less-2 c = lower-less _ _ c.before.before.loop-test.true (omega arith)
+loop-less-2 c = lower_less _ _ c.before.before.loop-test.true (omega arith)
 
 loop-again-2 : tie.Need-loop-preserved-2 invariant-loop decreases-loop
 loop-again-2 c =

@@ -3,7 +3,7 @@ use Prim.Native.Nat.{◌-◌}
 use native.Mathlib.Omega.{arith}
 use Rattle.tape_marks.specs.Marks.{words_at}
 use Rattle.tape_marks.proofs.Words.{length_words}
-use Rattle.tape_finding.proofs.Judging.{Judged, judged_start, judged-end, judged-pass, judged-short, judged-other, judged-next}
+use Rattle.tape_finding.proofs.Judging.{Judged, judged_start, judged_end, judged_pass, judged_short, judged_other, judged_next}
 use Rattle.tape_finding.proofs.names_marks.Statement.{statement}
 use Rattle.tape_finding.proofs.names_marks.Tie as tie
 use Rattle.tape_finding.proofs.names_marks.Reads as reads
@@ -29,7 +29,7 @@ add-i c = omega arith
 returns : tie.Need-returns invariant-loop decreases-loop
 returns c =
     let turn = c.before.before.before in
-    judged-short _ _ _ _ _ _ (length_words _ _ _) turn.before.loop.invariant turn.loop-test.true (cc) c.if2.true
+    judged_short _ _ _ _ _ _ (length_words _ _ _) turn.before.loop.invariant turn.loop-test.true (cc) c.if2.true
 
 listed-requires : tie.Need-listed-requires invariant-loop decreases-loop
 listed-requires c κs = (omega arith, omega arith, omega arith)
@@ -37,7 +37,7 @@ listed-requires c κs = (omega arith, omega arith, omega arith)
 returns-2 : tie.Need-returns-2 invariant-loop decreases-loop
 returns-2 c =
     let turn = c.before.before.before.before.before in
-    judged-other _ _ _ _ _ _ (length_words _ _ _) turn.before.loop.invariant turn.loop-test.true (cc) c.before.before.if2.false (λ e. c.if3.true (cc))
+    judged_other _ _ _ _ _ _ (length_words _ _ _) turn.before.loop.invariant turn.loop-test.true (cc) c.before.before.if2.false (λ e. c.if3.true (cc))
 
 add-j : tie.Need-overflow-add-j invariant-loop decreases-loop
 add-j c = omega arith
@@ -48,7 +48,7 @@ loop-less c = omega arith
 loop-again : tie.Need-loop-preserved invariant-loop decreases-loop
 loop-again c =
     let turn = c.before.before.before.before.before in
-    judged-next _ _ _ _ _ _ (length_words _ _ _) turn.before.loop.invariant turn.loop-test.true (cc) c.before.before.if2.false (cc)
+    judged_next _ _ _ _ _ _ (length_words _ _ _) turn.before.loop.invariant turn.loop-test.true (cc) c.before.before.if2.false (cc)
 
 loop-less-2 : tie.Need-loop-smaller-2 invariant-loop decreases-loop
 loop-less-2 c = omega arith
@@ -56,10 +56,10 @@ loop-less-2 c = omega arith
 loop-again-2 : tie.Need-loop-preserved-2 invariant-loop decreases-loop
 loop-again-2 c =
     let turn = c.before.before in
-    judged-pass _ _ _ _ _ _ (length_words _ _ _) turn.before.loop.invariant turn.loop-test.true (λ e. c.if1.false (cc))
+    judged_pass _ _ _ _ _ _ (length_words _ _ _) turn.before.loop.invariant turn.loop-test.true (λ e. c.if1.false (cc))
 
 returns-3 : tie.Need-returns-3 invariant-loop decreases-loop
-returns-3 c = judged-end _ _ _ _ _ _ (length_words _ _ _) c.before.loop.invariant c.loop-test.false
+returns-3 c = judged_end _ _ _ _ _ _ (length_words _ _ _) c.before.loop.invariant c.loop-test.false
 
 pub names-marks-spec : {M : Type 1} → statement M
 names-marks-spec =

@@ -1,5 +1,5 @@
 -- The end, a mark and a record are a law each; the tests say which holds.
-use Rattle.tape_ops.proofs.Laws.{at_end, at_mark, at-record}
+use Rattle.tape_ops.proofs.Laws.{at_end, at_mark, at_record}
 use borrow.Author.Rules.{rules}
 use Rattle.tape_ops.proofs.entry_part.Statement.{statement}
 use Rattle.tape_ops.proofs.entry_part.Tie as tie
@@ -42,7 +42,7 @@ lesser-len-requires : tie.Need-lesser-len-requires
 lesser-len-requires c κs = search rules
 
 returns-3 : tie.Need-returns-3
-returns-3 c = at-record _ _ _ _ _ (λ e. c.before.before.before.before.before.if1.false (cc)) (λ e. c.before.before.before.if2.false (cc)) (cc) (cc)
+returns-3 c = at_record _ _ _ _ _ (λ e. c.before.before.before.before.before.if1.false (cc)) (λ e. c.before.before.before.if2.false (cc)) (cc) (cc)
 
 pub entry-part-spec : {M : Type 1} → statement M
 entry-part-spec =

@@ -4,7 +4,7 @@ use Rattle.tape_ops.proofs.Telling.{told_else}
 use native.Mathlib.Omega.{arith}
 use Rattle.tape_ops.specs.Operations.{write_step}
 use Rattle.tape_ops.proofs.Telling.{telling}
-use Rattle.tape_ops.proofs.Laws.{no_fault_here, told-room, told_full}
+use Rattle.tape_ops.proofs.Laws.{no_fault_here, told_room, told_full}
 use borrow.Author.Rules.{rules}
 use Rattle.tape_ops.proofs.write.Statement.{statement}
 use Rattle.tape_ops.proofs.write.Tie as tie
@@ -51,7 +51,7 @@ unfolding write_step
 returns-4 c =
     let d = c.before.before.before.before.before in
     told_else _ (ltb_no d.before.before.before.before.if1.false) (told_else _ (asked d.before.before.is-faulty.ensures d.before.if2.false)
-    (told_else _ (eqb_no d.if3.false) (told-room _ _ _ _ _ c.before.before.before.write-filled.ensures c.if4.true)))
+    (told_else _ (eqb_no d.if3.false) (told_room _ _ _ _ _ c.before.before.before.write-filled.ensures c.if4.true)))
 
 same-length-4 : tie.Need-same-length-4
 same-length-4 c = search rules

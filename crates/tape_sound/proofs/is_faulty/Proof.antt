@@ -5,7 +5,7 @@ use mathlib.Core.Bool.{true}
 use native.Mathlib.Omega.{arith}
 use Rattle.tape_image.specs.Image.{is_sound}
 use Rattle.tape_image.specs.Sound.{Sound}
-use Rattle.tape_image.proofs.Laws.{sound_facts, fault-unsound, fault-above, fault-none}
+use Rattle.tape_image.proofs.Laws.{sound_facts, fault_unsound, fault_above, fault_none}
 use Rattle.tape_sound.proofs.is_faulty.Statement.{statement}
 use Rattle.tape_sound.proofs.is_faulty.Tie as tie
 use Rattle.tape_sound.proofs.is_faulty.Reads as reads
@@ -23,13 +23,13 @@ count-requires : tie.Need-count-requires
 count-requires c κs = let f = sound_facts _ (sound_here c) in omega arith
 
 returns : tie.Need-returns
-returns c = fault-above _ _ (sound_here c.before.before) (omega arith)
+returns c = fault_above _ _ (sound_here c.before.before) (omega arith)
 
 returns-2 : tie.Need-returns-2
-returns-2 c = fault-none _ _ (sound_here c.before.before) (omega arith)
+returns-2 c = fault_none _ _ (sound_here c.before.before) (omega arith)
 
 returns-3 : tie.Need-returns-3
-returns-3 c = fault-unsound _ _ (cc)
+returns-3 c = fault_unsound _ _ (cc)
 
 pub is-faulty-spec : {M : Type 1} → statement M
 is-faulty-spec = tie.close (tie.spec sound-requires count-requires returns returns-2 returns-3)

@@ -6,7 +6,7 @@ use native.Mathlib.Omega.{arith}
 use borrow.Author.Rules.{rules}
 use Rattle.codes.specs.Codes.{longest_record}
 use Rattle.tape_image.specs.Image.{table_ok}
-use Rattle.tape_image.proofs.Laws.{table-long, table-gap, table-next, table_end}
+use Rattle.tape_image.proofs.Laws.{table_long, table_gap, table_next, table_end}
 use Rattle.tape_sound.proofs.table_sound.Statement.{statement}
 use Rattle.tape_sound.proofs.table_sound.Tie as tie
 use Rattle.tape_sound.proofs.table_sound.Reads as reads
@@ -31,10 +31,10 @@ entry-start-requires : tie.Need-entry-start-requires invariant-loop decreases-lo
 entry-start-requires c κs = search rules
 
 returns : tie.Need-returns invariant-loop decreases-loop
-returns c = sym (c.before.before.before.before.loop.invariant.2 ∙ table-long _ _ _ _ _ (omega arith) (omega arith))
+returns c = sym (c.before.before.before.before.loop.invariant.2 ∙ table_long _ _ _ _ _ (omega arith) (omega arith))
 
 returns-2 : tie.Need-returns-2 invariant-loop decreases-loop
-returns-2 c = sym (c.before.before.before.before.before.loop.invariant.2 ∙ table-gap _ _ _ _ _ (omega arith) (omega arith) (λ e. c.if2.true (cc)))
+returns-2 c = sym (c.before.before.before.before.before.loop.invariant.2 ∙ table_gap _ _ _ _ _ (omega arith) (omega arith) (λ e. c.if2.true (cc)))
 
 add-sum : tie.Need-overflow-add-sum invariant-loop decreases-loop
 add-sum c = search rules
@@ -46,7 +46,7 @@ loop-less : tie.Need-loop-smaller invariant-loop decreases-loop
 loop-less c = search rules
 
 loop-again : tie.Need-loop-preserved invariant-loop decreases-loop
-loop-again c = (search rules, search rules, c.before.before.before.before.before.loop.invariant.2 ∙ table-next _ _ _ _ _ (omega arith) (omega arith) (cc) ∙ (cc))
+loop-again c = (search rules, search rules, c.before.before.before.before.before.loop.invariant.2 ∙ table_next _ _ _ _ _ (omega arith) (omega arith) (cc) ∙ (cc))
 
 returns-3 : tie.Need-returns-3 invariant-loop decreases-loop
 returns-3 c = sym (c.before.loop.invariant.2 ∙ table_end _ _ _ _ _ (omega arith))

@@ -5,7 +5,7 @@ use Prim.Native.Nat.{◌-◌, ◌≤◌}
 use lib.ListN.{length}
 use Rattle.tape_files.specs.Thinning.{are_named}
 use Rattle.tape_thinning.specs.Walk.{named_at}
-use Rattle.tape_thinning.proofs.Laws.{named_start, named-low, named-high, named_next, named_end}
+use Rattle.tape_thinning.proofs.Laws.{named_start, named_low, named_high, named_next, named_end}
 use borrow.Author.Rules.{rules}
 use Rattle.tape_thinning.proofs.are_named.Statement.{statement}
 use Rattle.tape_thinning.proofs.are_named.Tie as tie
@@ -32,10 +32,10 @@ wide-requires : tie.Need-wide-requires invariant-loop decreases-loop
 wide-requires c κs = search rules
 
 returns : tie.Need-returns invariant-loop decreases-loop
-returns c = sym (c.before.before.before.before.loop.invariant.2 ∙ named-low _ _ _ _ _ (omega arith) refl (omega arith))
+returns c = sym (c.before.before.before.before.loop.invariant.2 ∙ named_low _ _ _ _ _ (omega arith) refl (omega arith))
 
 returns-2 : tie.Need-returns-2 invariant-loop decreases-loop
-returns-2 c = sym (c.before.before.before.before.before.loop.invariant.2 ∙ named-high _ _ _ _ _ (omega arith) refl (omega arith) (omega arith))
+returns-2 c = sym (c.before.before.before.before.before.loop.invariant.2 ∙ named_high _ _ _ _ _ (omega arith) refl (omega arith) (omega arith))
 
 add-from : tie.Need-overflow-add-from invariant-loop decreases-loop
 add-from c = search rules

@@ -2,7 +2,7 @@
 use native.Mathlib.Omega.{arith}
 use mathlib.Core.Path.{refl}
 use Prim.Native.Nat.{◌+◌}
-use Rattle.tape_thinning.proofs.Laws.{part-within, part-short, copied}
+use Rattle.tape_thinning.proofs.Laws.{part_within, part_short, copied}
 use borrow.Author.Rules.{rules}
 use Rattle.tape_thinning.proofs.copy_entry.Statement.{statement}
 use Rattle.tape_thinning.proofs.copy_entry.Tie as tie
@@ -35,16 +35,16 @@ part-write-filled-start : tie.Need-slice-bounds-write-filled-start
 part-write-filled-start c = search rules
 
 part-write-filled-end : tie.Need-slice-bounds-write-filled-end
-part-write-filled-end c = let w = part-within _ _ _ _ c.before.before.before.before.before.before.requires in omega arith
+part-write-filled-end c = let w = part_within _ _ _ _ c.before.before.before.before.before.before.requires in omega arith
 
 write-filled-requires : tie.Need-write-filled-requires
-write-filled-requires c κs = let s = part-short _ _ _ _ c.before.before.before.before.before.before.before.requires in (search rules, search rules, omega arith)
+write-filled-requires c κs = let s = part_short _ _ _ _ c.before.before.before.before.before.before.before.requires in (search rules, search rules, omega arith)
 
 same_length : tie.Need-same-length
 same_length c = search rules
 
 returns : tie.Need-returns
-returns c = copied _ _ _ _ c.before.before.before.before.before.before.before.before.before.before.requires (c.before.before.before.before.before.before.body_at.result + c.before.before.before.before.before.entry-start.result) ((c.before.before.before.before.before.before.body_at.result + c.before.before.before.before.before.entry-start.result) + c.before.before.before.before.before.before.before.entry-len.result) c.before.before.before.before.before.before.before.entry-len.result _ _ c.before.before.write-filled.ensures (omega arith) refl (omega arith)
+returns c = copied _ _ _ _ c.before.before.before.before.before.before.before.before.before.before.requires (c.before.before.before.before.before.before.body_at.result + c.before.before.before.before.before.entry_start_lem.result) ((c.before.before.before.before.before.before.body_at.result + c.before.before.before.before.before.entry_start_lem.result) + c.before.before.before.before.before.before.before.entry_len_lem.result) c.before.before.before.before.before.before.before.entry_len_lem.result _ _ c.before.before.write-filled.ensures (omega arith) refl (omega arith)
 
 pub copy-entry-spec : {M : Type 1} → statement M
 copy-entry-spec =

@@ -1,6 +1,6 @@
 -- Each test that fails leaves no room.
 use native.Mathlib.Omega.{arith}
-use Rattle.tape_thinning.proofs.Laws.{room-few, room-short, room_there}
+use Rattle.tape_thinning.proofs.Laws.{room_few, room_short, room_there}
 use borrow.Author.Rules.{rules}
 use Rattle.tape_thinning.proofs.has_room.Statement.{statement}
 use Rattle.tape_thinning.proofs.has_room.Tie as tie
@@ -16,13 +16,13 @@ capacity-requires : tie.Need-capacity-requires
 capacity-requires c κs = search rules
 
 returns : tie.Need-returns
-returns c = room-few _ _ _ (omega arith)
+returns c = room_few _ _ _ (omega arith)
 
 sub-if2 : tie.Need-overflow-sub-if2
 sub-if2 c = search rules
 
 returns-2 : tie.Need-returns-2
-returns-2 c = room-short _ _ _ (omega arith) (omega arith)
+returns-2 c = room_short _ _ _ (omega arith) (omega arith)
 
 returns-3 : tie.Need-returns-3
 returns-3 c = room_there _ _ _ (omega arith) (omega arith)

@@ -1,6 +1,6 @@
 -- Which test failed, or that none did, picks the case, by a law for each.
 use native.Mathlib.Omega.{arith}
-use Rattle.tape_thinning.proofs.Laws.{sound_so, told-source, told-second, told-number, told-room, files-ready, told-done}
+use Rattle.tape_thinning.proofs.Laws.{sound_so, told_source, told_second, told_number, told_room, files_ready, told_done}
 use borrow.Author.Rules.{rules}
 use Rattle.tape_thinning.proofs.thin.Statement.{statement}
 use Rattle.tape_thinning.proofs.thin.Tie as tie
@@ -17,7 +17,7 @@ sound-requires : tie.Need-sound-requires
 sound-requires c κs = search rules
 
 returns : tie.Need-returns
-returns c = told-source _ _ _ _ c.before.sound.ensures c.if1.true
+returns c = told_source _ _ _ _ c.before.sound.ensures c.if1.true
 
 sound-requires-2 : tie.Need-sound-requires-2
 sound-requires-2 c κs = search rules
@@ -26,7 +26,7 @@ same_length : tie.Need-same-length
 same_length c = search rules
 
 returns-2 : tie.Need-returns-2
-returns-2 c = told-second _ _ _ _ c.before.sound2.ensures c.if2.true
+returns-2 c = told_second _ _ _ _ c.before.sound2.ensures c.if2.true
 
 measure-requires : tie.Need-measure-requires
 measure-requires c κs = sound_so _ _ c.before.before.before.before.sound.ensures c.before.before.before.if1.false
@@ -38,7 +38,7 @@ same-length-2 : tie.Need-same-length-2
 same-length-2 c = search rules
 
 returns-3 : tie.Need-returns-3
-returns-3 c = told-number _ _ _ _ _ c.before.before.before.before.before.before.before.sound.ensures c.before.before.before.before.before.before.if1.false c.before.before.before.before.sound2.ensures c.before.before.before.if2.false _ c.before.before.measure.ensures _ c.before.are-named.ensures c.if3.true
+returns-3 c = told_number _ _ _ _ _ c.before.before.before.before.before.before.before.sound.ensures c.before.before.before.before.before.before.if1.false c.before.before.before.before.sound2.ensures c.before.before.before.if2.false _ c.before.before.measure.ensures _ c.before.are_named.ensures c.if3.true
 
 has-room-requires : tie.Need-has-room-requires
 has-room-requires c κs = sound_so _ _ c.before.before.before.before.before.sound2.ensures c.before.before.before.before.if2.false
@@ -47,19 +47,19 @@ same-length-3 : tie.Need-same-length-3
 same-length-3 c = search rules
 
 returns-4 : tie.Need-returns-4
-returns-4 c = told-room _ _ _ _ _ c.before.before.before.before.before.before.before.before.before.before.sound.ensures c.before.before.before.before.before.before.before.before.before.if1.false c.before.before.before.before.before.before.before.sound2.ensures c.before.before.before.before.before.before.if2.false _ c.before.before.before.before.before.measure.ensures _ c.before.before.before.before.are-named.ensures c.before.before.before.if3.false _ c.before.has_room.ensures c.if4.true
+returns-4 c = told_room _ _ _ _ _ c.before.before.before.before.before.before.before.before.before.before.sound.ensures c.before.before.before.before.before.before.before.before.before.if1.false c.before.before.before.before.before.before.before.sound2.ensures c.before.before.before.before.before.before.if2.false _ c.before.before.before.before.before.measure.ensures _ c.before.before.before.before.are_named.ensures c.before.before.before.if3.false _ c.before.has_room.ensures c.if4.true
 
 empty-requires : tie.Need-empty-requires
 empty-requires c κs = sound_so _ _ c.before.before.before.before.before.before.before.before.sound2.ensures c.before.before.before.before.before.before.before.if2.false
 
 copy-files-requires : tie.Need-copy-files-requires
-copy-files-requires c κs = (sound_so _ _ c.before.before.before.before.before.before.before.before.before.before.before.before.before.before.before.sound.ensures c.before.before.before.before.before.before.before.before.before.before.before.before.before.before.if1.false, files-ready _ _ _ _ _ c.before.before.before.before.before.before.before.before.before.before.before.before.before.before.before.sound.ensures c.before.before.before.before.before.before.before.before.before.before.before.before.before.before.if1.false c.before.before.before.before.before.before.before.before.before.before.before.before.sound2.ensures c.before.before.before.before.before.before.before.before.before.before.before.if2.false _ c.before.before.before.before.before.before.before.before.before.before.measure.ensures _ c.before.before.before.before.before.before.before.before.before.are-named.ensures c.before.before.before.before.before.before.before.before.if3.false _ c.before.before.before.before.before.before.has_room.ensures c.before.before.before.before.before.if4.false _ c.before.before.before.empty.ensures)
+copy-files-requires c κs = (sound_so _ _ c.before.before.before.before.before.before.before.before.before.before.before.before.before.before.before.sound.ensures c.before.before.before.before.before.before.before.before.before.before.before.before.before.before.if1.false, files_ready _ _ _ _ _ c.before.before.before.before.before.before.before.before.before.before.before.before.before.before.before.sound.ensures c.before.before.before.before.before.before.before.before.before.before.before.before.before.before.if1.false c.before.before.before.before.before.before.before.before.before.before.before.before.sound2.ensures c.before.before.before.before.before.before.before.before.before.before.before.if2.false _ c.before.before.before.before.before.before.before.before.before.before.measure.ensures _ c.before.before.before.before.before.before.before.before.before.are_named.ensures c.before.before.before.before.before.before.before.before.if3.false _ c.before.before.before.before.before.before.has_room.ensures c.before.before.before.before.before.if4.false _ c.before.before.before.empty.ensures)
 
 same-length-4 : tie.Need-same-length-4
 same-length-4 c = search rules
 
 returns-5 : tie.Need-returns-5
-returns-5 c = told-done _ _ _ _ _ c.before.before.before.before.before.before.before.before.before.before.before.before.before.before.before.before.before.before.sound.ensures c.before.before.before.before.before.before.before.before.before.before.before.before.before.before.before.before.before.if1.false c.before.before.before.before.before.before.before.before.before.before.before.before.before.before.before.sound2.ensures c.before.before.before.before.before.before.before.before.before.before.before.before.before.before.if2.false _ c.before.before.before.before.before.before.before.before.before.before.before.before.before.measure.ensures _ c.before.before.before.before.before.before.before.before.before.before.before.before.are-named.ensures c.before.before.before.before.before.before.before.before.before.before.before.if3.false _ c.before.before.before.before.before.before.before.before.before.has_room.ensures c.before.before.before.before.before.before.before.before.if4.false _ _ c.before.before.before.before.before.before.empty.ensures c.before.before.copy-files.ensures
+returns-5 c = told_done _ _ _ _ _ c.before.before.before.before.before.before.before.before.before.before.before.before.before.before.before.before.before.before.sound.ensures c.before.before.before.before.before.before.before.before.before.before.before.before.before.before.before.before.before.if1.false c.before.before.before.before.before.before.before.before.before.before.before.before.before.before.before.sound2.ensures c.before.before.before.before.before.before.before.before.before.before.before.before.before.before.if2.false _ c.before.before.before.before.before.before.before.before.before.before.before.before.before.measure.ensures _ c.before.before.before.before.before.before.before.before.before.before.before.before.are_named.ensures c.before.before.before.before.before.before.before.before.before.before.before.if3.false _ c.before.before.before.before.before.before.before.before.before.has_room.ensures c.before.before.before.before.before.before.before.before.if4.false _ _ c.before.before.before.before.before.before.empty.ensures c.before.before.copy-files.ensures
 
 pub thin-spec : {M : Type 1} → statement M
 thin-spec =

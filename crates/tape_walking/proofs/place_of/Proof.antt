@@ -4,7 +4,7 @@ use mathlib.Core.Path.{◌≡◌, refl, sym, ap, ◌∙◌}
 use native.Mathlib.Omega.{arith}
 use borrow.Author.Rules.{rules}
 use Rattle.tape_image.specs.Place.{marks_before, records_since}
-use Rattle.tape_walking.proofs.PlaceLaws.{marks-mark, records-mark, marks-record, records-record}
+use Rattle.tape_walking.proofs.PlaceLaws.{marks_mark, records_mark, marks_record, records_record}
 use Rattle.tape_walking.proofs.place_of.Statement.{statement}
 use Rattle.tape_walking.proofs.place_of.Tie as tie
 use Rattle.tape_walking.proofs.place_of.Reads as reads
@@ -38,7 +38,7 @@ loop-again : tie.Need-loop-preserved invariant-loop decreases-loop
 loop-again c =
     let at-loop = c.before.before.before in
     let l = at-loop.before.before.args.image.now in
-    (search rules, search rules, search rules, cc (marks-mark l at-loop.loop.i (cc)), cc (records-mark l at-loop.loop.i (cc)))
+    (search rules, search rules, search rules, cc (marks_mark l at-loop.loop.i (cc)), cc (records_mark l at-loop.loop.i (cc)))
 
 add-block : tie.Need-overflow-add-block invariant-loop decreases-loop
 add-block c = search rules
@@ -50,7 +50,7 @@ loop-again-2 : tie.Need-loop-preserved-2 invariant-loop decreases-loop
 loop-again-2 c =
     let at-loop = c.before.before.before in
     let l = at-loop.before.before.args.image.now in
-    (search rules, search rules, search rules, cc (marks-record l at-loop.loop.i (λ e. c.if1.false (cc))), cc (records-record l at-loop.loop.i (λ e. c.if1.false (cc))))
+    (search rules, search rules, search rules, cc (marks_record l at-loop.loop.i (λ e. c.if1.false (cc))), cc (records_record l at-loop.loop.i (λ e. c.if1.false (cc))))
 
 returns : tie.Need-returns invariant-loop decreases-loop
 returns c =

@@ -6,7 +6,7 @@ use native.Mathlib.Omega.{arith}
 use borrow.Author.Rules.{rules}
 use Rattle.tape_image.specs.Image.{count}
 use Rattle.tape_spacing.specs.Spacing.{walk, ahead_of, passes, position_after}
-use Rattle.tape_spacing.proofs.Laws.{passes-below, after-within, after-ahead, walk-done, walk_end, walk-stop, walk-mark, walk-pass, walk-record}
+use Rattle.tape_spacing.proofs.Laws.{passes_below, after_within, after_ahead, walk_done, walk_end, walk_stop, walk_mark, walk_pass, walk_record}
 use Rattle.tape_spacing.specs.Spacing.{spacing}
 use Rattle.tape_walking.proofs.space.Statement.{statement}
 use Rattle.tape_walking.proofs.space.Tie as tie
@@ -43,7 +43,7 @@ below : (c : tie.After-entry-passed invariant-loop decreases-loop) → c.entry-p
 below c =
     let at-loop = c.before.before.before in
     rw c.entry-passed.ensures
-    (passes-below _ _ _ c.before.if2.false _ at-loop.loop.invariant.0 at-loop.loop.invariant.1)
+    (passes_below _ _ _ c.before.if2.false _ at-loop.loop.invariant.0 at-loop.loop.invariant.1)
 
 -- the step stays in the table
 kept : (c : tie.After-position-after invariant-loop decreases-loop)
@@ -54,8 +54,8 @@ kept : (c : tie.After-position-after invariant-loop decreases-loop)
 kept c =
     let at-loop = c.before.before.before.before.before in
     let some = c.before.before.before.if2.false in (
-      rw c.position-after.ensures (after-within _ _ _ some _ at-loop.loop.invariant.0 at-loop.loop.invariant.1),
-      rw c.position-after.ensures (after-ahead _ _ _ some _ at-loop.loop.invariant.0 at-loop.loop.invariant.1),
+      rw c.position-after.ensures (after_within _ _ _ some _ at-loop.loop.invariant.0 at-loop.loop.invariant.1),
+      rw c.position-after.ensures (after_ahead _ _ _ some _ at-loop.loop.invariant.0 at-loop.loop.invariant.1),
     )
 
 entry-len-requires : tie.Need-entry-len-requires invariant-loop decreases-loop
@@ -81,7 +81,7 @@ loop-again c =
       k.0,
       k.1,
       at-loop.loop.invariant.2
-          ∙ walk-mark _ _ _ _ _ _ _ c.before.before.before.before.before.before.if1.false more c.if4.true (cc) ∙ (cc),
+          ∙ walk_mark _ _ _ _ _ _ _ c.before.before.before.before.before.before.if1.false more c.if4.true (cc) ∙ (cc),
     )
 
 loop-less-2 : tie.Need-loop-smaller-2 invariant-loop decreases-loop
@@ -95,7 +95,7 @@ loop-again-2 c =
       k.0,
       k.1,
       at-loop.loop.invariant.2
-          ∙ walk-pass _ _ _ _ _ _ _ c.before.before.before.before.before.before.if1.false more c.if5.true (λ e. c.before.if3.false (cc)) ∙ (cc),
+          ∙ walk_pass _ _ _ _ _ _ _ c.before.before.before.before.before.before.if1.false more c.if5.true (λ e. c.before.if3.false (cc)) ∙ (cc),
     )
 
 sub-left-2 : tie.Need-overflow-sub-left-2 invariant-loop decreases-loop
@@ -112,12 +112,12 @@ loop-again-3 c =
       k.0,
       k.1,
       at-loop.loop.invariant.2
-          ∙ walk-record _ _ _ _ _ _ _ c.before.before.before.before.before.before.if1.false more c.if5.false (λ e. c.before.if3.false (cc)) ∙ (cc),
+          ∙ walk_record _ _ _ _ _ _ _ c.before.before.before.before.before.before.if1.false more c.if5.false (λ e. c.before.if3.false (cc)) ∙ (cc),
     )
 
 returns : tie.Need-returns invariant-loop decreases-loop
 unfolding spacing
-returns c = (sym (c.before.loop.invariant.2 ∙ walk-done _ _ _ _ _ _ c.if1.true))
+returns c = (sym (c.before.loop.invariant.2 ∙ walk_done _ _ _ _ _ _ c.if1.true))
 
 returns-2 : tie.Need-returns-2 invariant-loop decreases-loop
 unfolding spacing
@@ -128,7 +128,7 @@ unfolding spacing
 returns-3 c =
     sym
     (c.before.before.before.before.before.before.before.loop.invariant.2
-    ∙ walk-stop _ _ _ _ _ _ c.before.before.before.before.before.before.if1.false c.before.before.before.before.before.if2.false c.if4.false (cc)
+    ∙ walk_stop _ _ _ _ _ _ c.before.before.before.before.before.before.if1.false c.before.before.before.before.before.if2.false c.if4.false (cc)
     ∙ (cc))
 
 pub space-spec : {M : Type 1} → statement M

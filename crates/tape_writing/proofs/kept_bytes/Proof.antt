@@ -1,7 +1,7 @@
 -- The bytes kept end where the entry at the position begins, or with those in use at the end, by a law for each.
 use borrow.Author.Rules.{rules}
 use native.Mathlib.Omega.{arith}
-use Rattle.tape_writing.proofs.Laws.{keeps_cut, keeps-end}
+use Rattle.tape_writing.proofs.Laws.{keeps_cut, keeps_end}
 use Rattle.tape_writing.proofs.kept_bytes.Statement.{statement}
 use Rattle.tape_writing.proofs.kept_bytes.Tie as tie
 use Rattle.tape_writing.proofs.kept_bytes.Reads as reads
@@ -23,7 +23,7 @@ returns : tie.Need-returns
 returns c = keeps_cut _ _ _ c.before.before.before.before.requires (omega arith) (cc)
 
 returns-2 : tie.Need-returns-2
-returns-2 c = keeps-end _ _ _ c.before.before.before.before.requires (omega arith) (cc)
+returns-2 c = keeps_end _ _ _ c.before.before.before.before.requires (omega arith) (cc)
 
 pub kept-bytes-spec : {M : Type 1} → statement M
 kept-bytes-spec =

@@ -2,7 +2,7 @@
 use native.Mathlib.Omega.{arith}
 use Rattle.xdr.proofs.Tests.{no}
 use Rattle.tape_writing.specs.Writing.{Room}
-use Rattle.tape_writing.proofs.Laws.{room_facts, room-holds, filled_refused, filled_done, filled_is}
+use Rattle.tape_writing.proofs.Laws.{room_facts, room_holds, filled_refused, filled_done, filled_is}
 use borrow.Author.Rules.{rules}
 use Rattle.tape_writing.proofs.write_filled.Statement.{statement}
 use Rattle.tape_writing.proofs.write_filled.Tie as tie
@@ -70,7 +70,7 @@ returns-3 : tie.Need-returns-3
 returns-3 c =
     let a = c.before.before.before.before.before.before.before.before.before.before.before.before.before.before.before.before.before.before.before.before.before.before.args in
     let r : Room a.image.now a.position a.size = search rules in
-    filled_done _ _ _ _ _ (room-holds _ _ _ r)
+    filled_done _ _ _ _ _ (room_holds _ _ _ r)
     (cc (filled_is a.image.now a.position a.part.now a.size (omega arith)))
 
 pub write-filled-spec : {M : Type 1} → statement M

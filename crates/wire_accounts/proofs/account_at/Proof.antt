@@ -2,7 +2,7 @@
 use mathlib.Core.Path.{sym, ◌∙◌}
 use borrow.Author.Tests.{not-true, not-false}
 use Rattle.xdr.proofs.Tests.{asked}
-use Rattle.wire_accounts.proofs.Laws.{no_id, no_password, no_kind, kind-there, account-there}
+use Rattle.wire_accounts.proofs.Laws.{no_id, no_password, no_kind, kind_there, account_there}
 use borrow.Author.Rules.{rules}
 use Rattle.wire_accounts.proofs.account_at.Statement.{statement}
 use Rattle.wire_accounts.proofs.account_at.Tie as tie
@@ -53,7 +53,7 @@ returns-2 c =
 read-word-requires : tie.Need-read-word-requires
 read-word-requires c κs =
     let i = c.before.before.before.before.before in
-    kind-there _ _ _ _ _ (sym i.id.given.1 ∙ i.before.before.opaque-at.ensures)
+    kind_there _ _ _ _ _ (sym i.id.given.1 ∙ i.before.before.opaque-at.ensures)
 
 is-kind-requires : tie.Need-is-kind-requires
 is-kind-requires c κs = search rules
@@ -70,7 +70,7 @@ returns-4 : tie.Need-returns-4
 returns-4 c =
     let k = c.before.before.before in
     let i = k.before.before.before.before.before in
-    account-there _ _ _ _ _ _ _ _ _
+    account_there _ _ _ _ _ _ _ _ _
     c.before.before.read_word.ensures
     (asked c.before.is-kind.ensures (not-false _ c.if1.false))
     (sym i.id.given.1 ∙ i.before.before.opaque-at.ensures)

@@ -1,18 +1,18 @@
 -- The length decides whether there is a digest.
-use Rattle.wire_accounts.proofs.Laws.{digest-empty, digest-long, digest-made}
+use Rattle.wire_accounts.proofs.Laws.{digest_empty, digest_long, digest_made}
 use borrow.Author.Rules.{rules}
 use Rattle.wire_accounts.proofs.is_digest.Statement.{statement}
 use Rattle.wire_accounts.proofs.is_digest.Tie as tie
 use Rattle.wire_accounts.proofs.is_digest.Reads as reads
 use Rattle.wire_accounts.proofs.is_digest.Lts as lts
-use Rattle.md5.proofs.login_digest.Reads as login-digest-reads
+use Rattle.md5_digest.proofs.login_digest.Reads as login-digest-reads
 use Rattle.xdr.proofs.same.Reads as same_Reads
 
 returns : tie.Need-returns
-returns c = let a = c.before.before.before in digest-empty a.args.accounts.now a.args.password a.requires _ _ c.if1.true
+returns c = let a = c.before.before.before in digest_empty a.args.accounts.now a.args.password a.requires _ _ c.if1.true
 
 returns-2 : tie.Need-returns-2
-returns-2 c = let a = c.before.before.before.before in digest-long a.args.accounts.now a.args.password a.requires _ _ c.if2.true
+returns-2 c = let a = c.before.before.before.before in digest_long a.args.accounts.now a.args.password a.requires _ _ c.if2.true
 
 add-end : tie.Need-overflow-add-end
 add-end c = search rules
@@ -38,7 +38,7 @@ same-requires c κs = search rules
 returns-3 : tie.Need-returns-3
 returns-3 c =
     let a = c.before.before.before.before.before.before.before.before in
-    digest-made a.args.accounts.now a.args.password a.requires _ _ _ _
+    digest_made a.args.accounts.now a.args.password a.requires _ _ _ _
     c.before.before.before.before.before.if1.false c.before.before.before.before.if2.false c.before.before.login-digest.ensures c.same.ensures
 
 pub is-digest-spec : {M : Type 1} → statement M

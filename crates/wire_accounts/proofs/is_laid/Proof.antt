@@ -5,7 +5,7 @@ use native.Mathlib.Omega.{arith}
 use borrow.Author.Rules.{rules}
 use lib.ListN.{length}
 use Rattle.wire_accounts.specs.Accounts.{are_laid, accounts_in, accounts_from}
-use Rattle.wire_accounts.proofs.Laws.{laid-short, laid-many, laid-few, laid_none, laid_next, laid_end}
+use Rattle.wire_accounts.proofs.Laws.{laid_short, laid_many, laid_few, laid_none, laid_next, laid_end}
 use Rattle.wire_accounts.proofs.is_laid.Statement.{statement}
 use Rattle.wire_accounts.proofs.is_laid.Tie as tie
 use Rattle.wire_accounts.proofs.is_laid.Reads as reads
@@ -20,16 +20,16 @@ abbrev decreases-loop : tie.decreases-loop
 decreases-loop accounts count at₀ left₀ at left = left
 
 returns : tie.Need-returns invariant-loop decreases-loop
-returns c = sym (laid-short _ (omega arith))
+returns c = sym (laid_short _ (omega arith))
 
 read-word-requires : tie.Need-read-word-requires invariant-loop decreases-loop
 read-word-requires c κs = search rules
 
 returns-2 : tie.Need-returns-2 invariant-loop decreases-loop
-returns-2 c = sym (laid-many _ _ c.before.read_word.ensures (omega arith) c.if2.true)
+returns-2 c = sym (laid_many _ _ c.before.read_word.ensures (omega arith) c.if2.true)
 
 loop-holds : tie.Need-loop-init invariant-loop decreases-loop
-loop-holds c = (search rules, ap are_laid (laid-few _ _ c.before.read_word.ensures (omega arith) (omega arith)))
+loop-holds c = (search rules, ap are_laid (laid_few _ _ c.before.read_word.ensures (omega arith) (omega arith)))
 
 account-at-requires : tie.Need-account-at-requires invariant-loop decreases-loop
 account-at-requires c κs = search rules

@@ -5,7 +5,7 @@ use borrow.Author.Rules.{rules}
 use borrow.Author.Tests.{not-true, not-false}
 use Rattle.xdr.proofs.Tests.{asked}
 use Rattle.wire_accounts.specs.Accounts.{md5_matches}
-use Rattle.wire_accounts.proofs.Laws.{Going, shut, counted, going-first, going-hit, going-miss, going_end}
+use Rattle.wire_accounts.proofs.Laws.{Going, shut, counted, going_first, going_hit, going_miss, going_end}
 use Rattle.wire_accounts.proofs.lets_in_by_md5.Statement.{statement}
 use Rattle.wire_accounts.proofs.lets_in_by_md5.Tie as tie
 use Rattle.wire_accounts.proofs.lets_in_by_md5.Reads as reads
@@ -31,7 +31,7 @@ read-word-requires : tie.Need-read-word-requires invariant-loop decreases-loop
 read-word-requires c κs = (counted _ (asked c.before.is-laid.ensures (not-false _ c.if1.false))).0
 
 loop-holds : tie.Need-loop-init invariant-loop decreases-loop
-loop-holds c = going-first _ _ _ c.read_word.ensures (asked c.before.before.is-laid.ensures (not-false _ c.before.if1.false))
+loop-holds c = going_first _ _ _ c.read_word.ensures (asked c.before.before.is-laid.ensures (not-false _ c.before.if1.false))
 
 account-at-requires : tie.Need-account-at-requires invariant-loop decreases-loop
 account-at-requires c κs = c.before.loop.invariant.ahead.within
@@ -52,8 +52,8 @@ loop-again c =
     let h = c.before.before.before.loop-test.true in
     let g = c.before.before.before.before.loop.invariant in
     ⊎_elim
-    (λ w. rw w.1 (going-hit _ _ g r h (asked t w.0.taken)))
-    (λ w. rw w.1 (going-miss _ _ g r h (asked t w.0.left)))
+    (λ w. rw w.1 (going_hit _ _ g r h (asked t w.0.taken)))
+    (λ w. rw w.1 (going_miss _ _ g r h (asked t w.0.left)))
     c.if2.branch
 
 returns-2 : tie.Need-returns-2 invariant-loop decreases-loop

@@ -5,7 +5,7 @@ use native.Mathlib.Omega.{arith}
 use borrow.Author.Rules.{rules}
 use Rattle.xdr.proofs.Tests.{asked}
 use Rattle.wire_pairs.proofs.Sizes.{laid_count}
-use Rattle.wire_pairs.proofs.Giving.{laid_long, count_kept, count-more}
+use Rattle.wire_pairs.proofs.Giving.{laid_long, count_kept, count_more}
 use Rattle.wire_giving.proofs.count.Statement.{statement}
 use Rattle.wire_giving.proofs.count.Tie as tie
 use Rattle.wire_giving.proofs.count.Reads as reads
@@ -26,7 +26,7 @@ add-result : tie.Need-overflow-add-result
 add-result c = let k = laid_count _ c.before.before.before.before.requires.0 in search rules
 
 returns-2 : tie.Need-returns-2
-returns-2 c = ap (λ n. n + 1) c.before.before.read_word.ensures ∙ count-more _ (asked c.before.is-named.ensures c.if1.false)
+returns-2 c = ap (λ n. n + 1) c.before.before.read_word.ensures ∙ count_more _ (asked c.before.is-named.ensures c.if1.false)
 
 pub count_spec : {M : Type 1} → statement M
 count_spec = tie.close (tie.spec read-word-requires is-named-requires returns add-result returns-2)

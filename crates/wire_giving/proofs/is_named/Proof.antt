@@ -8,8 +8,8 @@ use Rattle.xdr.specs.Xdr.{word}
 use Rattle.xdr.proofs.Tests.{asked}
 use Rattle.wire_pairs.specs.Pairs.{separator_name, is_named}
 use Rattle.wire_pairs.specs.Store.{kept_from, kept_pairs}
-use Rattle.wire_pairs.proofs.Giving.{Left, left-all, laid_long, left-value, left_within, left-next, left-kept, left_none, all-kept}
-use Rattle.wire_pairs.proofs.Giving.{named_here, named-later, named_none}
+use Rattle.wire_pairs.proofs.Giving.{Left, left_all, laid_long, left_value, left_within, left_next, left_kept, left_none, all_kept}
+use Rattle.wire_pairs.proofs.Giving.{named_here, named_later, named_none}
 use Rattle.wire_giving.proofs.is_named.Statement.{statement}
 use Rattle.wire_giving.proofs.is_named.Tie as tie
 use Rattle.wire_giving.proofs.is_named.Reads as reads
@@ -40,8 +40,8 @@ add-text c = search rules
 loop-holds : tie.Need-loop-init invariant-loop decreases-loop
 loop-holds c =
     let s = c.before.before.args.store.now in
-    let a = left-all s _ c.read_word.ensures c.before.before.requires.0 in
-    (a, search rules, left_within a, ap (is_named separator_name) (all-kept s _ c.read_word.ensures))
+    let a = left_all s _ c.read_word.ensures c.before.before.requires.0 in
+    (a, search rules, left_within a, ap (is_named separator_name) (all_kept s _ c.read_word.ensures))
 
 add-read-word : tie.Need-overflow-add-read-word invariant-loop decreases-loop
 add-read-word c = search rules
@@ -64,7 +64,7 @@ part-is-separator-start c = search rules
 part-is-separator-end : tie.Need-slice-bounds-is-separator-end invariant-loop decreases-loop
 part-is-separator-end c =
     let l = c.before.before.loop in
-    left-value _ _ l.invariant.0 (omega arith) (omega arith) refl
+    left_value _ _ l.invariant.0 (omega arith) (omega arith) refl
 
 is-separator-requires : tie.Need-is-separator-requires invariant-loop decreases-loop
 is-separator-requires c κs = search rules
@@ -73,7 +73,7 @@ returns : tie.Need-returns invariant-loop decreases-loop
 returns c =
     let l = c.before.before.before.before.before.loop in
     let v = l.text + c.before.before.before.read-word2.result in
-    let k = left-kept v _ l.invariant.0 (omega arith) (omega arith) refl in
+    let k = left_kept v _ l.invariant.0 (omega arith) (omega arith) refl in
     sym (l.invariant.3 ∙ named_here _ _ _ _ k (asked c.before.is-separator.ensures c.if1.true))
 
 add-read-word-2 : tie.Need-overflow-add-read-word-2 invariant-loop decreases-loop
@@ -102,9 +102,9 @@ loop-again c =
     let l = c.before.before.before.before.before.before.loop in
     let v = l.text + c.before.before.before.before.read-word2.result in
     let e = v + c.read-word3.result in
-    let n = left-next v e l.invariant.0 (omega arith) (omega arith) (omega arith) in
-    let k = left-kept v e l.invariant.0 (omega arith) (omega arith) (omega arith) in
-    (n, omega arith, left_within n, l.invariant.3 ∙ named-later _ _ _ _ k (asked c.before.before.is-separator.ensures c.before.if1.false))
+    let n = left_next v e l.invariant.0 (omega arith) (omega arith) (omega arith) in
+    let k = left_kept v e l.invariant.0 (omega arith) (omega arith) (omega arith) in
+    (n, omega arith, left_within n, l.invariant.3 ∙ named_later _ _ _ _ k (asked c.before.before.is-separator.ensures c.before.if1.false))
 
 returns-2 : tie.Need-returns-2 invariant-loop decreases-loop
 returns-2 c = sym (c.before.loop.invariant.3 ∙ named_none _ (left_none _ _ _ _ (omega arith)))

@@ -6,7 +6,7 @@ use native.Mathlib.Omega.{arith}
 use borrow.Author.Rules.{rules}
 use Rattle.xdr.specs.Xdr.{word}
 use Rattle.wire_pairs.specs.Store.{kept_from, kept_pairs}
-use Rattle.wire_pairs.proofs.Giving.{Left, left-all, laid_long, left-value, left_within, left-next, left-ends, left-kept, left_none, all-kept}
+use Rattle.wire_pairs.proofs.Giving.{Left, left_all, laid_long, left_value, left_within, left_next, left_ends, left_kept, left_none, all_kept}
 use Rattle.wire_pairs.proofs.Giving.{Given, given_none, given_more, given_all, pair_room}
 use Rattle.wire_giving.proofs.put_kept.Statement.{statement}
 use Rattle.wire_giving.proofs.put_kept.Tie as tie
@@ -38,8 +38,8 @@ add-text c = search rules
 loop-holds : tie.Need-loop-init invariant-loop decreases-loop
 loop-holds c =
     let s = c.before.before.before.args.store.now in
-    let a = left-all s _ c.read_word.ensures c.before.before.before.requires.1 in
-    (a, search rules, left_within a, omega arith, refl, rw (all-kept s _ c.read_word.ensures) given_none)
+    let a = left_all s _ c.read_word.ensures c.before.before.before.requires.1 in
+    (a, search rules, left_within a, omega arith, refl, rw (all_kept s _ c.read_word.ensures) given_none)
 
 add-read-word : tie.Need-overflow-add-read-word invariant-loop decreases-loop
 add-read-word c = search rules
@@ -76,7 +76,7 @@ part-put-pair-end c =
     let l = c.before.before.before.before.loop in
     let v = l.text + c.before.before.read-word2.result in
     let e = v + c.before.read-word3.result in
-    left-value v e l.invariant.0 (omega arith) (omega arith) (omega arith)
+    left_value v e l.invariant.0 (omega arith) (omega arith) (omega arith)
 
 sub-put-pair-2 : tie.Need-overflow-sub-put-pair-2 invariant-loop decreases-loop
 sub-put-pair-2 c = search rules
@@ -89,14 +89,14 @@ part-put-pair-end-2 c =
     let l = c.before.before.before.before.before.loop in
     let v = l.text + c.before.before.before.read-word2.result in
     let e = v + c.before.before.read-word3.result in
-    left-ends v e l.invariant.0 (omega arith) (omega arith) (omega arith)
+    left_ends v e l.invariant.0 (omega arith) (omega arith) (omega arith)
 
 put-pair-requires : tie.Need-put-pair-requires invariant-loop decreases-loop
 put-pair-requires c κs =
     let l = c.before.before.before.before.before.before.loop in
     let v = l.text + c.before.before.before.before.read-word2.result in
     let e = v + c.before.before.before.read-word3.result in
-    let h = left-ends v e l.invariant.0 (omega arith) (omega arith) (omega arith) in
+    let h = left_ends v e l.invariant.0 (omega arith) (omega arith) (omega arith) in
     (simp length-take (omega (arith, h)), simp length-take (omega (arith, h)))
 
 add_words : tie.Need-overflow-add-words invariant-loop decreases-loop
@@ -113,8 +113,8 @@ loop-again c =
     let l = c.before.before.before.before.before.before.before.before.before.loop in
     let v = l.text + c.before.before.before.before.before.before.before.read-word2.result in
     let e = v + c.before.before.before.before.before.before.read-word3.result in
-    let n = left-next v e l.invariant.0 (omega arith) (omega arith) (omega arith) in
-    let k = left-kept v e l.invariant.0 (omega arith) (omega arith) (omega arith) in
+    let n = left_next v e l.invariant.0 (omega arith) (omega arith) (omega arith) in
+    let k = left_kept v e l.invariant.0 (omega arith) (omega arith) (omega arith) in
     let q = c.before.before.put_pair.ensures in
     let s = c.before.before.before.before.before.before.before.before.before.before.before.before.before.args.store.now in
     let r = pair_room (v - l.text) (e - v) (drop l.text s) (drop v s) q in

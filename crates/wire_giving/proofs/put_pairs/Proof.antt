@@ -4,7 +4,7 @@ use borrow.Author.Rules.{rules}
 use Rattle.xdr.proofs.Tests.{asked}
 use Rattle.wire_pairs.specs.Pairs.{separator_name, separator}
 use Rattle.wire_pairs.proofs.Sizes.{pairs_size}
-use Rattle.wire_pairs.proofs.Giving.{put-kept, put-separator}
+use Rattle.wire_pairs.proofs.Giving.{put_kept, put_separator}
 use Rattle.wire_giving.proofs.put_pairs.Statement.{statement}
 use Rattle.wire_giving.proofs.put_pairs.Tie as tie
 use Rattle.wire_giving.proofs.put_pairs.Reads as reads
@@ -23,7 +23,7 @@ same_length : tie.Need-same-length
 same_length c = search rules
 
 returns : tie.Need-returns
-returns c = put-kept _ c.before.before.before.before.put-kept.ensures (asked c.before.is-named.ensures c.if1.true)
+returns c = put_kept _ c.before.before.before.before.put_kept.ensures (asked c.before.is-named.ensures c.if1.true)
 
 slice-aggregate-put-pair : tie.Need-slice-aggregate-put-pair
 slice-aggregate-put-pair c = search rules
@@ -34,7 +34,7 @@ slice-aggregate-put-pair-2 c = search rules
 put-pair-requires : tie.Need-put-pair-requires
 put-pair-requires c κs =
     let n = pairs_size _ c.before.before.before.before.before.before.before.before.before.before.before.requires.1 in
-    (omega (arith, n, c.before.before.before.before.before.before.before.put-kept.ensures.end), omega arith)
+    (omega (arith, n, c.before.before.before.before.before.before.before.put_kept.ensures.end), omega arith)
 
 same-length-2 : tie.Need-same-length-2
 same-length-2 c = search rules
@@ -43,7 +43,7 @@ returns-2 : tie.Need-returns-2
 unfolding separator_name separator
 returns-2 c =
     let no = asked c.before.before.before.before.before.before.before.is-named.ensures c.before.before.before.before.before.before.if1.false in
-    put-separator _ c.before.before.before.before.before.before.before.before.before.before.put-kept.ensures no c.before.before.put_pair.ensures
+    put_separator _ c.before.before.before.before.before.before.before.before.before.before.put_kept.ensures no c.before.before.put_pair.ensures
 
 pub put-pairs-spec : {M : Type 1} → statement M
 put-pairs-spec =

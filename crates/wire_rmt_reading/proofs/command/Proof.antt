@@ -1,6 +1,6 @@
 -- The letter picks the command.
 use mathlib.Core.Path.{refl}
-use Rattle.wire_rmt.proofs.Lines.{is_open, is-close, is_read, is-write, is-operate, is_none}
+use Rattle.wire_rmt.proofs.Lines.{is_open, is_close, is_read, is_write, is_operate, is_none}
 use borrow.Author.Rules.{rules}
 use Rattle.wire_rmt_reading.proofs.command.Statement.{statement}
 use Rattle.wire_rmt_reading.proofs.command.Tie as tie
@@ -26,7 +26,7 @@ close-command-requires : tie.Need-close-command-requires
 close-command-requires c κs = search rules
 
 returns-2 : tie.Need-returns-2
-returns-2 c = is-close _ _ c.before.before.before.byte_at.ensures _ c.before.if2.true c.close-command.ensures
+returns-2 c = is_close _ _ c.before.before.before.byte_at.ensures _ c.before.if2.true c.close-command.ensures
 
 read-command-requires : tie.Need-read-command-requires
 read-command-requires c κs = search rules
@@ -38,13 +38,13 @@ write-command-requires : tie.Need-write-command-requires
 write-command-requires c κs = search rules
 
 returns-4 : tie.Need-returns-4
-returns-4 c = is-write _ _ c.before.before.before.before.before.byte_at.ensures _ c.before.if4.true c.write-command.ensures
+returns-4 c = is_write _ _ c.before.before.before.before.before.byte_at.ensures _ c.before.if4.true c.write-command.ensures
 
 operate-command-requires : tie.Need-operate-command-requires
 operate-command-requires c κs = search rules
 
 returns-5 : tie.Need-returns-5
-returns-5 c = is-operate _ _ c.before.before.before.before.before.before.byte_at.ensures _ c.before.if5.true c.operate-command.ensures
+returns-5 c = is_operate _ _ c.before.before.before.before.before.before.byte_at.ensures _ c.before.if5.true c.operate-command.ensures
 
 returns-6 : tie.Need-returns-6
 returns-6 c =

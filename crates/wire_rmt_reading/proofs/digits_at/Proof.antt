@@ -7,7 +7,7 @@ use lib.ListN.{length, get_or}
 use Rattle.xdr.proofs.Tests.{yes}
 use Rattle.wire_rmt.specs.Numbers.{digits_on}
 use borrow.Author.Tests.{not-true}
-use Rattle.wire_rmt.proofs.Laws.{digit_range, digit_there, on_none, on-stop, on-big, on-more}
+use Rattle.wire_rmt.proofs.Laws.{digit_range, digit_there, on_none, on_stop, on_big, on_more}
 use Rattle.wire_rmt_reading.proofs.Laws.{tested, wide_is}
 use Rattle.wire_rmt_reading.proofs.digits_at.Statement.{statement}
 use Rattle.wire_rmt_reading.proofs.digits_at.Tie as tie
@@ -40,7 +40,7 @@ returns c =
     let i = c.before in
     let t = i.before.before.before in
     let d = tested i.before.before.byte_at.ensures i.before.is_digit.ensures (not-true _ i.if1.true) in
-    c.ended.ensures ∙ sym (t.before.loop.invariant.2 ∙ on-stop _ _ _ _ t.loop-test.true d)
+    c.ended.ensures ∙ sym (t.before.loop.invariant.2 ∙ on_stop _ _ _ _ t.loop-test.true d)
 
 cast-wide : tie.Need-overflow-cast-wide invariant-loop decreases-loop
 cast-wide c = search rules
@@ -65,7 +65,7 @@ returns-2 c =
     let b = i.before.before in
     let t = b.before in
     let d = tested b.byte_at.ensures i.before.is_digit.ensures (yes i.if1.false) in
-    sym (t.before.loop.invariant.2 ∙ on-big _ _ _ _ _ t.loop-test.true d (wide_is _ _ _ b.byte_at.ensures) c.if2.true)
+    sym (t.before.loop.invariant.2 ∙ on_big _ _ _ _ _ t.loop-test.true d (wide_is _ _ _ b.byte_at.ensures) c.if2.true)
 
 cast-value : tie.Need-overflow-cast-value invariant-loop decreases-loop
 cast-value c = search rules
@@ -91,7 +91,7 @@ loop-again c =
     let t = b.before in
     let d = tested b.byte_at.ensures i.before.is_digit.ensures (yes i.if1.false) in
     let w = wide_is _ _ _ b.byte_at.ensures in
-    (search rules, search rules, t.before.loop.invariant.2 ∙ on-more _ _ _ _ _ t.loop-test.true d w c.if2.false)
+    (search rules, search rules, t.before.loop.invariant.2 ∙ on_more _ _ _ _ _ t.loop-test.true d w c.if2.false)
 
 ended-requires-2 : tie.Need-ended-requires-2 invariant-loop decreases-loop
 ended-requires-2 c κs = search rules

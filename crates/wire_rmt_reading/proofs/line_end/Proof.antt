@@ -5,7 +5,7 @@ use native.Mathlib.Omega.{arith}
 use lib.ListN.{length, drop}
 use borrow.Author.Rules.{rules}
 use Rattle.wire_rmt.specs.Commands.{line_length, line_end}
-use Rattle.wire_rmt_reading.proofs.Laws.{at-feed, at_more, at_end}
+use Rattle.wire_rmt_reading.proofs.Laws.{at_feed, at_more, at_end}
 use Rattle.wire_rmt_reading.proofs.line_end.Statement.{statement}
 use Rattle.wire_rmt_reading.proofs.line_end.Tie as tie
 use Rattle.wire_rmt_reading.proofs.line_end.Reads as reads
@@ -24,7 +24,7 @@ shared-slice-read-if1 : tie.Need-shared-slice-read-if1 invariant-loop decreases-
 shared-slice-read-if1 c = search rules
 
 returns : tie.Need-returns invariant-loop decreases-loop
-returns c = at-feed _ _ _ c.before.before.before.loop.invariant c.before.before.loop-test.true c.if1.true
+returns c = at_feed _ _ _ c.before.before.before.loop.invariant c.before.before.loop-test.true c.if1.true
 
 add_at : tie.Need-overflow-add-at invariant-loop decreases-loop
 add_at c = search rules

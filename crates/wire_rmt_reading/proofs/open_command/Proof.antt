@@ -1,6 +1,6 @@
 -- Where the line ends, and the number behind it, pick the case.
 use mathlib.Core.Path.{sym, ◌∙◌}
-use Rattle.wire_rmt.proofs.Lines.{open-short, open_none, open_more, open-whole}
+use Rattle.wire_rmt.proofs.Lines.{open_short, open_none, open_more, open_whole}
 use borrow.Author.Rules.{rules}
 use Rattle.wire_rmt_reading.proofs.open_command.Statement.{statement}
 use Rattle.wire_rmt_reading.proofs.open_command.Tie as tie
@@ -13,7 +13,7 @@ line-end-requires : tie.Need-line-end-requires
 line-end-requires c κs = search rules
 
 returns : tie.Need-returns
-returns c = open-short _ _ c.before.line-end.ensures c.if1.true
+returns c = open_short _ _ c.before.line-end.ensures c.if1.true
 
 add-number-at : tie.Need-overflow-add-number-at
 add-number-at c = search rules
@@ -46,7 +46,7 @@ returns-4 : tie.Need-returns-4
 returns-4 c =
     let v = c.before.before in
     let i = v.before.before.before in
-    open-whole _ _ i.before.line-end.ensures _ _ i.if1.false (sym v.value.given.1 ∙ v.before.before.number_at.ensures)
+    open_whole _ _ i.before.line-end.ensures _ _ i.if1.false (sym v.value.given.1 ∙ v.before.before.number_at.ensures)
     c.if2.false
 
 pub open-command-spec : {M : Type 1} → statement M

@@ -1,6 +1,6 @@
 -- What was found twice, and where it ends, picks the case.
 use mathlib.Core.Path.{sym, ◌∙◌}
-use Rattle.wire_rmt.proofs.Lines.{operate-none, operate-other, operate_bare, operate_more, operate-whole}
+use Rattle.wire_rmt.proofs.Lines.{operate_none, operate_other, operate_bare, operate_more, operate_whole}
 use borrow.Author.Rules.{rules}
 use Rattle.wire_rmt_reading.proofs.operate_command.Statement.{statement}
 use Rattle.wire_rmt_reading.proofs.operate_command.Tie as tie
@@ -18,10 +18,10 @@ enum_told : tie.Need-enum-told
 enum_told c = search rules
 
 returns : tie.Need-returns
-returns c = operate-none _ (sym c.enum_told.given.1 ∙ c.before.before.number_at.ensures)
+returns c = operate_none _ (sym c.enum_told.given.1 ∙ c.before.before.number_at.ensures)
 
 returns-2 : tie.Need-returns-2
-returns-2 c = let v = c.before.before in operate-other _ _ _ (sym v.value.given.1 ∙ v.before.before.number_at.ensures) c.if1.true
+returns-2 c = let v = c.before.before in operate_other _ _ _ (sym v.value.given.1 ∙ v.before.before.number_at.ensures) c.if1.true
 
 number-at-requires-2 : tie.Need-number-at-requires-2
 number-at-requires-2 c κs = search rules
@@ -52,7 +52,7 @@ returns-5 c =
     let w = c.before.before in
     let i = w.before.before.before in
     let v = i.before.before in
-    operate-whole _ _ _ (sym v.value.given.1 ∙ v.before.before.number_at.ensures) _ _ i.if1.false
+    operate_whole _ _ _ (sym v.value.given.1 ∙ v.before.before.number_at.ensures) _ _ i.if1.false
     (sym w.count.given.1 ∙ w.before.before.number-at2.ensures) c.if2.false
 
 pub operate-command-spec : {M : Type 1} → statement M

@@ -1,6 +1,6 @@
 -- What was found, and how many bytes are behind it, picks the case.
 use mathlib.Core.Path.{sym, ◌∙◌}
-use Rattle.wire_rmt.proofs.Lines.{write_none, write-other, write-whole}
+use Rattle.wire_rmt.proofs.Lines.{write_none, write_other, write_whole}
 use Rattle.wire_rmt_reading.proofs.Laws.{number_within}
 use borrow.Author.Rules.{rules}
 use Rattle.wire_rmt_reading.proofs.write_command.Statement.{statement}
@@ -28,10 +28,10 @@ sub-if1 : tie.Need-overflow-sub-if1
 sub-if1 c = number_within _ _ _ _ (sym c.before.value.given.1 ∙ c.before.before.before.number_at.ensures)
 
 returns-2 : tie.Need-returns-2
-returns-2 c = write-other _ _ _ (sym c.before.before.value.given.1 ∙ c.before.before.before.before.number_at.ensures) c.if1.true
+returns-2 c = write_other _ _ _ (sym c.before.before.value.given.1 ∙ c.before.before.before.before.number_at.ensures) c.if1.true
 
 returns-3 : tie.Need-returns-3
-returns-3 c = write-whole _ _ _ (sym c.before.before.value.given.1 ∙ c.before.before.before.before.number_at.ensures) c.if1.false
+returns-3 c = write_whole _ _ _ (sym c.before.before.value.given.1 ∙ c.before.before.before.before.number_at.ensures) c.if1.false
 
 pub write-command-spec : {M : Type 1} → statement M
 write-command-spec =

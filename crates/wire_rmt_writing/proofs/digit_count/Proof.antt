@@ -4,7 +4,7 @@ use mathlib.Core.Path.{◌≡◌, refl}
 use native.Mathlib.Omega.{arith}
 use borrow.Author.Rules.{rules}
 use Rattle.wire_rmt.specs.Numbers.{count_on, digit_count}
-use Rattle.wire_rmt_writing.proofs.Laws.{count-here, count-on, count_end}
+use Rattle.wire_rmt_writing.proofs.Laws.{count_here, count_on_lem, count_end}
 use Rattle.wire_rmt_writing.proofs.digit_count.Statement.{statement}
 use Rattle.wire_rmt_writing.proofs.digit_count.Tie as tie
 use Rattle.wire_rmt_writing.proofs.digit_count.Reads as reads
@@ -20,7 +20,7 @@ loop-holds : tie.Need-loop-init invariant-loop decreases-loop
 loop-holds c = (search rules, omega arith)
 
 returns : tie.Need-returns invariant-loop decreases-loop
-returns c = (count-here _ _ _ c.before.before.loop.invariant.1 c.if1.true, omega arith)
+returns c = (count_here _ _ _ c.before.before.loop.invariant.1 c.if1.true, omega arith)
 
 add-count : tie.Need-overflow-add-count invariant-loop decreases-loop
 add-count c = search rules
@@ -29,7 +29,7 @@ loop-less : tie.Need-loop-smaller invariant-loop decreases-loop
 loop-less c = search rules
 
 loop-again : tie.Need-loop-preserved invariant-loop decreases-loop
-loop-again c = (search rules, count-on _ _ _ c.before.before.loop.invariant.1 c.if1.false c.before.loop-test.true)
+loop-again c = (search rules, count_on_lem _ _ _ c.before.before.loop.invariant.1 c.if1.false c.before.loop-test.true)
 
 returns-2 : tie.Need-returns-2 invariant-loop decreases-loop
 returns-2 c = (count_end _ _ _ c.before.loop.invariant.1 c.loop-test.false c.before.loop.invariant.0, c.before.loop.invariant.0)

@@ -4,7 +4,7 @@ use mathlib.Core.Path.{◌≡◌, refl}
 use native.Mathlib.Omega.{arith}
 use lib.ListN.{length, length-set}
 use borrow.Author.Rules.{rules}
-use Rattle.wire_rmt_writing.proofs.Laws.{Going, going-first, going_on, going_end}
+use Rattle.wire_rmt_writing.proofs.Laws.{Going, going_first, going_on, going_end}
 use Rattle.wire_rmt_writing.proofs.put_decimal.Statement.{statement}
 use Rattle.wire_rmt_writing.proofs.put_decimal.Tie as tie
 use Rattle.wire_rmt_writing.proofs.put_decimal.Reads as reads
@@ -21,7 +21,7 @@ digit-count-requires : tie.Need-digit-count-requires invariant-loop decreases-lo
 digit-count-requires c κs = search rules
 
 loop-holds : tie.Need-loop-init invariant-loop decreases-loop
-loop-holds c = (c.digit-count.ensures.1, refl, going-first _ c.digit-count.ensures.0)
+loop-holds c = (c.digit-count.ensures.1, refl, going_first _ c.digit-count.ensures.0)
 
 sub-i : tie.Need-overflow-sub-i invariant-loop decreases-loop
 sub-i c = search rules

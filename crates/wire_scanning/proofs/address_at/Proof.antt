@@ -2,7 +2,7 @@
 use mathlib.Core.Path.{sym, ap, ◌∙◌}
 use Rattle.wire_layouts.specs.Layout.{field_at}
 use Rattle.wire_layouts.specs.Scans.{after_seen}
-use Rattle.wire_scanning.proofs.Cases.{element-short, element-then}
+use Rattle.wire_scanning.proofs.Cases.{element_short, element_then}
 use borrow.Author.Rules.{rules}
 use Rattle.wire_scanning.proofs.address_at.Statement.{statement}
 use Rattle.wire_scanning.proofs.address_at.Tie as tie
@@ -25,7 +25,7 @@ enum_told : tie.Need-enum-told
 enum_told c = search rules
 
 returns : tie.Need-returns
-returns c = element-short _ _ _ _ _ (sym c.enum_told.given.1 ∙ c.before.before.parts_at.ensures)
+returns c = element_short _ _ _ _ _ (sym c.enum_told.given.1 ∙ c.before.before.parts_at.ensures)
 
 slice-aggregate-many-at : tie.Need-slice-aggregate-many-at
 slice-aggregate-many-at c = search rules
@@ -39,7 +39,7 @@ past-field-requires c κs = search rules
 returns-2 : tie.Need-returns-2
 unfolding field_at
 returns-2 c =
-    c.past-field.ensures ∙ ap after_seen c.before.many-at.ensures ∙ element-then _ _ _ _ _ _
+    c.past-field.ensures ∙ ap after_seen c.before.many-at.ensures ∙ element_then _ _ _ _ _ _
     (sym c.before.before.before.before.next.given.1 ∙ c.before.before.before.before.before.before.parts_at.ensures)
 
 pub address-at-spec : {M : Type 1} → statement M

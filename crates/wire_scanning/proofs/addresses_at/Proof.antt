@@ -5,7 +5,7 @@ use native.Mathlib.Omega.{arith}
 use borrow.Author.Rules.{rules}
 use Rattle.codes.specs.Codes.{most_addresses}
 use Rattle.wire_layouts.specs.AddressLists.{keep, count_seen, addresses_from, addresses_at}
-use Rattle.wire_layouts.proofs.AddressLists.{address-within, from_more, from-short, from-none, few-addresses, some-addresses, first_of, starts_with}
+use Rattle.wire_layouts.proofs.AddressLists.{address_within, from_more, from_short, from_none, few_addresses, some_addresses, first_of, starts_with}
 use Rattle.wire_scanning.proofs.addresses_at.Statement.{statement}
 use Rattle.wire_scanning.proofs.addresses_at.Tie as tie
 use Rattle.wire_scanning.proofs.addresses_at.Reads as reads
@@ -43,13 +43,13 @@ no-addresses-requires-2 c κs = search rules
 add-pos : tie.Need-overflow-add-pos invariant-loop decreases-loop
 add-pos c =
     let n = c.before.before in
-    omega (arith, some-addresses _ _ _ (n.count_of.ensures ∙ ap count_seen n.before.address-list.ensures) (omega arith))
+    omega (arith, some_addresses _ _ _ (n.count_of.ensures ∙ ap count_seen n.before.address-list.ensures) (omega arith))
 
 loop-holds : tie.Need-loop-init invariant-loop decreases-loop
 loop-holds c =
     let n = c.before.before in
     let e = n.count_of.ensures ∙ ap count_seen n.before.address-list.ensures in
-    (search rules, few-addresses _ _ _ e, starts_with _ _ _ e _ c.no-addresses2.ensures)
+    (search rules, few_addresses _ _ _ e, starts_with _ _ _ e _ c.no-addresses2.ensures)
 
 cast-loop : tie.Need-overflow-cast-loop invariant-loop decreases-loop
 cast-loop c = search rules
@@ -71,10 +71,10 @@ returns-2 c =
     let l = c.before.before.before.before.before in
     let s = l.before.before.before.before.before.before.args in
     let e = sym c.before.enum_told.given.1 ∙ c.before.before.before.address-at.ensures in
-    c.no-addresses3.ensures ∙ sym (from-short s.body.now l.loop.pos l.loop.i l.loop.k _ (omega arith) e) ∙ sym l.loop.invariant.2
+    c.no-addresses3.ensures ∙ sym (from_short s.body.now l.loop.pos l.loop.i l.loop.k _ (omega arith) e) ∙ sym l.loop.invariant.2
 
 read-word-requires : tie.Need-read-word-requires invariant-loop decreases-loop
-read-word-requires c κs = let w = address-within _ _ _ (sym c.before.next.given.1 ∙ c.before.before.before.address-at.ensures) in search rules
+read-word-requires c κs = let w = address_within _ _ _ (sym c.before.next.given.1 ∙ c.before.before.before.address-at.ensures) in search rules
 
 mul-k : tie.Need-overflow-mul-k invariant-loop decreases-loop
 mul-k c = search rules
@@ -83,10 +83,10 @@ element-write-k : tie.Need-element-write-k invariant-loop decreases-loop
 element-write-k c = search rules
 
 add-read-word : tie.Need-overflow-add-read-word invariant-loop decreases-loop
-add-read-word c = let w = address-within _ _ _ (sym c.before.before.next.given.1 ∙ c.before.before.before.before.address-at.ensures) in search rules
+add-read-word c = let w = address_within _ _ _ (sym c.before.before.next.given.1 ∙ c.before.before.before.before.address-at.ensures) in search rules
 
 read-word-requires-2 : tie.Need-read-word-requires-2 invariant-loop decreases-loop
-read-word-requires-2 c κs = let w = address-within _ _ _ (sym c.before.before.next.given.1 ∙ c.before.before.before.before.address-at.ensures) in search rules
+read-word-requires-2 c κs = let w = address_within _ _ _ (sym c.before.before.next.given.1 ∙ c.before.before.before.before.address-at.ensures) in search rules
 
 mul-k-2 : tie.Need-overflow-mul-k-2 invariant-loop decreases-loop
 mul-k-2 c = search rules
@@ -115,7 +115,7 @@ loop-again c =
 returns-3 : tie.Need-returns-3 invariant-loop decreases-loop
 returns-3 c =
     let l = c.before in
-    sym (l.loop.invariant.2 ∙ from-none l.before.before.before.before.before.before.args.body.now l.loop.pos l.loop.i l.loop.k _ (omega arith))
+    sym (l.loop.invariant.2 ∙ from_none l.before.before.before.before.before.before.args.body.now l.loop.pos l.loop.i l.loop.k _ (omega arith))
 
 pub addresses-at-spec : {M : Type 1} → statement M
 addresses-at-spec =

@@ -1,6 +1,6 @@
 -- What the reader of a word found is the case of the definition.
 use mathlib.Core.Path.{sym, ◌∙◌}
-use Rattle.wire_layouts.proofs.AddressTypes.{type-found, type-missing}
+use Rattle.wire_layouts.proofs.AddressTypes.{type_found, type_missing}
 use borrow.Author.Rules.{rules}
 use Rattle.wire_scanning.proofs.is_tcp.Statement.{statement}
 use Rattle.wire_scanning.proofs.is_tcp.Tie as tie
@@ -18,10 +18,10 @@ enum_told : tie.Need-enum-told
 enum_told c = search rules
 
 returns : tie.Need-returns
-returns c = type-missing _ _ (sym c.enum_told.given.1 ∙ c.before.before.word_at.ensures)
+returns c = type_missing _ _ (sym c.enum_told.given.1 ∙ c.before.before.word_at.ensures)
 
 returns-2 : tie.Need-returns-2
-returns-2 c = type-found _ _ _ (sym c.before.v.given.1 ∙ c.before.before.before.word_at.ensures)
+returns-2 c = type_found _ _ _ (sym c.before.v.given.1 ∙ c.before.before.before.word_at.ensures)
 
 pub is-tcp-spec : {M : Type 1} → statement M
 is-tcp-spec = tie.close (tie.spec word-at-requires enum-known-v enum_told returns returns-2)

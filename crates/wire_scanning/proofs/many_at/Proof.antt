@@ -1,9 +1,9 @@
 -- The count, then the elements: what the two readers found picks its case of the definition (Cases).
-use Rattle.xdr_opaque.proofs.Laws.{word-within}
+use Rattle.xdr_opaque.proofs.Laws.{word_within}
 use native.Mathlib.Omega.{arith}
 use mathlib.Core.Path.{sym, ◌∙◌}
 use Rattle.wire_layouts.specs.Layout.{field_at}
-use Rattle.wire_scanning.proofs.Cases.{misses-count, too_many, misses-list, sees-list}
+use Rattle.wire_scanning.proofs.Cases.{misses_count, too_many, misses_list, sees_list}
 use borrow.Author.Rules.{rules}
 use Rattle.wire_scanning.proofs.many_at.Statement.{statement}
 use Rattle.wire_scanning.proofs.many_at.Tie as tie
@@ -23,14 +23,14 @@ enum_told c = search rules
 
 returns : tie.Need-returns
 unfolding field_at
-returns c = misses-count _ _ _ _ (sym c.enum_told.given.1 ∙ c.before.before.word_at.ensures)
+returns c = misses_count _ _ _ _ (sym c.enum_told.given.1 ∙ c.before.before.word_at.ensures)
 
 returns-2 : tie.Need-returns-2
 unfolding field_at
 returns-2 c = too_many _ _ _ _ _ (sym c.before.before.count.given.1 ∙ c.before.before.before.before.word_at.ensures) (omega arith)
 
 add-times-at : tie.Need-overflow-add-times-at
-add-times-at c = omega (arith, (word-within _ _ _ (sym c.before.before.count.given.1 ∙ c.before.before.before.before.word_at.ensures)).0)
+add-times-at c = omega (arith, (word_within _ _ _ (sym c.before.before.count.given.1 ∙ c.before.before.before.before.word_at.ensures)).0)
 
 times-at-requires : tie.Need-times-at-requires
 times-at-requires c κs = search rules
@@ -44,13 +44,13 @@ enum-told-2 c = search rules
 returns-3 : tie.Need-returns-3
 unfolding field_at
 returns-3 c =
-    misses-list _ _ _ _ _ (sym c.before.before.before.before.before.count.given.1 ∙ c.before.before.before.before.before.before.before.word_at.ensures)
+    misses_list _ _ _ _ _ (sym c.before.before.before.before.before.count.given.1 ∙ c.before.before.before.before.before.before.before.word_at.ensures)
     (omega arith) (sym c.enum-told2.given.1 ∙ c.before.before.times_at.ensures)
 
 returns-4 : tie.Need-returns-4
 unfolding field_at
 returns-4 c =
-    sees-list _ _ _ _ _ _ (sym c.before.before.before.before.before.before.count.given.1
+    sees_list _ _ _ _ _ _ (sym c.before.before.before.before.before.before.count.given.1
     ∙ c.before.before.before.before.before.before.before.before.word_at.ensures) (omega arith)
     (sym c.before.next.given.1 ∙ c.before.before.before.times_at.ensures)
 

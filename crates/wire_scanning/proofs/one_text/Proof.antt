@@ -1,5 +1,5 @@
 -- What the reader of opaque data found is the case of the definition.
-use Rattle.wire_scanning.proofs.Cases.{sees-text, misses-text}
+use Rattle.wire_scanning.proofs.Cases.{sees_text, misses_text}
 use mathlib.Core.Path.{sym, ◌∙◌}
 use borrow.Author.Rules.{rules}
 use Rattle.wire_scanning.proofs.one_text.Statement.{statement}
@@ -18,10 +18,10 @@ enum_told : tie.Need-enum-told
 enum_told c = search rules
 
 returns : tie.Need-returns
-returns c = misses-text _ _ (sym c.enum_told.given.1 ∙ c.before.before.opaque-at.ensures)
+returns c = misses_text _ _ (sym c.enum_told.given.1 ∙ c.before.before.opaque-at.ensures)
 
 returns-2 : tie.Need-returns-2
-returns-2 c = sees-text _ _ _ _ _ (sym c.before.start.given.1 ∙ c.before.before.before.opaque-at.ensures)
+returns-2 c = sees_text _ _ _ _ _ (sym c.before.start.given.1 ∙ c.before.before.before.opaque-at.ensures)
 
 pub one-text-spec : {M : Type 1} → statement M
 one-text-spec =

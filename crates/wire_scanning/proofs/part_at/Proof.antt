@@ -1,8 +1,8 @@
 -- By the letter; what its reader found is the case of the definition.
-use Rattle.wire_scanning.proofs.Cases.{passes-word, short-word, passes-hyper, short-hyper, passes-single, passes-text, short-text}
+use Rattle.wire_scanning.proofs.Cases.{passes_word, short_word, passes_hyper, short_hyper, passes_single, passes_text, short_text}
 use Rattle.wire_layouts.specs.Layout.{digest}
 use Rattle.wire_layouts.specs.Scans.{after_seen}
-use Rattle.xdr_opaque.proofs.Laws.{word-within}
+use Rattle.xdr_opaque.proofs.Laws.{word_within}
 use native.Mathlib.Omega.{arith}
 use mathlib.Core.Path.{sym, ap, ◌∙◌}
 use borrow.Author.Rules.{rules}
@@ -26,19 +26,19 @@ enum-told-2 : tie.Need-enum-told-2
 enum-told-2 c = search rules
 
 returns : tie.Need-returns
-returns c = rw c.before.before.before.match.keys1 (short-word _ _ (sym c.enum-told2.given.1 ∙ c.before.before.word_at.ensures))
+returns c = rw c.before.before.before.match.keys1 (short_word _ _ (sym c.enum-told2.given.1 ∙ c.before.before.word_at.ensures))
 
 add-t7 : tie.Need-overflow-add-t7
-add-t7 c = omega (arith, (word-within _ _ _ (sym c.enum_told.given.1 ∙ c.before.before.word_at.ensures)).0)
+add-t7 c = omega (arith, (word_within _ _ _ (sym c.enum_told.given.1 ∙ c.before.before.word_at.ensures)).0)
 
 returns-2 : tie.Need-returns-2
-returns-2 c = rw c.before.match.keys2 (short-hyper _ _ (omega arith))
+returns-2 c = rw c.before.match.keys2 (short_hyper _ _ (omega arith))
 
 sub-if2 : tie.Need-overflow-sub-if2
 sub-if2 c = search rules
 
 returns-3 : tie.Need-returns-3
-returns-3 c = rw c.before.before.match.keys2 (short-hyper _ _ (omega arith))
+returns-3 c = rw c.before.before.match.keys2 (short_hyper _ _ (omega arith))
 
 add-t8 : tie.Need-overflow-add-t8
 add-t8 c = search rules
@@ -64,24 +64,24 @@ enum-told-3 c = search rules
 returns-4 : tie.Need-returns-4
 returns-4 c =
     let r = c.before.before.before.match.rest in
-    short-text _ _ _ r.0.0.0.1 r.0.0.1 r.0.1 r.1 (sym c.enum-told3.given.1 ∙ c.before.before.opaque-at.ensures)
+    short_text _ _ _ r.0.0.0.1 r.0.0.1 r.0.1 r.1 (sym c.enum-told3.given.1 ∙ c.before.before.opaque-at.ensures)
 
 returns-5 : tie.Need-returns-5
-returns-5 c = rw c.before.before.before.match.keys1 (passes-word _ _ _ (sym c.enum_told.given.1 ∙ c.before.before.word_at.ensures))
+returns-5 c = rw c.before.before.before.match.keys1 (passes_word _ _ _ (sym c.enum_told.given.1 ∙ c.before.before.word_at.ensures))
 
 returns-6 : tie.Need-returns-6
-returns-6 c = rw c.before.before.match.keys2 (passes-hyper _ _ (omega arith))
+returns-6 c = rw c.before.before.match.keys2 (passes_hyper _ _ (omega arith))
 
 returns-7 : tie.Need-returns-7
 returns-7 c = rw c.before.match.keys3 c.port-at.ensures
 
 returns-8 : tie.Need-returns-8
-returns-8 c = rw c.before.before.match.keys4 (c.past-field.ensures ∙ ap after_seen c.before.one-digest.ensures ∙ passes-single _ _ digest)
+returns-8 c = rw c.before.before.match.keys4 (c.past-field.ensures ∙ ap after_seen c.before.one-digest.ensures ∙ passes_single _ _ digest)
 
 returns-9 : tie.Need-returns-9
 returns-9 c =
     let r = c.before.before.before.before.match.rest in
-    passes-text _ _ _ r.0.0.0.1 r.0.0.1 r.0.1 r.1 _ _ _ (sym c.before.next.given.1 ∙ c.before.before.before.opaque-at.ensures)
+    passes_text _ _ _ r.0.0.0.1 r.0.0.1 r.0.1 r.1 _ _ _ (sym c.before.next.given.1 ∙ c.before.before.before.opaque-at.ensures)
 
 pub part-at-spec : {M : Type 1} → statement M
 part-at-spec =

@@ -7,7 +7,7 @@ use native.Mathlib.Omega.{arith}
 use borrow.Author.Rules.{rules}
 use Rattle.wire_layouts.specs.Layout.{parts_at}
 use Rattle.wire_layouts.specs.Scans.{part_of, forget}
-use Rattle.wire_scanning.proofs.Cases.{parts_more, parts-short, parts_none}
+use Rattle.wire_scanning.proofs.Cases.{parts_more, parts_short, parts_none}
 use Rattle.wire_scanning.proofs.parts_at.Statement.{statement}
 use Rattle.wire_scanning.proofs.parts_at.Tie as tie
 use Rattle.wire_scanning.proofs.parts_at.Reads as reads
@@ -37,7 +37,7 @@ enum_told c = search rules
 
 returns : tie.Need-returns invariant-loop decreases-loop
 returns c =
-    parts-short c.before.before.before.before.before.before.before.before.args.letters.now
+    parts_short c.before.before.before.before.before.before.before.before.args.letters.now
     c.before.before.before.before.before.before.before.before.args.body.now c.before.before.before.before.before.loop.i
     c.before.before.before.before.before.loop.pos (omega arith) (sym c.enum_told.given.1 ∙ c.before.before.part_at.ensures) ∙ sym
     c.before.before.before.before.before.loop.invariant.1

@@ -1,8 +1,8 @@
 -- The word: missing, too large, or a port.
-use Rattle.wire_scanning.proofs.Cases.{passes-port, short-port, no-port}
+use Rattle.wire_scanning.proofs.Cases.{passes_port, short_port, no_port}
 use native.Mathlib.Omega.{arith}
 use mathlib.Core.Path.{sym, ◌∙◌}
-use Rattle.xdr_opaque.proofs.Laws.{word-within}
+use Rattle.xdr_opaque.proofs.Laws.{word_within}
 use borrow.Author.Rules.{rules}
 use Rattle.wire_scanning.proofs.port_at.Statement.{statement}
 use Rattle.wire_scanning.proofs.port_at.Tie as tie
@@ -20,16 +20,16 @@ enum_told : tie.Need-enum-told
 enum_told c = search rules
 
 returns : tie.Need-returns
-returns c = short-port _ _ (sym c.enum_told.given.1 ∙ c.before.before.word_at.ensures)
+returns c = short_port _ _ (sym c.enum_told.given.1 ∙ c.before.before.word_at.ensures)
 
 returns-2 : tie.Need-returns-2
-returns-2 c = no-port _ _ _ (sym c.before.before.v.given.1 ∙ c.before.before.before.before.word_at.ensures) (omega arith)
+returns-2 c = no_port _ _ _ (sym c.before.before.v.given.1 ∙ c.before.before.before.before.word_at.ensures) (omega arith)
 
 add-t6 : tie.Need-overflow-add-t6
-add-t6 c = omega (arith, (word-within _ _ _ (sym c.before.before.v.given.1 ∙ c.before.before.before.before.word_at.ensures)).0)
+add-t6 c = omega (arith, (word_within _ _ _ (sym c.before.before.v.given.1 ∙ c.before.before.before.before.word_at.ensures)).0)
 
 returns-3 : tie.Need-returns-3
-returns-3 c = passes-port _ _ _ (sym c.before.before.v.given.1 ∙ c.before.before.before.before.word_at.ensures) (omega arith)
+returns-3 c = passes_port _ _ _ (sym c.before.before.v.given.1 ∙ c.before.before.before.before.word_at.ensures) (omega arith)
 
 pub port-at-spec : {M : Type 1} → statement M
 port-at-spec =

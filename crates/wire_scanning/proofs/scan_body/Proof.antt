@@ -6,7 +6,7 @@ use lib.ListN.{length}
 use native.Mathlib.Omega.{arith}
 use borrow.Author.Rules.{rules}
 use Rattle.wire_layouts.specs.Scans.{field_of, scanned, put}
-use Rattle.wire_scanning.proofs.Cases.{left, starts, next_word, next-hyper, next_place, last-stop, last-bad, last-over, last_end}
+use Rattle.wire_scanning.proofs.Cases.{left, starts, next_word, next_hyper, next_place, last_stop, last_bad, last_over, last_end}
 use Rattle.wire_scanning.proofs.scan_body.Statement.{statement}
 use Rattle.wire_scanning.proofs.scan_body.Tie as tie
 use Rattle.wire_scanning.proofs.scan_body.Reads as reads
@@ -78,7 +78,7 @@ unfolding put
 loop-again-2 c = (
   search rules,
   search rules,
-  c.before.before.before.before.before.before.loop.invariant.2 ∙ next-hyper
+  c.before.before.before.before.before.before.loop.invariant.2 ∙ next_hyper
       c.before.before.before.before.before.before.before.before.before.before.args.layout.now c.before.before.before.before.before.before.loop.i
       c.before.before.before.before.before.before.before.before.before.before.args.body.now c.before.before.before.before.before.before.loop.at
       c.before.before.before.before.before.before.loop.k (omega arith) _ _ (sym c.before.v2.given.1 ∙ c.before.before.before.field_at.ensures),
@@ -128,7 +128,7 @@ element-write-k-5 c = search rules
 returns : tie.Need-returns invariant-loop decreases-loop
 unfolding put
 returns c =
-    last-stop c.before.before.before.before.before.before.before.before.before.before.args.layout.now
+    last_stop c.before.before.before.before.before.before.before.before.before.before.args.layout.now
     c.before.before.before.before.before.before.loop.i c.before.before.before.before.before.before.before.before.before.before.args.body.now
     c.before.before.before.before.before.before.loop.at c.before.before.before.before.before.before.loop.k (omega arith) _
     (sym c.before.v3.given.1 ∙ c.before.before.before.field_at.ensures) ∙ sym c.before.before.before.before.before.before.loop.invariant.2
@@ -141,7 +141,7 @@ nothing-requires-2 c κs = search rules
 
 returns-2 : tie.Need-returns-2 invariant-loop decreases-loop
 returns-2 c =
-    c.nothing2.ensures ∙ last-bad c.before.before.before.before.before.before.before.before.before.before.args.layout.now
+    c.nothing2.ensures ∙ last_bad c.before.before.before.before.before.before.before.before.before.before.args.layout.now
     c.before.before.before.before.before.before.loop.i c.before.before.before.before.before.before.before.before.before.before.args.body.now
     c.before.before.before.before.before.before.loop.at c.before.before.before.before.before.before.loop.k (omega arith)
     (sym c.before.enum_told.given.1 ∙ c.before.before.before.field_at.ensures) ∙ sym c.before.before.before.before.before.before.loop.invariant.2
@@ -151,7 +151,7 @@ nothing-requires-3 c κs = search rules
 
 returns-3 : tie.Need-returns-3 invariant-loop decreases-loop
 returns-3 c =
-    c.nothing3.ensures ∙ last-over c.before.before.before.before.before.before.before.args.layout.now c.before.before.before.loop.i
+    c.nothing3.ensures ∙ last_over c.before.before.before.before.before.before.before.args.layout.now c.before.before.before.loop.i
     c.before.before.before.before.before.before.before.args.body.now c.before.before.before.loop.at c.before.before.before.loop.k (omega arith)
     c.before.if1.true ∙ sym c.before.before.before.loop.invariant.2
 

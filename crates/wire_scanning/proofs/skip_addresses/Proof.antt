@@ -4,7 +4,7 @@ use native.Mathlib.Omega.{arith}
 use borrow.Author.Rules.{rules}
 use Rattle.wire_layouts.specs.Layout.{times_at}
 use Rattle.wire_layouts.specs.Scans.{address_at, forget}
-use Rattle.wire_scanning.proofs.Cases.{times_more, times-short, times_none}
+use Rattle.wire_scanning.proofs.Cases.{times_more, times_short, times_none}
 use Rattle.wire_scanning.proofs.skip_addresses.Statement.{statement}
 use Rattle.wire_scanning.proofs.skip_addresses.Tie as tie
 use Rattle.wire_scanning.proofs.skip_addresses.Reads as reads
@@ -33,7 +33,7 @@ returns : tie.Need-returns invariant-loop decreases-loop
 returns c =
     let l = c.before.before.before.before in
     let s = l.before.before.args in
-    times-short (address_at s.body.now) l.loop.pos l.loop.left (omega arith) (sym c.enum_told.given.1 ∙ c.before.before.address-at.ensures) ∙ sym l.loop.invariant
+    times_short (address_at s.body.now) l.loop.pos l.loop.left (omega arith) (sym c.enum_told.given.1 ∙ c.before.before.address-at.ensures) ∙ sym l.loop.invariant
 
 sub-left : tie.Need-overflow-sub-left invariant-loop decreases-loop
 sub-left c = search rules

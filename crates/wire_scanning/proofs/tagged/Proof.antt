@@ -1,8 +1,8 @@
 -- The tag's word: missing, another, or this one.
-use Rattle.wire_scanning.proofs.Cases.{sees-tag, stops, misses-tag}
+use Rattle.wire_scanning.proofs.Cases.{sees_tag, stops, misses_tag}
 use native.Mathlib.Omega.{arith}
 use mathlib.Core.Path.{sym, ◌∙◌}
-use Rattle.xdr_opaque.proofs.Laws.{word-within}
+use Rattle.xdr_opaque.proofs.Laws.{word_within}
 use borrow.Author.Rules.{rules}
 use Rattle.wire_scanning.proofs.tagged.Statement.{statement}
 use Rattle.wire_scanning.proofs.tagged.Tie as tie
@@ -20,16 +20,16 @@ enum_told : tie.Need-enum-told
 enum_told c = search rules
 
 returns : tie.Need-returns
-returns c = misses-tag _ _ _ (sym c.enum_told.given.1 ∙ c.before.before.word_at.ensures)
+returns c = misses_tag _ _ _ (sym c.enum_told.given.1 ∙ c.before.before.word_at.ensures)
 
 returns-2 : tie.Need-returns-2
 returns-2 c = stops _ _ _ _ (sym c.before.before.v.given.1 ∙ c.before.before.before.before.word_at.ensures) c.if1.true
 
 add-t7 : tie.Need-overflow-add-t7
-add-t7 c = omega (arith, (word-within _ _ _ (sym c.before.before.v.given.1 ∙ c.before.before.before.before.word_at.ensures)).0)
+add-t7 c = omega (arith, (word_within _ _ _ (sym c.before.before.v.given.1 ∙ c.before.before.before.before.word_at.ensures)).0)
 
 returns-3 : tie.Need-returns-3
-returns-3 c = sees-tag _ _ _ _ (sym c.before.before.v.given.1 ∙ c.before.before.before.before.word_at.ensures) c.if1.false
+returns-3 c = sees_tag _ _ _ _ (sym c.before.before.v.given.1 ∙ c.before.before.before.before.word_at.ensures) c.if1.false
 
 pub tagged-spec : {M : Type 1} → statement M
 tagged-spec =

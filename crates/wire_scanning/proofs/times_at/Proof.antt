@@ -5,7 +5,7 @@ use native.Mathlib.Omega.{arith}
 use borrow.Author.Rules.{rules}
 use Rattle.wire_layouts.specs.Layout.{parts_at, times_at}
 use Rattle.wire_layouts.specs.Scans.{part_of, forget}
-use Rattle.wire_scanning.proofs.Cases.{times_more, times-short, times_none}
+use Rattle.wire_scanning.proofs.Cases.{times_more, times_short, times_none}
 use Rattle.wire_scanning.proofs.times_at.Statement.{statement}
 use Rattle.wire_scanning.proofs.times_at.Tie as tie
 use Rattle.wire_scanning.proofs.times_at.Reads as reads
@@ -35,7 +35,7 @@ returns : tie.Need-returns invariant-loop decreases-loop
 returns c =
     let l = c.before.before.before.before in
     let s = l.before.before.before.args in
-    times-short (parts_at (map part_of s.letters.now) s.body.now) l.loop.pos l.loop.left (omega arith) (sym c.enum_told.given.1 ∙ c.before.before.parts-at.ensures) ∙ sym l.loop.invariant
+    times_short (parts_at (map part_of s.letters.now) s.body.now) l.loop.pos l.loop.left (omega arith) (sym c.enum_told.given.1 ∙ c.before.before.parts-at.ensures) ∙ sym l.loop.invariant
 
 sub-left : tie.Need-overflow-sub-left invariant-loop decreases-loop
 sub-left c = search rules

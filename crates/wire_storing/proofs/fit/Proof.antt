@@ -6,8 +6,8 @@ use borrow.Author.Rules.{rules}
 use Rattle.codes.specs.Codes.{most_listed, store_length}
 use Rattle.wire_pairs.specs.Pairs.{pairs_from}
 use Rattle.wire_pairs.specs.Store.{text_bytes}
-use Rattle.wire_pairs.proofs.Storing.{fits-many, fits_not, fits_end}
-use Rattle.wire_storing.proofs.Turns.{size-next}
+use Rattle.wire_pairs.proofs.Storing.{fits_many, fits_not, fits_end}
+use Rattle.wire_storing.proofs.Turns.{size_next}
 use Rattle.wire_storing.proofs.fit.Statement.{statement}
 use Rattle.wire_storing.proofs.fit.Tie as tie
 use Rattle.wire_storing.proofs.fit.Reads as reads
@@ -22,7 +22,7 @@ abbrev decreases-loop : tie.decreases-loop
 decreases-loop body start count room₀ at₀ left₀ room at left = left
 
 returns : tie.Need-returns invariant-loop decreases-loop
-returns c = sym (fits-many _ _ _ (omega arith))
+returns c = sym (fits_many _ _ _ (omega arith))
 
 sub-room : tie.Need-overflow-sub-room invariant-loop decreases-loop
 sub-room c = search rules
@@ -46,14 +46,14 @@ returns-2 : tie.Need-returns-2 invariant-loop decreases-loop
 returns-2 c =
     let g = c.before.before in
     let l = g.before.before.before in
-    let e = size-next g.before.text_at.ensures g.text-at2.ensures l.loop.left g.before.before.loop-test.true in
+    let e = size_next g.before.text_at.ensures g.text-at2.ensures l.loop.left g.before.before.loop-test.true in
     sym (fits_not _ _ _ (omega (arith, l.loop.invariant.1, e)))
 
 returns-3 : tie.Need-returns-3 invariant-loop decreases-loop
 returns-3 c =
     let g = c.before.before.before.before.before in
     let l = g.before.before.before in
-    let e = size-next g.before.text_at.ensures g.text-at2.ensures l.loop.left g.before.before.loop-test.true in
+    let e = size_next g.before.text_at.ensures g.text-at2.ensures l.loop.left g.before.before.loop-test.true in
     sym (fits_not _ _ _ (omega (arith, l.loop.invariant.1, e)))
 
 sub-left : tie.Need-overflow-sub-left invariant-loop decreases-loop
@@ -66,7 +66,7 @@ loop-again : tie.Need-loop-preserved invariant-loop decreases-loop
 loop-again c =
     let g = c.before.before.before.before.before.before in
     let l = g.before.before.before in
-    let e = size-next g.before.text_at.ensures g.text-at2.ensures l.loop.left g.before.before.loop-test.true in
+    let e = size_next g.before.text_at.ensures g.text-at2.ensures l.loop.left g.before.before.loop-test.true in
     (l.loop.invariant.0, omega (arith, l.loop.invariant.1, e))
 
 returns-4 : tie.Need-returns-4 invariant-loop decreases-loop

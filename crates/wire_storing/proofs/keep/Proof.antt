@@ -1,6 +1,6 @@
 -- The three writes are one after another; what fits has room for each.
 use native.Mathlib.Omega.{arith}
-use Rattle.wire_pairs.proofs.Storing.{fits-room, stored}
+use Rattle.wire_pairs.proofs.Storing.{fits_room, stored}
 use borrow.Author.Rules.{rules}
 use Rattle.wire_storing.proofs.keep.Statement.{statement}
 use Rattle.wire_storing.proofs.keep.Tie as tie
@@ -16,7 +16,7 @@ write-word-requires c κs = search rules
 keep-words-requires : tie.Need-keep-words-requires
 keep-words-requires c κs =
     let p = c.before.before.before.before.before.before.before.requires in
-    let r = fits-room _ _ _ p.1 in
+    let r = fits_room _ _ _ p.1 in
     (omega (arith, p.0, r.1), omega (arith, r.1))
 
 mul-keep-texts : tie.Need-overflow-mul-keep-texts
@@ -28,7 +28,7 @@ add-keep-texts c = search rules
 keep-texts-requires : tie.Need-keep-texts-requires
 keep-texts-requires c κs =
     let p = c.before.before.before.before.before.before.before.before.before.before.before.requires in
-    let r = fits-room _ _ _ p.1 in
+    let r = fits_room _ _ _ p.1 in
     omega (arith, p.0, r.1)
 
 same_length : tie.Need-same-length

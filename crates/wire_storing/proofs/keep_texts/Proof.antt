@@ -7,8 +7,8 @@ use lib.ListN.{length}
 use Rattle.xdr.specs.Xdr.{overlay}
 use Rattle.wire_pairs.specs.Pairs.{pairs_from}
 use Rattle.wire_pairs.specs.Store.{pair_texts, text_bytes}
-use Rattle.wire_pairs.proofs.Storing.{texts-none}
-use Rattle.wire_storing.proofs.Turns.{size-next, texts-next, texts-length}
+use Rattle.wire_pairs.proofs.Storing.{texts_none}
+use Rattle.wire_storing.proofs.Turns.{size_next, texts_next, texts_length}
 use Rattle.wire_storing.proofs.keep_texts.Statement.{statement}
 use Rattle.wire_storing.proofs.keep_texts.Tie as tie
 use Rattle.wire_storing.proofs.keep_texts.Reads as reads
@@ -39,7 +39,7 @@ keep-text-requires c κs =
     let l = g.before.before.before in
     let p = g.before.text_at.ensures in
     let q = g.text-at2.ensures in
-    let e = size-next p q l.loop.left g.before.before.loop-test.true in
+    let e = size_next p q l.loop.left g.before.before.loop-test.true in
     (omega arith, omega (arith, l.loop.invariant.0, l.loop.invariant.1, e))
 
 add-keep-text : tie.Need-overflow-add-keep-text invariant-loop decreases-loop
@@ -48,7 +48,7 @@ add-keep-text c =
     let l = g.before.before.before in
     let p = g.before.text_at.ensures in
     let q = g.text-at2.ensures in
-    let e = size-next p q l.loop.left g.before.before.loop-test.true in
+    let e = size_next p q l.loop.left g.before.before.loop-test.true in
     omega (arith, l.loop.invariant.1, e)
 
 keep-text-requires-2 : tie.Need-keep-text-requires-2 invariant-loop decreases-loop
@@ -57,7 +57,7 @@ keep-text-requires-2 c κs =
     let l = g.before.before.before in
     let p = g.before.text_at.ensures in
     let q = g.text-at2.ensures in
-    let e = size-next p q l.loop.left g.before.before.loop-test.true in
+    let e = size_next p q l.loop.left g.before.before.loop-test.true in
     (omega arith, omega (arith, l.loop.invariant.0, l.loop.invariant.1, e))
 
 add-to : tie.Need-overflow-add-to invariant-loop decreases-loop
@@ -66,7 +66,7 @@ add-to c =
     let l = g.before.before.before in
     let p = g.before.text_at.ensures in
     let q = g.text-at2.ensures in
-    let e = size-next p q l.loop.left g.before.before.loop-test.true in
+    let e = size_next p q l.loop.left g.before.before.loop-test.true in
     omega (arith, l.loop.invariant.1, e)
 
 add-to-2 : tie.Need-overflow-add-to-2 invariant-loop decreases-loop
@@ -75,7 +75,7 @@ add-to-2 c =
     let l = g.before.before.before in
     let p = g.before.text_at.ensures in
     let q = g.text-at2.ensures in
-    let e = size-next p q l.loop.left g.before.before.loop-test.true in
+    let e = size_next p q l.loop.left g.before.before.loop-test.true in
     omega (arith, l.loop.invariant.1, e)
 
 sub-left : tie.Need-overflow-sub-left invariant-loop decreases-loop
@@ -93,9 +93,9 @@ loop-again c =
     let h = g.before.before.loop-test.true in
     let k = c.before.before.before.before.before.before.before.before.before.keep-text.ensures in
     let m = c.before.before.before.before.keep-text2.ensures in (
-      texts-length p q l.loop.left h _ _ _ _ _ l.loop.invariant.0 l.loop.invariant.1 k m,
-      omega (arith, l.loop.invariant.1, size-next p q l.loop.left h),
-      texts-next p q l.loop.left h _ _ _ _ _ l.loop.invariant.2 k m,
+      texts_length p q l.loop.left h _ _ _ _ _ l.loop.invariant.0 l.loop.invariant.1 k m,
+      omega (arith, l.loop.invariant.1, size_next p q l.loop.left h),
+      texts_next p q l.loop.left h _ _ _ _ _ l.loop.invariant.2 k m,
     )
 
 same_length : tie.Need-same-length invariant-loop decreases-loop
@@ -104,7 +104,7 @@ same_length c = search rules
 returns : tie.Need-returns invariant-loop decreases-loop
 returns c =
     let l = c.before in
-    sym (l.loop.invariant.2 ∙ texts-none _ _ _ (omega arith) _ _)
+    sym (l.loop.invariant.2 ∙ texts_none _ _ _ (omega arith) _ _)
 
 pub keep-texts-spec : {M : Type 1} → statement M
 keep-texts-spec =

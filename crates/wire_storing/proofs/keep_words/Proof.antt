@@ -8,8 +8,8 @@ use Rattle.codes.specs.Codes.{store_length}
 use Rattle.xdr.specs.Xdr.{be32s, overlay}
 use Rattle.wire_pairs.specs.Pairs.{pairs_from}
 use Rattle.wire_pairs.specs.Store.{pair_words, text_bytes}
-use Rattle.wire_pairs.proofs.Storing.{words-none}
-use Rattle.wire_storing.proofs.Turns.{size-next, words-next}
+use Rattle.wire_pairs.proofs.Storing.{words_none}
+use Rattle.wire_storing.proofs.Turns.{size_next, words_next}
 use Rattle.wire_storing.proofs.keep_words.Statement.{statement}
 use Rattle.wire_storing.proofs.keep_words.Tie as tie
 use Rattle.wire_storing.proofs.keep_words.Reads as reads
@@ -44,21 +44,21 @@ cast-t15 : tie.Need-overflow-cast-t15 invariant-loop decreases-loop
 cast-t15 c =
     let g = c.before.before in
     let l = g.before.before.before in
-    let e = size-next g.before.text_at.ensures g.text-at2.ensures l.loop.left g.before.before.loop-test.true in
+    let e = size_next g.before.text_at.ensures g.text-at2.ensures l.loop.left g.before.before.loop-test.true in
     omega (arith, l.loop.invariant.2, e)
 
 cast-t16 : tie.Need-overflow-cast-t16 invariant-loop decreases-loop
 cast-t16 c =
     let g = c.before.before in
     let l = g.before.before.before in
-    let e = size-next g.before.text_at.ensures g.text-at2.ensures l.loop.left g.before.before.loop-test.true in
+    let e = size_next g.before.text_at.ensures g.text-at2.ensures l.loop.left g.before.before.loop-test.true in
     omega (arith, l.loop.invariant.2, e)
 
 cast-t17 : tie.Need-overflow-cast-t17 invariant-loop decreases-loop
 cast-t17 c =
     let g = c.before.before.before in
     let l = g.before.before.before in
-    let e = size-next g.before.text_at.ensures g.text-at2.ensures l.loop.left g.before.before.loop-test.true in
+    let e = size_next g.before.text_at.ensures g.text-at2.ensures l.loop.left g.before.before.loop-test.true in
     omega (arith, l.loop.invariant.2, e)
 
 slice-aggregate-write-words : tie.Need-slice-aggregate-write-words invariant-loop decreases-loop
@@ -74,7 +74,7 @@ add-from : tie.Need-overflow-add-from invariant-loop decreases-loop
 add-from c =
     let g = c.before.before.before.before.before.before.before.before.before in
     let l = g.before.before.before in
-    let e = size-next g.before.text_at.ensures g.text-at2.ensures l.loop.left g.before.before.loop-test.true in
+    let e = size_next g.before.text_at.ensures g.text-at2.ensures l.loop.left g.before.before.loop-test.true in
     omega (arith, l.loop.invariant.2, e)
 
 sub-left : tie.Need-overflow-sub-left invariant-loop decreases-loop
@@ -92,8 +92,8 @@ loop-again c =
     let h = g.before.before.loop-test.true in (
       search rules,
       search rules,
-      omega (arith, l.loop.invariant.2, size-next p q l.loop.left h),
-      words-next p q l.loop.left h _ _ _ _ _ l.loop.invariant.3 c.before.before.before.write-words.ensures,
+      omega (arith, l.loop.invariant.2, size_next p q l.loop.left h),
+      words_next p q l.loop.left h _ _ _ _ _ l.loop.invariant.3 c.before.before.before.write-words.ensures,
     )
 
 same_length : tie.Need-same-length invariant-loop decreases-loop
@@ -102,7 +102,7 @@ same_length c = search rules
 returns : tie.Need-returns invariant-loop decreases-loop
 returns c =
     let l = c.before in
-    sym (l.loop.invariant.3 ∙ words-none _ _ _ (omega arith) _ _ _)
+    sym (l.loop.invariant.3 ∙ words_none _ _ _ (omega arith) _ _ _)
 
 pub keep-words-spec : {M : Type 1} → statement M
 keep-words-spec =

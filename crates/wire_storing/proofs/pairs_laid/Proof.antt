@@ -6,7 +6,7 @@ use borrow.Author.Rules.{rules}
 use Rattle.codes.specs.Codes.{most_listed}
 use lib.ListN.{length}
 use Rattle.wire_pairs.specs.Store.{laid_from}
-use Rattle.wire_pairs.proofs.Storing.{laid-name, laid-value, laid_next, laid_end}
+use Rattle.wire_pairs.proofs.Storing.{laid_name, laid_value, laid_next, laid_end}
 use Rattle.wire_storing.proofs.pairs_laid.Statement.{statement}
 use Rattle.wire_storing.proofs.pairs_laid.Tie as tie
 use Rattle.wire_storing.proofs.pairs_laid.Reads as reads
@@ -51,7 +51,7 @@ cast-if1 c = search rules
 returns : tie.Need-returns invariant-loop decreases-loop
 returns c =
     let l = c.before.before.before.before.before in
-    sym (l.loop.invariant.3 ∙ laid-name _ _ _ _ (omega arith) (λ e. c.if1.true (cc)))
+    sym (l.loop.invariant.3 ∙ laid_name _ _ _ _ (omega arith) (λ e. c.if1.true (cc)))
 
 add-read-word-3 : tie.Need-overflow-add-read-word-3 invariant-loop decreases-loop
 add-read-word-3 c = search rules
@@ -68,7 +68,7 @@ add-if2 c = search rules
 returns-2 : tie.Need-returns-2 invariant-loop decreases-loop
 returns-2 c =
     let l = c.before.before.before.before.before.before.before in
-    sym (l.loop.invariant.3 ∙ laid-value _ _ _ _ (omega arith) (cc) (λ e. c.if2.true (cc)))
+    sym (l.loop.invariant.3 ∙ laid_value _ _ _ _ (omega arith) (cc) (λ e. c.if2.true (cc)))
 
 add-sum : tie.Need-overflow-add-sum invariant-loop decreases-loop
 add-sum c = search rules

@@ -1,6 +1,6 @@
 -- What the reader found is the case of the definition.
 use mathlib.Core.Path.{sym, ◌∙◌}
-use Rattle.wire_storing.proofs.Turns.{text-there, text-none}
+use Rattle.wire_storing.proofs.Turns.{text_there, text_none}
 use borrow.Author.Rules.{rules}
 use Rattle.wire_storing.proofs.text_at.Statement.{statement}
 use Rattle.wire_storing.proofs.text_at.Tie as tie
@@ -18,10 +18,10 @@ enum_told : tie.Need-enum-told
 enum_told c = search rules
 
 returns : tie.Need-returns
-returns c = text-none _ _ (sym c.enum_told.given.1 ∙ c.before.before.opaque-at.ensures)
+returns c = text_none _ _ (sym c.enum_told.given.1 ∙ c.before.before.opaque-at.ensures)
 
 returns-2 : tie.Need-returns-2
-returns-2 c = text-there _ _ _ _ _ (sym c.before.start.given.1 ∙ c.before.before.before.opaque-at.ensures)
+returns-2 c = text_there _ _ _ _ _ (sym c.before.start.given.1 ∙ c.before.before.before.opaque-at.ensures)
 
 pub text-at-spec : {M : Type 1} → statement M
 text-at-spec = tie.close (tie.spec opaque-at-requires enum-known-start enum_told returns returns-2)

@@ -5,7 +5,7 @@ use lib.ListN.{length, drop}
 use native.Mathlib.Omega.{arith}
 use borrow.Author.Rules.{rules}
 use Rattle.xdr_opaque.specs.Opaque.{all_zero}
-use Rattle.xdr_opaque.proofs.Laws.{zero_more, zero-not, zero-none}
+use Rattle.xdr_opaque.proofs.Laws.{zero_more, zero_not, zero_none}
 use Rattle.xdr_opaque.proofs.all_zero.Statement.{statement}
 use Rattle.xdr_opaque.proofs.all_zero.Tie as tie
 use Rattle.xdr_opaque.proofs.all_zero.Reads as reads
@@ -24,7 +24,7 @@ shared-slice-read-if1 : tie.Need-shared-slice-read-if1 invariant-loop decreases-
 shared-slice-read-if1 c = search rules
 
 returns : tie.Need-returns invariant-loop decreases-loop
-returns c = zero-not c.before.before.before.before.args.s.now c.before.before.before.loop.i c.before.before.before.loop.invariant.1 (omega arith) c.if1.true
+returns c = zero_not c.before.before.before.before.args.s.now c.before.before.before.loop.i c.before.before.before.loop.invariant.1 (omega arith) c.if1.true
 
 add-i : tie.Need-overflow-add-i invariant-loop decreases-loop
 add-i c = search rules
@@ -36,7 +36,7 @@ loop-again : tie.Need-loop-preserved invariant-loop decreases-loop
 loop-again c = (search rules, zero_more c.before.before.before.before.args.s.now c.before.before.before.loop.i c.before.before.before.loop.invariant.1 (omega arith) c.if1.false)
 
 returns-2 : tie.Need-returns-2 invariant-loop decreases-loop
-returns-2 c = zero-none c.before.before.args.s.now c.before.loop.i c.before.loop.invariant.1 (omega arith)
+returns-2 c = zero_none c.before.before.args.s.now c.before.loop.i c.before.loop.invariant.1 (omega arith)
 
 pub all-zero-spec : {M : Type 1} → statement M
 all-zero-spec =

@@ -35,7 +35,7 @@ returns : tie.Need-returns
 unfolding data_body
 returns c =
     let k = c.before.before in
-    let e = by_type listen_fields _ _ refl refl _ k.before.is-tcp.ensures k.scan-by-type.ensures in
+    let e = by_type listen_fields _ _ refl refl _ k.before.is_tcp_lem.ensures k.scan-by-type.ensures in
     of_scan (request_of (Message.Data DataKind.Listen)) e c.judged.ensures
 
 pub data-listen-spec : {M : Type 1} → statement M

@@ -43,7 +43,7 @@ returns : tie.Need-returns
 unfolding joint_body
 returns c =
     let k = c.before.before.before.before in
-    let e = by_type (λ t. one word ∷ connect_fields t) _ _ refl refl _ k.before.is-tcp.ensures k.scan-by-type.ensures in
+    let e = by_type (λ t. one word ∷ connect_fields t) _ _ refl refl _ k.before.is_tcp_lem.ensures k.scan-by-type.ensures in
     of_scan (request_of (Message.Joint JointKind.MoverConnect)) e c.judged.ensures
 
 pub mover-connect-spec : {M : Type 1} → statement M

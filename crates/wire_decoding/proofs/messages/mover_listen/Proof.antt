@@ -40,7 +40,7 @@ returns : tie.Need-returns
 unfolding mover_body
 returns c =
     let k = c.before.before.before in
-    let e = by_type (λ t. one word ∷ listen_fields t) _ _ refl refl _ k.before.is-tcp.ensures k.scan-by-type.ensures in
+    let e = by_type (λ t. one word ∷ listen_fields t) _ _ refl refl _ k.before.is_tcp_lem.ensures k.scan-by-type.ensures in
     of_scan (request_of (Message.Mover MoverKind.Listen)) e c.judged.ensures
 
 pub mover-listen-spec : {M : Type 1} → statement M

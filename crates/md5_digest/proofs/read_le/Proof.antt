@@ -1,0 +1,85 @@
+use Rattle.md5_digest.specs.Md5.{le_word}
+use Rattle.std.proofs.Common.{rules}
+use Rattle.md5_digest.proofs.read_le.Statement.{statement}
+use Rattle.md5_digest.proofs.read_le.Tie as tie
+use Rattle.md5_digest.proofs.read_le.Reads as reads
+use Rattle.md5_digest.proofs.read_le.Lts as lts
+use Rattle.md5_digest.proofs.wide.Reads as wide-reads
+
+shared-slice-read-wide : tie.Need-shared-slice-read-wide
+shared-slice-read-wide c = search rules
+
+wide-requires : tie.Need-wide-requires
+wide-requires c κs = search rules
+
+add_wide : tie.Need-overflow-add-wide
+add_wide c = search rules
+
+shared-slice-read-wide-2 : tie.Need-shared-slice-read-wide-2
+shared-slice-read-wide-2 c = search rules
+
+wide-requires-2 : tie.Need-wide-requires-2
+wide-requires-2 c κs = search rules
+
+mul-result : tie.Need-overflow-mul-result
+mul-result c = search rules
+
+add-result : tie.Need-overflow-add-result
+add-result c = search rules
+
+add-wide-2 : tie.Need-overflow-add-wide-2
+add-wide-2 c = search rules
+
+shared-slice-read-wide-3 : tie.Need-shared-slice-read-wide-3
+shared-slice-read-wide-3 c = search rules
+
+wide-requires-3 : tie.Need-wide-requires-3
+wide-requires-3 c κs = search rules
+
+mul-result-2 : tie.Need-overflow-mul-result-2
+mul-result-2 c = search rules
+
+add-result-2 : tie.Need-overflow-add-result-2
+add-result-2 c = search rules
+
+add-wide-3 : tie.Need-overflow-add-wide-3
+add-wide-3 c = search rules
+
+shared-slice-read-wide-4 : tie.Need-shared-slice-read-wide-4
+shared-slice-read-wide-4 c = search rules
+
+wide-requires-4 : tie.Need-wide-requires-4
+wide-requires-4 c κs = search rules
+
+mul-result-3 : tie.Need-overflow-mul-result-3
+mul-result-3 c = search rules
+
+add-result-3 : tie.Need-overflow-add-result-3
+add-result-3 c = search rules
+
+returns : tie.Need-returns
+unfolding le_word
+returns c = cc c.wide4.ensures.0
+
+pub read-le-spec : {M : Type 1} → statement M
+read-le-spec =
+    tie.close
+    (tie.spec
+    shared-slice-read-wide
+    wide-requires
+    add_wide
+    shared-slice-read-wide-2
+    wide-requires-2
+    mul-result
+    add-result
+    add-wide-2
+    shared-slice-read-wide-3
+    wide-requires-3
+    mul-result-2
+    add-result-2
+    add-wide-3
+    shared-slice-read-wide-4
+    wide-requires-4
+    mul-result-3
+    add-result-3
+    returns)

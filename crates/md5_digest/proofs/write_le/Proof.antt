@@ -1,0 +1,65 @@
+use Rattle.md5_digest.specs.Md5.{le32}
+use Rattle.xdr.proofs.Laws.{stores_4}
+use Rattle.std.proofs.Common.{arith, length-set, rules}
+use Rattle.md5_digest.proofs.write_le.Statement.{statement}
+use Rattle.md5_digest.proofs.write_le.Tie as tie
+use Rattle.md5_digest.proofs.write_le.Reads as reads
+use Rattle.md5_digest.proofs.write_le.Lts as lts
+
+cast-out : tie.Need-overflow-cast-out
+cast-out c = search rules
+
+slice-write-out : tie.Need-slice-write-out
+slice-write-out c = search rules
+
+cast-out-2 : tie.Need-overflow-cast-out-2
+cast-out-2 c = search rules
+
+add-out : tie.Need-overflow-add-out
+add-out c = search rules
+
+slice-write-out-2 : tie.Need-slice-write-out-2
+slice-write-out-2 c = simp length-set (omega arith)
+
+cast-out-3 : tie.Need-overflow-cast-out-3
+cast-out-3 c = search rules
+
+add-out-2 : tie.Need-overflow-add-out-2
+add-out-2 c = search rules
+
+slice-write-out-3 : tie.Need-slice-write-out-3
+slice-write-out-3 c = simp length-set (omega arith)
+
+cast-out-4 : tie.Need-overflow-cast-out-4
+cast-out-4 c = search rules
+
+add-out-3 : tie.Need-overflow-add-out-3
+add-out-3 c = search rules
+
+slice-write-out-4 : tie.Need-slice-write-out-4
+slice-write-out-4 c = simp length-set (omega arith)
+
+same_length : tie.Need-same-length
+same_length c = search rules
+
+returns : tie.Need-returns
+unfolding le32
+returns c = stores_4 _ _ _ _ _ _ c.requires
+
+pub write-le-spec : {M : Type 1} → statement M
+write-le-spec =
+    tie.close
+    (tie.spec
+    cast-out
+    slice-write-out
+    cast-out-2
+    add-out
+    slice-write-out-2
+    cast-out-3
+    add-out-2
+    slice-write-out-3
+    cast-out-4
+    add-out-3
+    slice-write-out-4
+    same_length
+    returns)
