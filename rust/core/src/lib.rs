@@ -23,15 +23,9 @@ pub type Challenge = [u8; codes::CHALLENGE_LENGTH];
 /// The cartridge in each place of the changer: the drive first, then the slots 16 to 23. 0 is none.
 pub type Slots = [u32; 9];
 
-/// The declarations hold nothing that Rust could derive from, so what is needed of them stands here, field by field.
+/// The declarations derive Clone and Copy alone, so what else is needed of them stands here, field by field.
 macro_rules! by_value {
     ($($t:ident { $($f:ident),* })*) => { $(
-        impl Clone for $t {
-            fn clone(&self) -> Self {
-                *self
-            }
-        }
-        impl Copy for $t {}
         impl PartialEq for $t {
             fn eq(&self, other: &Self) -> bool {
                 let $t { $($f),* } = self;
