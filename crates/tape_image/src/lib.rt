@@ -1,5 +1,7 @@
 // The cartridge image in a caller's byte slice: where its words lie. No other crate knows the layout. `tape_sound` judges an image, `tape_walking` walks
 // over its entries.
+#![tactic(auto)]
+
 ghost use Rattle.std.specs.Prelude.{◌≡◌, ◌+◌, ◌-◌, ◌*◌, ◌<◌, ◌≤◌, length};
 ghost use Rattle.xdr.specs.Xdr.{word};
 ghost use Rattle.tape_image.specs.Image.{header_len, capacity, count, used, entry_at, entry_len, entry_start, body_at};
