@@ -1,4 +1,6 @@
 // Bytes from text in hex.
+#![tactic(auto)]
+
 ghost use Rattle.std.specs.Prelude.{◌≡◌, length};
 ghost use Rattle.hex_text.specs.Hex.{digit_of, pair_of, blank_of, Reads};
 ghost use Rattle.hex_text.specs.Cases.{HexCases};
