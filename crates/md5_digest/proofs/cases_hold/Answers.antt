@@ -1,16 +1,10 @@
--- Each case is computed: the definitions unfold, and both sides are one term.
 use Rattle.std.proofs.Common.{refl}
 use Rattle.xdr.specs.Choose.{choose}
 use Rattle.md5_digest.specs.Md5.{index_of, shift_of, md5, le32, md5_registers, processed, padding, compressed, operations, stepped}
 use Rattle.md5_digest.specs.Md5.{auxiliary_of, rotated, le_word}
-use Rattle.md5_digest.proofs.cases_hold.Statement.{statement}
-use Rattle.md5_digest.proofs.cases_hold.Tie as tie
-use Rattle.md5_digest.proofs.cases_hold.Reads as reads
-use Rattle.md5_digest.proofs.cases_hold.Lts as lts
+use Rattle.md5_digest.proofs.cases_hold.Goals as goal
 
-returns : tie.Need-returns
+-- Each case is computed: the definitions unfold, and both sides are one term.
+pub returns : goal.returns
 unfolding choose index_of shift_of md5 le32 md5_registers processed padding compressed operations stepped auxiliary_of rotated le_word
 returns c = record { indices = refl; shifts = refl; none = refl; a = refl; abc = refl }
-
-pub cases-hold-spec : {M : Type 1} → statement M
-cases-hold-spec = tie.close (tie.spec returns)
