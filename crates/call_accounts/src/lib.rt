@@ -11,7 +11,7 @@ pub const LEAST_LISTING: usize = 96;
 
 // What a listing returns; len is how many bytes stand at the output's start.
 #[repr(C)]
-#[derive(Drop)]
+#[derive(Clone, Copy)]
 pub struct Listed {
     pub code: u32,
     pub len: usize,

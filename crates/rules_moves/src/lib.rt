@@ -17,7 +17,7 @@ use rules_parts::types::{Data, Mover, Tape};
 // What a move comes to: the bytes taken or handed over; why the data end and the mover halted and why the mover paused, each 0 where it
 // did not; and the parts of the session after it.
 #[repr(C)]
-#[derive(Drop)]
+#[derive(Clone, Copy)]
 pub struct Move {
     pub count: usize,
     pub dwhy: u32,
@@ -29,7 +29,7 @@ pub struct Move {
 }
 
 // What a walk over the tape's entries comes to: the record that is sought, the position after a mark, or the end.
-#[derive(Drop)]
+#[derive(Clone, Copy)]
 pub enum Found {
     Target(usize),
     Mark(usize),

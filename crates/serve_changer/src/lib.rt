@@ -20,7 +20,7 @@ use wire_requests::ScsiRequest;
 const LONGEST_CDB: usize = 16;
 
 // What a request changes of the changer. It stands for the changer after it, since no enum holds an array.
-#[derive(Drop)]
+#[derive(Clone, Copy)]
 pub enum ChangerChange {
     Nothing,
     Cleared(bool),
@@ -29,7 +29,7 @@ pub enum ChangerChange {
 }
 
 // A refusal; a reply and what changes with it; or the status of elements, whose reply shows it and changes nothing.
-#[derive(Drop)]
+#[derive(Clone, Copy)]
 pub enum ScsiDone {
     Refuse(u32),
     Accept(Reply, ChangerChange),

@@ -14,7 +14,7 @@ use wire_replies::{DataView, Reply};
 use wire_requests::{DataRequest, Pairs};
 
 // A refusal, or a reply and the data end after it.
-#[derive(Drop)]
+#[derive(Clone, Copy)]
 pub enum DataDone {
     Refuse(u32),
     Accept(Reply, Data),

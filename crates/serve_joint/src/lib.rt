@@ -13,7 +13,7 @@ use wire_replies::Reply;
 use wire_requests::JointRequest;
 
 // A refusal, or a reply and both ends after it.
-#[derive(Drop)]
+#[derive(Clone, Copy)]
 pub enum JointDone {
     Refuse(u32),
     Accept(Reply, Ends),

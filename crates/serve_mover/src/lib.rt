@@ -8,7 +8,7 @@ use wire_replies::{MoverView, Reply};
 use wire_requests::MoverRequest;
 
 // A refusal, or a reply and the mover after it.
-#[derive(Drop)]
+#[derive(Clone, Copy)]
 pub enum MoverDone {
     Refuse(u32),
     Accept(Reply, Mover),

@@ -15,7 +15,7 @@ use wire_requests::TapeRequest;
 const READ_WRITE: u32 = 1;
 
 // A refusal, or a reply and the tape after it.
-#[derive(Drop)]
+#[derive(Clone, Copy)]
 pub enum TapeDone {
     Refuse(u32),
     Accept(Reply, Tape),

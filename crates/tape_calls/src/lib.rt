@@ -8,7 +8,7 @@ use tape_ops::Part;
 
 // An entry of a cartridge: of a record its length, of a mark 0; and where it starts in the body. The error is 0, 13 past the last entry, or 15.
 #[repr(C)]
-#[derive(Drop)]
+#[derive(Clone, Copy)]
 pub struct Entry {
     pub error: u32,
     pub len: usize,

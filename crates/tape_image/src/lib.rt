@@ -105,7 +105,7 @@ pub fn put_entry(image: &mut [u8], position: usize, keep: usize, len: usize)
 
 // The file and the block number of a position.
 #[repr(C)]
-#[derive(Drop)]
+#[derive(Clone, Copy)]
 pub struct Place {
     pub file: u32,
     pub block: u32,

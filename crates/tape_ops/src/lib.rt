@@ -10,7 +10,7 @@ use tape_spacing::Spaced;
 
 // What a write gives: the error, the bytes written and the next position.
 #[repr(C)]
-#[derive(Drop)]
+#[derive(Clone, Copy)]
 pub struct Wrote {
     pub error: u32,
     pub count: u32,
@@ -19,7 +19,7 @@ pub struct Wrote {
 
 // What a read gives: the error, the next position, and where the bytes lie in the image.
 #[repr(C)]
-#[derive(Drop)]
+#[derive(Clone, Copy)]
 pub struct Part {
     pub error: u32,
     pub position: usize,
@@ -29,7 +29,7 @@ pub struct Part {
 
 // What get state gives: the error, the file and the block number.
 #[repr(C)]
-#[derive(Drop)]
+#[derive(Clone, Copy)]
 pub struct Standing {
     pub error: u32,
     pub file: u32,

@@ -9,7 +9,7 @@ ghost use Rattle.tape_files.proofs.Laid.{Ready};
 ghost use Rattle.tape_thinning.specs.Walk.{next_at, Surveyed, room_of, Copyable, Thinned};
 
 // How many files a cartridge has, and the entries and bytes of the named ones.
-#[derive(Drop)]
+#[derive(Clone, Copy)]
 pub struct Survey {
     pub files: usize,
     pub entries: usize,

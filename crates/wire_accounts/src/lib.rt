@@ -10,14 +10,14 @@ ghost use Rattle.wire_accounts.specs.Holds.{AccountsHold};
 use xdr_opaque::{Opaque, opaque_at};
 
 // A part of the buffer.
-#[derive(Drop)]
+#[derive(Clone, Copy)]
 pub struct Stretch {
     pub start: usize,
     pub len: usize,
 }
 
 // Where an account stands; next is behind it, and 0 where there is no account.
-#[derive(Drop)]
+#[derive(Clone, Copy)]
 pub struct AccountPlace {
     pub kind: u32,
     pub id: Stretch,

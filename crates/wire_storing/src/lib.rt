@@ -58,7 +58,7 @@ pub fn is_laid(store: &[u8]) -> bool
 }
 
 // Where a text of a body stands: its bytes start at start and are len long; next is past its fill.
-#[derive(Drop)]
+#[derive(Clone, Copy)]
 struct Place {
     start: usize,
     len: usize,

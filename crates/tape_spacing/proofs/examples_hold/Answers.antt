@@ -3,14 +3,8 @@ use Rattle.xdr.specs.Choose.{choose}
 use Rattle.xdr.specs.Xdr.{be32, be32s, word}
 use Rattle.tape_spacing.specs.Spacing.{spacing, walk, ahead_of, passes, position_after, left_after, stops}
 use Rattle.tape_spacing.specs.Examples.{sample}
-use Rattle.tape_spacing.proofs.examples_hold.Statement.{statement}
-use Rattle.tape_spacing.proofs.examples_hold.Tie as tie
-use Rattle.tape_spacing.proofs.examples_hold.Reads as reads
-use Rattle.tape_spacing.proofs.examples_hold.Lts as lts
+use Rattle.tape_spacing.proofs.examples_hold.Goals as goal
 
-returns : tie.Need-returns
+pub returns : goal.returns
 unfolding sample spacing walk ahead_of passes position_after left_after stops choose word be32 be32s
 returns c = refl
-
-pub examples-hold-spec : {M : Type 1} → statement M
-examples-hold-spec = tie.close (tie.spec returns)
