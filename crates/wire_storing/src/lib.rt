@@ -1,4 +1,6 @@
 // The store of a data end's environment: judged, and written from the pairs of a body.
+#![tactic(auto)]
+
 ghost use Rattle.std.specs.Prelude.{◌≡◌, true, ◌+◌, ◌*◌, ◌≤◌, ◌<◌, length, take, drop};
 ghost use Rattle.xdr.specs.Xdr.{be32s, overlay};
 ghost use Rattle.codes.specs.Codes.{most_listed, store_length};
