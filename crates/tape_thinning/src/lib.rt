@@ -1,4 +1,6 @@
 // Thinning out a cartridge: the named files of one image go to another. `tape_files` has the definitions.
+#![tactic(auto)]
+
 ghost use Rattle.std.specs.Prelude.{◌≡◌, true, ◌+◌, ◌≤◌, ◌<◌, length};
 ghost use Rattle.xdr.specs.Choose.{choose};
 ghost use Rattle.tape_image.specs.Image.{entry_bytes};
