@@ -1,4 +1,3 @@
--- Each list is read by computing: the definitions that it meets unfold, and both sides are one term.
 use Prim.Native.Nat.{ℕ, suc, ◌^◌, ◌≤◌, ◌<◌}
 use mathlib.Core.Path.{refl}
 use mathlib.Core.List.{List, [], ◌∷◌, flat_map}
@@ -16,9 +15,9 @@ use Rattle.wire_layouts.specs.Laws.{is_lists, FieldsFit, no_field, field_on}
 use Rattle.wire_layouts.specs.Scans.{pair_parts, address_parts, addresses, put, puts, summed, scanned, field_seen}
 use Rattle.wire_layouts.specs.AddressLists.{keep, count_seen, and_address, addresses_from, listed, addresses_at, is_tcp, lendable}
 use Rattle.wire_layouts.specs.AddressCases.{times, two_value}
-use Rattle.wire_layouts.proofs.address_cases.Statement.{statement}
-use Rattle.wire_layouts.proofs.address_cases.Tie as tie
+use Rattle.wire_layouts.proofs.address_cases.Goals as goal
 
+-- Each list is read by computing: the definitions that it meets unfold, and both sides are one term.
 -- a pair, and an address with its pairs, fit
 pair : {n : ℕ} {is : List (Item (List ℕ))} (s t : List ℕ) → length s < 2 ^ 32 → length t < 2 ^ 32 → TimesFit (PartsFit pair_parts) n is
     → TimesFit (PartsFit pair_parts) (suc n) (bytes s ∷ bytes t ∷ is)
@@ -39,42 +38,38 @@ two_fits =
     is_list {n = 2} (omega arith) (omega arith) (time_on near (time_on far no_time)) in
     field_on (is_lists all) no_field
 
-returns : tie.Need-returns
+pub returns : goal.returns
 unfolding
     choose word all_zero opaque_at piece_of part_at prepend and_part and_got parts_at times_at counted items_of element_at field_at and_value and_read read_fields
     put puts summed scanned field_seen keep count_seen and_address addresses_from listed addresses_at is_tcp lendable times write_as flat_map be32 opaque
-returns c =
-    record {
-      none = refl;
-      one = refl;
-      both = refl;
-      sixteen = refl;
-      seventeen = refl;
-      port_of_two_bytes = refl;
-      port_above = refl;
-      pairs_64 = refl;
-      pairs_65 = refl;
-      fill_not_zero = refl;
-      cut_in_a_pair = refl;
-      cut_in_the_count = refl;
-      written_two = refl;
-      fits_two = two_fits;
-      scanned_two = refl;
-      left_over = refl;
-      given_two = refl;
-      given_sixteen = refl;
-      lent_two = refl;
-      lent_empty = refl;
-      lent_nothing = refl;
-      lent_left_over = refl;
-      lent_seventeen = refl;
-      lent_longest = refl;
-      lent_too_long = refl;
-      type_tcp = refl;
-      type_local = refl;
-      type_cut = refl;
-      given_none = refl;
-    }
-
-pub address-cases-spec : {M : Type 1} → statement M
-address-cases-spec = tie.close (tie.spec returns)
+returns c = record {
+  none = refl;
+  one = refl;
+  both = refl;
+  sixteen = refl;
+  seventeen = refl;
+  port_of_two_bytes = refl;
+  port_above = refl;
+  pairs_64 = refl;
+  pairs_65 = refl;
+  fill_not_zero = refl;
+  cut_in_a_pair = refl;
+  cut_in_the_count = refl;
+  written_two = refl;
+  fits_two = two_fits;
+  scanned_two = refl;
+  left_over = refl;
+  given_two = refl;
+  given_sixteen = refl;
+  lent_two = refl;
+  lent_empty = refl;
+  lent_nothing = refl;
+  lent_left_over = refl;
+  lent_seventeen = refl;
+  lent_longest = refl;
+  lent_too_long = refl;
+  type_tcp = refl;
+  type_local = refl;
+  type_cut = refl;
+  given_none = refl;
+}
