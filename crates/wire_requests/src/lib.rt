@@ -1,5 +1,7 @@
 // The requests that bodies are: what each is by its layout. `wire_decoding` decodes them. A text is its place in the body, and is compared or copied from
 // there.
+#![tactic(auto)]
+
 ghost use Rattle.wire_requests.specs.RoundTrip.{RequestsBack, RequestsOneSpelling};
 ghost use Rattle.wire_requests.specs.Rows.{RowsHold};
 
