@@ -1,5 +1,7 @@
 // The remote tape protocol of source 001: commands and replies, as definitions. `wire_rmt_reading` reads the one and
 // `wire_rmt_writing` writes the other.
+#![tactic(auto)]
+
 ghost use Rattle.wire_rmt.specs.Holds.{NumbersHold, CommandsHold, RepliesHold};
 ghost use Rattle.wire_rmt.specs.Cases.{RmtCases};
 
