@@ -1,5 +1,7 @@
 // The tape operations on a cartridge image, for any image and any position: what a session calls. An unsound image or a position
 // above the number of entries is an answer, 7.
+#![tactic(auto)]
+
 ghost use Rattle.std.specs.Prelude.{◌≡◌};
 ghost use Rattle.tape_image.specs.Sound.{Placed};
 ghost use Rattle.tape_ops.specs.Step.{Told};
