@@ -1,5 +1,7 @@
 // A cartridge without a session: its entries, and reading a record to the front of a buffer. Neither asks anything of its caller: whatever is lent,
 // there is an answer.
+#![tactic(auto)]
+
 ghost use Rattle.std.specs.Prelude.{◌≡◌};
 ghost use Rattle.tape_calls.specs.Entries.{entry_told};
 ghost use Rattle.tape_calls.specs.Handing.{Handed};
