@@ -1,4 +1,6 @@
 // Replies and notices: what each is by its layout. `wire_writing` writes them.
+#![tactic(auto)]
+
 ghost use Rattle.wire_replies.specs.Fit.{AnswersFit, EnvironmentFits};
 ghost use Rattle.wire_replies.specs.RoundTrip.{RepliesBack};
 ghost use Rattle.wire_replies.specs.Refusals.{RefusalsAsLong};
