@@ -1,4 +1,3 @@
--- By the laws of Reading; the two records are read by computing.
 use mathlib.Core.Path.{refl}
 use Rattle.xdr.specs.Choose.{choose, all_of}
 use Rattle.xdr.specs.Xdr.{word}
@@ -11,26 +10,20 @@ use Rattle.wire_layouts.specs.AddressLists.{keep, count_seen, and_address, addre
 use Rattle.wire_requests.specs.Bodies.{data_body, joint_body, decoded}
 use Rattle.call_addresses.specs.Reading.{by_type, of_joint, of_request, of_frame, addresses_in}
 use Rattle.call_addresses.proofs.Reading as law
-use Rattle.call_addresses.proofs.reader_holds.Statement.{statement}
-use Rattle.call_addresses.proofs.reader_holds.Tie as tie
-use Rattle.call_addresses.proofs.reader_holds.Reads as reads
-use Rattle.call_addresses.proofs.reader_holds.Lts as lts
+use Rattle.call_addresses.proofs.reader_holds.Goals as goal
 
-returns : tie.Need-returns
+-- By the laws of Reading; the two records are read by computing.
+pub returns : goal.returns
 unfolding
     choose all_of word all_zero opaque_at well_framed framed look row_of piece_of part_at prepend and_part and_got parts_at times_at counted items_of
     element_at field_at and_value and_read read_fields put puts summed scanned field_seen keep count_seen and_address addresses_from listed addresses_at is_tcp
     data_body joint_body decoded by_type of_joint of_request of_frame addresses_in
-returns c =
-    record {
-      data_connect_lem = law.data_connect_lem;
-      mover_connect_lem = law.mover_connect_lem;
-      not_framed = law.not_framed;
-      no_request = law.no_request;
-      no_connect = law.no_connect;
-      two = refl;
-      listen = refl;
-    }
-
-pub reader-holds-spec : {M : Type 1} → statement M
-reader-holds-spec = tie.close (tie.spec returns)
+returns c = record {
+  data_connect_lem = law.data_connect_lem;
+  mover_connect_lem = law.mover_connect_lem;
+  not_framed = law.not_framed;
+  no_request = law.no_request;
+  no_connect = law.no_connect;
+  two = refl;
+  listen = refl;
+}
