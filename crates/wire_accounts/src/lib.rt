@@ -1,4 +1,6 @@
 // The accounts that a host lends: read from their buffer, and compared with a login.
+#![tactic(auto)]
+
 ghost use Rattle.std.specs.Prelude.{◌≡◌, ◌+◌, ◌≤◌, length};
 ghost use Rattle.xdr.specs.Xdr.{same_bytes};
 ghost use Rattle.wire_accounts.specs.Accounts.{is_kind, accounts_in, are_laid, entries_in};
