@@ -1,4 +1,6 @@
 // The accounts that a host lends, listed: a line for each, by its number and its kind. No session is looked at, and no password.
+#![tactic(auto)]
+
 ghost use Rattle.std.specs.Prelude.{true, ◌≡◌, ◌+◌, ◌≤◌, ◌<◌, length};
 ghost use Rattle.xdr_opaque.specs.Put.{Put};
 ghost use Rattle.wire_accounts.specs.Accounts.{accounts_in, are_laid};
