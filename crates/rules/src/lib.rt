@@ -1,5 +1,7 @@
 // What each request does to a session, and what holds of every request. The definitions are in specs/; the code that serves requests stands in the
 // crates above.
+#![tactic(auto)]
+
 ghost use Rattle.rules.specs.Promises.{Promises};
 ghost use Rattle.rules.specs.Order.{AnyOrder, ServicesAre};
 ghost use Rattle.rules.specs.Calls.{CallsKeep};
