@@ -1,4 +1,3 @@
--- No count is above the end that all ones stands for; of every other length, a difference above it is a sum below what was moved.
 use Prim.Native.Nat.{ℕ, ◌+◌, ◌-◌, ◌≤◌}
 use mathlib.Core.Bool.{Bool, true, false}
 use mathlib.Core.Path.{◌≡◌, refl, sym}
@@ -9,11 +8,9 @@ use Rattle.rules_parts.specs.Names.{top, endless}
 use Rattle.rules_parts.specs.Parts.{window_end}
 use Rattle.rules_parts.proofs.Ending.{end_endless, end_other}
 use borrow.Author.Rules.{rules}
-use Rattle.serve_relation.proofs.is_beyond.Statement.{statement}
-use Rattle.serve_relation.proofs.is_beyond.Tie as tie
-use Rattle.serve_relation.proofs.is_beyond.Reads as reads
-use Rattle.serve_relation.proofs.is_beyond.Lts as lts
+use Rattle.serve_relation.proofs.is_beyond.Goals as goal
 
+-- No count is above the end that all ones stands for; of every other length, a difference above it is a sum below what was moved.
 never : (offset length moved : ℕ) → moved ≤ top → length ≡ endless → false ≡ ltb (window_end offset length) moved
 never offset length moved h e = rw (end_endless offset length e) (sym (le-ltb top moved h))
 
@@ -23,14 +20,8 @@ by_rest offset length moved h n true e =
 by_rest offset length moved h n false e =
     let z = ltb-false length (moved - offset) e in rw (end_other offset length n) (sym (le-ltb (offset + length) moved (omega arith)))
 
-returns : tie.Need-returns
-returns c = let a = c.before.args in never a.offset a.length a.moved (search rules) c.if1.true
+pub returns-then-length-eq-ENDLESS : goal.returns-then-length-eq-ENDLESS
+returns-then-length-eq-ENDLESS c = let a = c.args in never a.offset a.length a.moved (search rules) c.if-length-eq-ENDLESS.true
 
-sub-result : tie.Need-overflow-sub-result
-sub-result c = search rules
-
-returns-2 : tie.Need-returns-2
-returns-2 c = let a = c.before.args in by_rest a.offset a.length a.moved c.before.requires c.if1.false _ refl
-
-pub is-beyond-spec : {M : Type 1} → statement M
-is-beyond-spec = tie.close (tie.spec returns sub-result returns-2)
+pub returns : goal.returns
+returns c = let a = c.args in by_rest a.offset a.length a.moved c.requires c.if-length-eq-ENDLESS.false _ refl
