@@ -1,4 +1,6 @@
 // Moving bytes: what a move comes to, and what holds of moves. The definitions are in specs/; the code stands in the crates above.
+#![tactic(auto)]
+
 ghost use Rattle.rules_moves.specs.RecoverCases.{RecoverCasesHold};
 ghost use Rattle.rules_moves.specs.Endless.{EndlessMoves};
 ghost use Rattle.rules_moves.specs.Sequence.{WindowHolds};
