@@ -1,4 +1,6 @@
 // The requests of the data interface that are not joint, and the store of the data end's environment.
+#![tactic(auto)]
+
 ghost use Rattle.std.specs.Prelude.{◌≡◌, List, ℕ, length};
 ghost use Rattle.codes.specs.Codes.{store_length};
 ghost use Rattle.xdr.specs.Xdr.{same_bytes};
