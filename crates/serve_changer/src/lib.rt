@@ -1,4 +1,6 @@
 // The requests of the SCSI interface: a changer that knows four opcodes and refuses the others.
+#![tactic(auto)]
+
 ghost use Rattle.std.specs.Prelude.{[], ◌≡◌};
 ghost use Rattle.xdr.specs.Xdr.{same_bytes};
 ghost use Rattle.wire_requests.specs.Within.{bytes_at, Within, texts_within};
