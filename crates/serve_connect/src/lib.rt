@@ -1,4 +1,6 @@
 // The requests of CONNECT and CONFIG, and what asks for a login.
+#![tactic(auto)]
+
 ghost use Rattle.std.specs.Prelude.{◌≡◌, List, ℕ};
 ghost use Rattle.wire_requests.specs.Within.{bytes_at, Within, texts_within};
 ghost use Rattle.wire_requests.specs.declared.Request.TheVariants as Request;
