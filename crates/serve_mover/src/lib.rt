@@ -1,4 +1,6 @@
 // The requests of the mover that are not joint.
+#![tactic(auto)]
+
 ghost use Rattle.std.specs.Prelude.{◌≡◌};
 ghost use Rattle.rules.specs.MoverService.{record_number, mover_state, mover_listen, mover_continue, mover_stop, set_window, mover_read, set_size, mover_step};
 ghost use Rattle.serve_mover.specs.Done.{outcome_of};
