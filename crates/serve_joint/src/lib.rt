@@ -1,4 +1,6 @@
 // The joint requests: those that read or change both ends.
+#![tactic(auto)]
+
 ghost use Rattle.std.specs.Prelude.{◌≡◌, eqb};
 ghost use Rattle.codes.specs.Codes.{tcp_address};
 ghost use Rattle.xdr.specs.Choose.{choose};
