@@ -7,13 +7,13 @@ use std::io;
 use std::io::Write;
 
 // The record of a request.
-fn write_request(record: &mut [u8], message: u32, body: &[u32])
-    requires { (length record.old ≡ 60) × (length body.now ≤ 8) }
+fn write_request(out: &mut [u8], message: u32, body: &[u32])
+    requires { (length out.old ≡ 60) × (length body.now ≤ 8) }
 {
     let size = body.len() as u32 * 4;
     let header = [2147483672 + size, 7, 0, 0, message, 0, 0];
-    xdr::write_words(record, 0, &header);
-    xdr::write_words(record, 28, body);
+    xdr::write_words(out, 0, &header);
+    xdr::write_words(out, 28, body);
 }
 
 // A request: its message number and the words of its body.
