@@ -59,6 +59,7 @@ fn refuse(out: &mut impl Write) -> io::Result<()> {
 }
 
 // Lists any bytes: those that are no sound image, or are above 65,536, are refused.
+#[tactic(auto, using(tape_image::proofs::Laws::sound_facts))]
 pub fn list(out: &mut impl Write, image: &[u8]) -> io::Result<()> {
     if 65536 < image.len() {
         return refuse(out);

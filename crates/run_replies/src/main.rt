@@ -437,6 +437,7 @@ fn states_by_tcp(out: &mut impl Write) -> io::Result<()> {
 
 // Stores: no pair; TYPE=tar, FILESYSTEM=/home and a pair of empty texts, with a byte past them; PATHNAME_SEPARATOR=: and
 // TYPE=tar.
+#[tactic(auto, unfolding(wire_pairs::specs::Store::is_laid, wire_pairs::specs::Store::laid_from, xdr::specs::Xdr::word, xdr::specs::Choose::choose))]
 fn environments(out: &mut impl Write) -> io::Result<()> {
     let none = b"\x00\x00\x00\x00";
     send(

@@ -7,6 +7,7 @@ use std::io;
 use std::io::Write;
 use wire_replies::{Notice, Reply};
 
+#[tactic(auto, unfolding(wire_replies::specs::Fit::Sendable))]
 fn put_reply(
     out: &mut [u8; codes::LARGEST_MESSAGE],
     sequence: u32,

@@ -37,6 +37,7 @@ fn show_request(out: &mut impl Write, number: u32, body: &[u8]) -> io::Result<()
 }
 
 // Any bytes: a request has its sequence number in front.
+#[tactic(auto, using(wire_frame::proofs::Laws::request_well))]
 fn show(out: &mut impl Write, record: &[u8]) -> io::Result<()> {
     let f = wire_frame::read_frame(record);
     match f {
