@@ -7,7 +7,7 @@ use Rattle.call_rmt.proofs.obey.Goals as goal
 pub returns-in_default : goal.returns-in_default
 returns-in_default c = let c5 = c in
     let a = c5.args in
-    let bad = read_bad _ c5.command-read.ensures c5.request_of-asked.ensures c.in_default.in_default-own.keys2 in
+    let bad = read_bad _ c5.command-read.ensures c5.request_of-asked.ensures c.in_default.not-Tape in
     λ variables.
     told_bad (held a.s a.image.now variables) a.command.now bad (c.refuse.ensures a.image.now variables)
 

@@ -3,7 +3,7 @@ use lib.ListN.{length-take}
 use Rattle.wire_replies.specs.Replies.{number_of}
 use Rattle.wire_writing.proofs.Laws.{read_within, part}
 use Rattle.rules.specs.Rmt.{counted_in, rmt_reply}
-use Rattle.call_rmt.proofs.Commanding.{other_told}
+use Rattle.call_rmt.proofs.Commanding.{Other, other_told}
 use borrow.Author.Rules.{rules}
 use Rattle.call_rmt.proofs.put_reply.Goals as goal
 
@@ -56,4 +56,7 @@ unfolding rmt_reply counted_in number_of
 returns-in-Refused c = rw c.in-Refused.is c.put_told-in-Refused.ensures
 
 pub returns-in_default : goal.returns-in_default
-returns-in_default c = rw (other_told _ _ c.in_default.in_default-own.keys6) c.put_told-in_default.ensures
+returns-in_default c =
+    let d = c.in_default in
+    let o : Other c.args.reply = record { no_header = d.not-Header; no_refusal = d.not-Refused; no_mtio = d.not-Mtio; no_write = d.not-Wrote; no_read = d.not-Read } in
+    rw (other_told _ _ o) c.put_told-in_default.ensures
