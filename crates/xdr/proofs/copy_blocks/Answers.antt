@@ -1,5 +1,4 @@
 use borrow.Author.Rules.{rules}
-use Prim.Native.Nat.{◌-◌}
 use Rattle.xdr.proofs.Laws.{overlay_none}
 use Rattle.xdr.proofs.Laws.{block_to, block_rest}
 use lib.ListN.{length-take, length-drop}

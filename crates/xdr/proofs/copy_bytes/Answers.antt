@@ -1,5 +1,4 @@
 use borrow.Author.Rules.{rules}
-use Prim.Native.Nat.{◌-◌}
 use mathlib.Core.Path.{refl}
 use Rattle.xdr.proofs.Laws.{overlay_none, overlay_store, overlay_all}
 use Rattle.xdr.proofs.copy_bytes.Goals as goal

@@ -1,5 +1,4 @@
 use borrow.Author.Rules.{rules}
-use Prim.Native.Nat.{◌-◌}
 use mathlib.Core.Path.{refl, ◌∙◌}
 use Rattle.xdr.specs.Xdr.{be32s}
 use Rattle.xdr.proofs.Laws.{overlay_none, overlay_word, overlay_words_all}
