@@ -49,7 +49,7 @@ texts_at p (t ∷ ts) tail h k =
     let f : TextAt (p ++ (opaque t ++ q)) (length p) t (length p + length (opaque t)) = record { found = o.found; bytes = o.bytes } in
     let r : TextsAt ((p ++ opaque t) ++ q) (length (p ++ opaque t)) ts tail = texts_at (p ++ opaque t) ts tail h.1 k in
     let s : TextsAt ((p ++ opaque t) ++ q) (length p + length (opaque t)) ts tail =
-      subst (λ (n : ℕ). TextsAt ((p ++ opaque t) ++ q) n ts tail) (length-append p (opaque t)) r in
+    subst (λ (n : ℕ). TextsAt ((p ++ opaque t) ++ q) n ts tail) (length-append p (opaque t)) r in
     (rw (append_assoc (opaque t) (opaques ts) (be32s tail)) f, subst (λ (l : List ℕ). TextsAt l (length p + length (opaque t)) ts tail) (sym (shift p (opaque t) (opaques ts) (be32s tail))) s)
 
 body_at : (b : Body) → Words32 b.words → Texts32 b.texts → Words32 b.tail → BodyAt (body_bytes b) b

@@ -6,9 +6,6 @@ use borrow.Author.Rules.{rules}
 use Rattle.call_accounts.proofs.Laws.{line_md5, line_withdrawn}
 use Rattle.call_accounts.proofs.put_line.Goals as goal
 
--- LEFT slice-aggregate-put-text
--- slice-aggregate-put-text c = search rules
-
 pub put_text-requires : goal.put_text-requires
 put_text-requires c = simp length-set (omega arith)
 
@@ -19,9 +16,6 @@ shape_of-out-then-kind-eq-MD5_AUTH c = let a = c.args in
 pub returns-then-kind-eq-MD5_AUTH : goal.returns-then-kind-eq-MD5_AUTH
 returns-then-kind-eq-MD5_AUTH c = let k = c in
     line_md5 _ _ (omega arith) k.if-kind-eq-MD5_AUTH.true c.put_text.ensures
-
--- LEFT slice-aggregate-put-text-2
--- slice-aggregate-put-text-2 c = search rules
 
 pub put_text-requires-2 : goal.put_text-requires-2
 put_text-requires-2 c = simp length-set (omega arith)

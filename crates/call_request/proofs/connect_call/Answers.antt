@@ -15,9 +15,6 @@ pub serve-done-requires : goal.serve-done-requires
 serve-done-requires c = let st = c in
     rw (body_is st.args.input.now) st.requires.1
 
--- LEFT slice-aggregate-login-call
--- slice-aggregate-login-call c = search rules
-
 pub login_call-requires : goal.login_call-requires
 login_call-requires c = let st = c in
     (st.requires.0, rw (c.serve-done.ensures st.args.challenge.now) (connect_sends _ _ _ _ _))

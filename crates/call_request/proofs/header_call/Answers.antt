@@ -3,8 +3,5 @@ use Rattle.call_request.proofs.Routing.{header_sends}
 use borrow.Author.Rules.{rules}
 use Rattle.call_request.proofs.header_call.Goals as goal
 
--- LEFT slice-aggregate-finish
--- slice-aggregate-finish c = search rules
-
 pub finish-requires : goal.finish-requires
 finish-requires c = let pre = c.requires in (record { long = pre.long; room = omega (arith, pre.room) }, header_sends _ _)

@@ -15,9 +15,6 @@ use Rattle.call_request.proofs.joint_call.Goals as goal
 pub refuse-requires : goal.refuse-requires
 refuse-requires c = c.requires
 
--- LEFT slice-aggregate-finish
--- slice-aggregate-finish c = search rules
-
 pub finish-sent-requires : goal.finish-sent-requires
 finish-sent-requires c = let c8 = c in
     let c16 = c8 in

@@ -21,9 +21,6 @@ refuse-requires c = c.requires.0
 pub changed-next-requires : goal.changed-next-requires
 changed-next-requires c = (rw c.in-Accept.is at c.serve-done.ensures).2
 
--- LEFT slice-aggregate-finish
--- slice-aggregate-finish c = search rules
-
 pub finish-requires : goal.finish-requires
 finish-requires c = let c8 = c in
     let pre = c8.requires.0 in

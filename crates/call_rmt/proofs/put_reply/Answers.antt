@@ -20,21 +20,6 @@ pub put_told-requires : goal.put_told-requires
 put_told-requires c = let h = read_within _ _ _ _ _ c.requires.1 c.in-Read.is in
     (omega arith, simp length-take (omega arith))
 
--- LEFT slice-aggregate-put-told
--- slice-aggregate-put-told c = search rules
-
--- LEFT slice-aggregate-put-told-2
--- slice-aggregate-put-told-2 c = search rules
-
--- LEFT slice-aggregate-put-told-3
--- slice-aggregate-put-told-3 c = search rules
-
--- LEFT slice-aggregate-put-told-4
--- slice-aggregate-put-told-4 c = search rules
-
--- LEFT slice-aggregate-put-told-5
--- slice-aggregate-put-told-5 c = search rules
-
 pub returns-in-Read : goal.returns-in-Read
 unfolding rmt_reply counted_in number_of
 returns-in-Read c = rw c.in-Read.is (rw part at c.put_told.ensures)

@@ -3,9 +3,6 @@ use Rattle.call_sending.proofs.Calling.{refused_sends, refused_as}
 use borrow.Author.Rules.{rules}
 use Rattle.call_sending.proofs.refuse.Goals as goal
 
--- LEFT slice-aggregate-finish
--- slice-aggregate-finish c = search rules
-
 pub finish-requires : goal.finish-requires
 finish-requires c = let pre = c.requires in
     (record { long = pre.long; room = omega (arith, pre.room) }, refused_sends _ c.row_of-row.ensures _)

@@ -3,9 +3,6 @@ use Rattle.xdr.proofs.Laws.{rest}
 use Rattle.md5_digest.proofs.Laws.{registers_told}
 use Rattle.md5_digest.proofs.registers_of.Goals as goal
 
--- LEFT slice-bounds-pad-end
--- part-pad-end c = search rules
-
 pub slice_bounds-process-end : goal.slice_bounds-process-end
 slice_bounds-process-end c = simp length-take (omega (arith, c.pad-end.ensures.most, c.pad-end.ensures.long))
 

@@ -3,9 +3,6 @@ use Rattle.rules.specs.DataService.{dump}
 use borrow.Author.Rules.{rules}
 use Rattle.serve_data.proofs.is_dump.Goals as goal
 
--- LEFT slice-aggregate-same
--- slice-aggregate-same c = search rules
-
 pub returns : goal.returns
 unfolding dump
 returns c = let a = c.args in named a.body.now a.name dump _ c.same.ensures

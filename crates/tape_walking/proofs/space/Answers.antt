@@ -23,7 +23,7 @@ entry_passed-entry-requires c = tt
 pub entry_len-len-requires : goal.entry_len-len-requires
 entry_len-len-requires c =
     let b : c.entry_passed-entry.result < c.count-n.result =
-      rw c.entry_passed-entry.ensures (passes_below _ _ _ c.if-rest-eq0.false _ c.loop-left.invariant.0 c.loop-left.invariant.1) in
+    rw c.entry_passed-entry.ensures (passes_below _ _ _ c.if-rest-eq0.false _ c.loop-left.invariant.0 c.loop-left.invariant.1) in
     record { few = omega arith; whole = omega arith }
 
 pub position_after-at-requires : goal.position_after-at-requires
@@ -40,22 +40,22 @@ loop-left-smaller-then-marks c = omega arith
 
 pub loop-left-preserved-then-marks : goal.loop-left-preserved-then-marks
 loop-left-preserved-then-marks c = let more : c.loop-left.rest ≡ suc (c.loop-left.rest - 1) = omega arith in (
-      rw c.position_after-at.ensures (after_within _ _ _ c.if-rest-eq0.false _ c.loop-left.invariant.0 c.loop-left.invariant.1),
-      rw c.position_after-at.ensures (after_ahead _ _ _ c.if-rest-eq0.false _ c.loop-left.invariant.0 c.loop-left.invariant.1),
-      c.loop-left.invariant.2
-          ∙ walk_mark _ _ _ _ _ _ _ c.if-left-eq0.false more (ltb_yes c.if-marks.true) (cc) ∙ (cc),
-    )
+  rw c.position_after-at.ensures (after_within _ _ _ c.if-rest-eq0.false _ c.loop-left.invariant.0 c.loop-left.invariant.1),
+  rw c.position_after-at.ensures (after_ahead _ _ _ c.if-rest-eq0.false _ c.loop-left.invariant.0 c.loop-left.invariant.1),
+  c.loop-left.invariant.2
+      ∙ walk_mark _ _ _ _ _ _ _ c.if-left-eq0.false more (ltb_yes c.if-marks.true) (cc) ∙ (cc),
+)
 
 pub loop-left-smaller-then-marks-2 : goal.loop-left-smaller-then-marks-2
 loop-left-smaller-then-marks-2 c = omega arith
 
 pub loop-left-preserved-then-marks-2 : goal.loop-left-preserved-then-marks-2
 loop-left-preserved-then-marks-2 c = let more : c.loop-left.rest ≡ suc (c.loop-left.rest - 1) = omega arith in (
-      rw c.position_after-at.ensures (after_within _ _ _ c.if-rest-eq0.false _ c.loop-left.invariant.0 c.loop-left.invariant.1),
-      rw c.position_after-at.ensures (after_ahead _ _ _ c.if-rest-eq0.false _ c.loop-left.invariant.0 c.loop-left.invariant.1),
-      c.loop-left.invariant.2
-          ∙ walk_pass _ _ _ _ _ _ _ c.if-left-eq0.false more (ltb_yes c.if-marks-2.true) (λ e. c.if-len-eq0.false (cc)) ∙ (cc),
-    )
+  rw c.position_after-at.ensures (after_within _ _ _ c.if-rest-eq0.false _ c.loop-left.invariant.0 c.loop-left.invariant.1),
+  rw c.position_after-at.ensures (after_ahead _ _ _ c.if-rest-eq0.false _ c.loop-left.invariant.0 c.loop-left.invariant.1),
+  c.loop-left.invariant.2
+      ∙ walk_pass _ _ _ _ _ _ _ c.if-left-eq0.false more (ltb_yes c.if-marks-2.true) (λ e. c.if-len-eq0.false (cc)) ∙ (cc),
+)
 
 pub overflow_sub-left-else-marks-2 : goal.overflow_sub-left-else-marks-2
 overflow_sub-left-else-marks-2 c = omega arith
@@ -65,11 +65,11 @@ loop-left-smaller c = omega arith
 
 pub loop-left-preserved : goal.loop-left-preserved
 loop-left-preserved c = let more : c.loop-left.rest ≡ suc (c.loop-left.rest - 1) = omega arith in (
-      rw c.position_after-at.ensures (after_within _ _ _ c.if-rest-eq0.false _ c.loop-left.invariant.0 c.loop-left.invariant.1),
-      rw c.position_after-at.ensures (after_ahead _ _ _ c.if-rest-eq0.false _ c.loop-left.invariant.0 c.loop-left.invariant.1),
-      c.loop-left.invariant.2
-          ∙ walk_record _ _ _ _ _ _ _ c.if-left-eq0.false more (ltb_no c.if-marks-2.false) (λ e. c.if-len-eq0.false (cc)) ∙ (cc),
-    )
+  rw c.position_after-at.ensures (after_within _ _ _ c.if-rest-eq0.false _ c.loop-left.invariant.0 c.loop-left.invariant.1),
+  rw c.position_after-at.ensures (after_ahead _ _ _ c.if-rest-eq0.false _ c.loop-left.invariant.0 c.loop-left.invariant.1),
+  c.loop-left.invariant.2
+      ∙ walk_record _ _ _ _ _ _ _ c.if-left-eq0.false more (ltb_no c.if-marks-2.false) (λ e. c.if-len-eq0.false (cc)) ∙ (cc),
+)
 
 pub returns-then-left-eq0 : goal.returns-then-left-eq0
 unfolding spacing

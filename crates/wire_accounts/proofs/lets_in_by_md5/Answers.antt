@@ -30,8 +30,8 @@ loop-left-preserved c = let t = c.md5_matches.ensures in
     let h = c.loop-left-test.true in
     let g = c.loop-left.invariant in
     elim c.if-md5_matches.branch [
-      then-md5_matches w ↦ rw w.some-is (going_hit _ _ g r h (asked t w.if-md5_matches.true))
-    | else-md5_matches w ↦ rw w.some-is (going_miss _ _ g r h (asked t w.if-md5_matches.false))
+      | then-md5_matches w ↦ rw w.some-is (going_hit _ _ g r h (asked t w.if-md5_matches.true))
+      | else-md5_matches w ↦ rw w.some-is (going_miss _ _ g r h (asked t w.if-md5_matches.false))
     ]
 
 pub returns : goal.returns

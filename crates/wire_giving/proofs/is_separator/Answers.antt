@@ -2,9 +2,6 @@ use Rattle.wire_pairs.specs.Pairs.{separator_name}
 use borrow.Author.Rules.{rules}
 use Rattle.wire_giving.proofs.is_separator.Goals as goal
 
--- LEFT slice-aggregate-same
--- slice-aggregate-same c = search rules
-
 pub returns : goal.returns
 unfolding separator_name
 returns c = c.same.ensures

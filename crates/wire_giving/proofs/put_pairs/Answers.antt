@@ -9,12 +9,6 @@ use Rattle.wire_giving.proofs.put_pairs.Goals as goal
 pub returns-then-is_named : goal.returns-then-is_named
 returns-then-is_named c = put_kept _ c.put_kept-next.ensures (asked c.is_named.ensures c.if-is_named.true)
 
--- LEFT slice-aggregate-put-pair
--- slice-aggregate-put-pair c = search rules
-
--- LEFT slice-aggregate-put-pair-2
--- slice-aggregate-put-pair-2 c = search rules
-
 pub put_pair-requires : goal.put_pair-requires
 put_pair-requires c = let n = pairs_size _ c.requires.1 in
     (omega (arith, n, c.put_kept-next.ensures.end), omega arith)

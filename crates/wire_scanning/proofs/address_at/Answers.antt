@@ -5,14 +5,8 @@ use Rattle.wire_scanning.proofs.Cases.{element_short, element_then}
 use borrow.Author.Rules.{rules}
 use Rattle.wire_scanning.proofs.address_at.Goals as goal
 
--- LEFT slice-aggregate-parts-at
--- slice-aggregate-parts-at c = search rules
-
 pub returns-in_default : goal.returns-in_default
 returns-in_default c = element_short _ _ _ _ _ (sym c.in_default.is ∙ c.parts_at.ensures)
-
--- LEFT slice-aggregate-many-at
--- slice-aggregate-many-at c = search rules
 
 pub returns : goal.returns
 unfolding field_at

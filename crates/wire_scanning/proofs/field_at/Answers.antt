@@ -2,12 +2,6 @@ use Rattle.wire_scanning.proofs.Cases.{unknown}
 use borrow.Author.Rules.{rules}
 use Rattle.wire_scanning.proofs.field_at.Goals as goal
 
--- LEFT slice-aggregate-many-at
--- slice-aggregate-many-at c = search rules
-
--- LEFT slice-aggregate-many-at-2
--- slice-aggregate-many-at-2 c = search rules
-
 pub returns-in-119 : goal.returns-in-119
 returns-in-119 c = rw c.in-119.is c.one_word.ensures
 

@@ -11,9 +11,6 @@ pub returns-then-list-gt-MOST_LENT : goal.returns-then-list-gt-MOST_LENT
 unfolding lendable
 returns-then-list-gt-MOST_LENT c = pick_if _ (ltb_yes c.if-list-gt-MOST_LENT.true) refl
 
--- LEFT slice-aggregate-scan-body
--- slice-aggregate-scan-body c = search rules
-
 pub returns-then-not-k : goal.returns-then-not-k
 unfolding lendable
 returns-then-not-k c = let k = c in

@@ -4,15 +4,9 @@ use Rattle.wire_replies.specs.Replies.{address_words}
 use borrow.Author.Rules.{rules}
 use Rattle.wire_writing.proofs.put_address.Goals as goal
 
--- LEFT slice-aggregate-put-words
--- slice-aggregate-put-words c = search rules
-
 pub returns-then-address-eq-TCP_ADDRESS : goal.returns-then-address-eq-TCP_ADDRESS
 unfolding address_words choose
 returns-then-address-eq-TCP_ADDRESS c = rw (eq-eqb _ _ c.if-address-eq-TCP_ADDRESS.true) c.put_words.ensures
-
--- LEFT slice-aggregate-put-words-2
--- slice-aggregate-put-words-2 c = search rules
 
 pub returns : goal.returns
 unfolding address_words choose

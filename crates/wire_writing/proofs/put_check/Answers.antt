@@ -2,9 +2,6 @@ use Rattle.wire_replies.specs.Replies.{shape_of}
 use borrow.Author.Rules.{rules}
 use Rattle.wire_writing.proofs.put_check.Goals as goal
 
--- LEFT slice-aggregate-put-cdb-2
--- slice-aggregate-put-cdb-2 c = search rules
-
 pub returns : goal.returns
 unfolding shape_of
 returns c = rw c.sense_bytes-bytes.ensures at c.put_cdb.ensures

@@ -11,9 +11,6 @@ pub put_address-second-requires : goal.put_address-second-requires
 unfolding be32s be32
 put_address-second-requires c = omega arith
 
--- LEFT slice-aggregate-put-words-2
--- slice-aggregate-put-words-2 c = search rules
-
 pub put_words-requires : goal.put_words-requires
 unfolding be32s be32
 put_words-requires c = let b = c in

@@ -8,9 +8,6 @@ use Rattle.wire_writing.proofs.put_sense.Goals as goal
 pub slice_bounds-put_cdb-end : goal.slice_bounds-put_cdb-end
 slice_bounds-put_cdb-end c = sym (sense_length_lem _ _ _ _ _ c.sense_bytes-bytes.ensures (search rules))
 
--- LEFT slice-aggregate-put-cdb-2
--- slice-aggregate-put-cdb-2 c = search rules
-
 pub put_cdb-requires : goal.put_cdb-requires
 put_cdb-requires c = (search rules, omega (arith, sense_length_lem c.args.n _ _ _ _ c.sense_bytes-bytes.ensures (search rules)), search rules)
 

@@ -5,9 +5,6 @@ use Rattle.wire_writing.proofs.Laws.{none, whole, text, no_texts}
 use borrow.Author.Rules.{rules}
 use Rattle.wire_writing.proofs.put_server_texts.Goals as goal
 
--- LEFT slice-aggregate-put-words
--- slice-aggregate-put-words c = search rules
-
 pub put_opaque-second-requires : goal.put_opaque-second-requires
 unfolding be32s be32
 put_opaque-second-requires c = (omega arith, omega arith)
@@ -22,9 +19,6 @@ unfolding be32s be32
 put_opaque-end-requires c = let b = c in
     let a = b.args in
     (omega (arith, length_opaque a.vendor.now, length_opaque a.product.now), omega arith)
-
--- LEFT slice-aggregate-put-words-2
--- slice-aggregate-put-words-2 c = search rules
 
 pub put_words-requires : goal.put_words-requires
 unfolding be32s be32

@@ -8,36 +8,15 @@ use Rattle.wire_writing.proofs.write_body.Goals as goal
 pub put_refused-requires : goal.put_refused-requires
 put_refused-requires c = (omega arith, omega (arith, refused_within _ _ _ _ _ c.requires.1 c.in-Refused.is))
 
--- LEFT slice-aggregate-put-body
--- slice-aggregate-put-body c = search rules
-
--- LEFT slice-aggregate-put-body-2
--- slice-aggregate-put-body-2 c = search rules
-
 pub put_lent-requires : goal.put_lent-requires
 put_lent-requires c = let h = lent_within _ _ c.requires.1 c.in-ListeningTcp.is in (omega arith, h)
-
--- LEFT slice-aggregate-put-body-3
--- slice-aggregate-put-body-3 c = search rules
 
 pub put_lent-requires-in-Challenge : goal.put_lent-requires-in-Challenge
 put_lent-requires-in-Challenge c = let h = challenge_within _ _ c.requires.1 c.in-Challenge.is in
     (omega arith, omega arith)
 
--- LEFT slice-aggregate-put-body-4
--- slice-aggregate-put-body-4 c = search rules
-
--- LEFT slice-aggregate-put-cdb
--- slice-aggregate-put-cdb c = search rules
-
--- LEFT slice-aggregate-put-cdb-2
--- slice-aggregate-put-cdb-2 c = search rules
-
 pub put_sense-requires : goal.put_sense-requires
 put_sense-requires c = (omega arith, sense_within _ _ _ _ _ _ c.requires.1 c.in-Sense.is)
-
--- LEFT slice-aggregate-put-cdb-3
--- slice-aggregate-put-cdb-3 c = search rules
 
 pub put_cdb-requires-in-Elements : goal.put_cdb-requires-in-Elements
 put_cdb-requires-in-Elements c = (omega arith, elements_within _ _ c.requires.1 c.in-Elements.is, omega arith)

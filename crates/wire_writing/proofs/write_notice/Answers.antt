@@ -2,9 +2,6 @@ use Rattle.wire_replies.specs.Replies.{notice_bytes, notice_number, notice_words
 use borrow.Author.Rules.{rules}
 use Rattle.wire_writing.proofs.write_notice.Goals as goal
 
--- LEFT slice-aggregate-put-notice-2
--- slice-aggregate-put-notice-2 c = search rules
-
 pub returns-in-DataHalted : goal.returns-in-DataHalted
 unfolding notice_bytes notice_number notice_words
 returns-in-DataHalted c = rw c.in-DataHalted.is c.put_notice.ensures

@@ -5,9 +5,6 @@ use Rattle.wire_frame.specs.declared.ConfigKind.TheVariants as ConfigKind
 use borrow.Author.Rules.{rules}
 use Rattle.wire_decoding.proofs.messages.auth_attributes.Goals as goal
 
--- LEFT slice-aggregate-scan-body
--- slice-aggregate-scan-body c = search rules
-
 pub returns : goal.returns
 unfolding config_body
 returns c = of_scan (request_of (Message.Config ConfigKind.AuthAttributes)) c.scan_body-k.ensures c.judged.ensures

@@ -5,9 +5,6 @@ use Rattle.wire_frame.specs.declared.ConnectKind.TheVariants as ConnectKind
 use borrow.Author.Rules.{rules}
 use Rattle.wire_decoding.proofs.messages.client_auth.Goals as goal
 
--- LEFT slice-aggregate-scan-body
--- slice-aggregate-scan-body c = search rules
-
 pub returns : goal.returns
 unfolding connect_body
 returns c = of_scan (request_of (Message.Connect ConnectKind.Auth)) c.scan_body-k.ensures

@@ -8,12 +8,6 @@ use Rattle.wire_frame.specs.declared.MoverKind.TheVariants as MoverKind
 use borrow.Author.Rules.{rules}
 use Rattle.wire_decoding.proofs.messages.mover_listen.Goals as goal
 
--- LEFT slice-aggregate-scan-by-type
--- slice-aggregate-scan-by-type c = search rules
-
--- LEFT slice-aggregate-scan-by-type-2
--- slice-aggregate-scan-by-type-2 c = search rules
-
 pub returns : goal.returns
 unfolding mover_body
 returns c = let k = c in

@@ -5,9 +5,6 @@ use Rattle.wire_frame.specs.declared.MoverKind.TheVariants as MoverKind
 use borrow.Author.Rules.{rules}
 use Rattle.wire_decoding.proofs.messages.mover_read.Goals as goal
 
--- LEFT slice-aggregate-scan-body
--- slice-aggregate-scan-body c = search rules
-
 pub returns : goal.returns
 unfolding mover_body
 returns c = of_scan (request_of (Message.Mover MoverKind.Read)) c.scan_body-k.ensures c.judged.ensures

@@ -5,9 +5,6 @@ use Rattle.wire_frame.specs.declared.ScsiKind.TheVariants as ScsiKind
 use borrow.Author.Rules.{rules}
 use Rattle.wire_decoding.proofs.messages.scsi_open.Goals as goal
 
--- LEFT slice-aggregate-scan-body
--- slice-aggregate-scan-body c = search rules
-
 pub returns : goal.returns
 unfolding scsi_body
 returns c = of_scan (request_of (Message.Scsi ScsiKind.Open)) c.scan_body-k.ensures (rw c.text_of.ensures at c.judged.ensures)

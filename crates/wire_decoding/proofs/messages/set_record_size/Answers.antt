@@ -5,9 +5,6 @@ use Rattle.wire_frame.specs.declared.MoverKind.TheVariants as MoverKind
 use borrow.Author.Rules.{rules}
 use Rattle.wire_decoding.proofs.messages.set_record_size.Goals as goal
 
--- LEFT slice-aggregate-scan-body
--- slice-aggregate-scan-body c = search rules
-
 pub returns : goal.returns
 unfolding mover_body
 returns c = of_scan (request_of (Message.Mover MoverKind.Size)) c.scan_body-k.ensures c.judged.ensures

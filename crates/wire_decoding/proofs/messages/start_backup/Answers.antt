@@ -6,9 +6,6 @@ use Rattle.wire_frame.specs.declared.DataKind.TheVariants as DataKind
 use borrow.Author.Rules.{rules}
 use Rattle.wire_decoding.proofs.messages.start_backup.Goals as goal
 
--- LEFT slice-aggregate-scan-body
--- slice-aggregate-scan-body c = search rules
-
 pub pairs_behind-pairs-requires : goal.pairs_behind-pairs-requires
 pairs_behind-pairs-requires c = let h = kept_within _ _ 0 c.scan_body-k.ensures c.text_of-method.ensures in omega (arith, h)
 

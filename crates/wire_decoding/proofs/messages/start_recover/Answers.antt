@@ -5,9 +5,6 @@ use Rattle.wire_frame.specs.declared.DataKind.TheVariants as DataKind
 use borrow.Author.Rules.{rules}
 use Rattle.wire_decoding.proofs.messages.start_recover.Goals as goal
 
--- LEFT slice-aggregate-scan-body
--- slice-aggregate-scan-body c = search rules
-
 pub returns : goal.returns
 unfolding data_body
 returns c = of_scan (request_of (Message.Data DataKind.Recover)) c.scan_body-k.ensures (rw c.text_of.ensures at c.judged.ensures)
