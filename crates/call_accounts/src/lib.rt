@@ -1,4 +1,6 @@
 // The accounts that a host lends, listed: a line for each, by its number and its kind. No session is looked at, and no password.
+#![tactic(auto)]
+
 ghost use Rattle.std.specs.Prelude.{true, ◌≡◌, ◌+◌, ◌≤◌, ◌<◌, length};
 ghost use Rattle.xdr_opaque.specs.Put.{Put};
 ghost use Rattle.wire_accounts.specs.Accounts.{accounts_in, are_laid};
@@ -11,7 +13,7 @@ pub const LEAST_LISTING: usize = 96;
 
 // What a listing returns; len is how many bytes stand at the output's start.
 #[repr(C)]
-#[derive(Drop)]
+#[derive(Clone, Copy)]
 pub struct Listed {
     pub code: u32,
     pub len: usize,

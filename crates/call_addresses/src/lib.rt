@@ -1,4 +1,6 @@
 // The reader for the host: the addresses of a record that is a connect by TCP, to which the host makes the connection.
+#![tactic(auto)]
+
 ghost use Rattle.std.specs.Prelude.{◌≡◌};
 ghost use Rattle.wire_frame.specs.Messages.{message_of};
 ghost use Rattle.wire_layouts.specs.AddressLists.{empty_addresses};

@@ -1,4 +1,6 @@
 // The calls without a request: moves of the stream's bytes, the method's end, a connection made and one lost. No call has a requires: it refuses.
+#![tactic(auto)]
+
 ghost use Rattle.std.specs.Prelude.{◌≡◌, true, List, [], ℕ, ◌≤◌, length};
 ghost use Rattle.rules_parts.specs.Names.{least_room};
 ghost use Rattle.rules.specs.Relation.{keeps};

@@ -1,4 +1,6 @@
 // The calls of the session core. No call has a requires: it refuses.
+#![tactic(auto)]
+
 ghost use Rattle.std.specs.Prelude.{◌≡◌, Bool, true, false, List, [], ℕ, ◌+◌, ◌≤◌, length, eqb};
 ghost use Rattle.codes.specs.Codes.{store_length};
 ghost use Rattle.xdr.specs.Choose.{choose};

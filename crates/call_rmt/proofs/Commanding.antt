@@ -6,7 +6,6 @@ use mathlib.Core.List.{List, [], ◌∷◌, ◌++◌, append-nil}
 use mathlib.Core.Path.{◌≡◌, refl, sym, ap, ◌∙◌}
 use native.Mathlib.Nat.{zero-add}
 use lib.ListN.{length}
-use types.Run.{OneOf, miss}
 use denote.Enum.Declared.{tag_of}
 use Rattle.xdr.specs.Choose.{choose}
 use Rattle.xdr.specs.Xdr.{overlay}
@@ -42,16 +41,13 @@ use Rattle.rules.proofs.Calls.{verdict_free}
 use Rattle.call_sending.specs.Call.{CallTold}
 
 -- ---- the request that a command is
-abbrev no_tape : List ℕ
-no_tape = 0 ∷ 1 ∷ 2 ∷ 4 ∷ 5 ∷ 6 ∷ 7 ∷ 8 ∷ []
-
-not_tape : (q : Command) → OneOf no_tape (tag_of request.the_type (rmt_request q)) → rmt_request q ≡ Request.Bad
+not_tape : (q : Command) → ((t : TapeRequest) → rmt_request q ≡ Request.Tape t → ⊥) → rmt_request q ≡ Request.Bad
 unfolding rmt_request
-not_tape (Command.Open name mode) h = absurd (miss no_tape 3 tt h)
-not_tape Command.Close h = absurd (miss no_tape 3 tt h)
-not_tape (Command.Read count) h = absurd (miss no_tape 3 tt h)
-not_tape (Command.Write bytes) h = absurd (miss no_tape 3 tt h)
-not_tape (Command.Operate op count) h = absurd (miss no_tape 3 tt h)
+not_tape (Command.Open name mode) h = absurd (h _ refl)
+not_tape Command.Close h = absurd (h _ refl)
+not_tape (Command.Read count) h = absurd (h _ refl)
+not_tape (Command.Write bytes) h = absurd (h _ refl)
+not_tape (Command.Operate op count) h = absurd (h _ refl)
 not_tape Command.Bad h = refl
 
 -- a path and data lie within the command
@@ -69,8 +65,8 @@ module _ (c : List ℕ) {q : Command} {r : Request} (e : q ≡ rmt_command c) (f
   request_is : r ≡ rmt_request (rmt_command c)
   request_is = f ∙ ap rmt_request e
 
-  pub read_bad : OneOf no_tape (tag_of request.the_type r) → rmt_request (rmt_command c) ≡ Request.Bad
-  read_bad h = not_tape (rmt_command c) (rw request_is at h)
+  pub read_bad : ((t : TapeRequest) → r ≡ Request.Tape t → ⊥) → rmt_request (rmt_command c) ≡ Request.Bad
+  read_bad h = not_tape (rmt_command c) (λ t g. h t (request_is ∙ g))
 
   pub read_tape : (t : TapeRequest) → r ≡ Request.Tape t → rmt_request (rmt_command c) ≡ Request.Tape t
   read_tape t g = sym request_is ∙ g
@@ -88,14 +84,18 @@ module _ (e n : ℕ) (b : List ℕ) {next : ℕ} {l m : List ℕ} where
   unfolding told choose
   told_accepted h p = rw (eqb_yes h) p
 
-abbrev others : List ℕ
-others = 2 ∷ 3 ∷ 4 ∷ 5 ∷ 6 ∷ 7 ∷ 8 ∷ 9 ∷ 10 ∷ 11 ∷ 12 ∷ 13 ∷ 17 ∷ 18 ∷ 19 ∷ []
-
 -- a reply that begins with no outcome
-pub other_told : (r : Reply) (shown : List ℕ) → OneOf others (tag_of reply.the_type r) → rmt_reply r shown ≡ told 0 0 []
+pub record Other (r : Reply) : Type 0 where
+  pub no_header : (e : ℕ) → r ≡ Reply.Header e → ⊥
+  pub no_refusal : (b e a : ℕ) → r ≡ Reply.Refused b e a → ⊥
+  pub no_mtio : (e residue : ℕ) → r ≡ Reply.Mtio e residue → ⊥
+  pub no_write : (e count : ℕ) → r ≡ Reply.Wrote e count → ⊥
+  pub no_read : (e start len : ℕ) → r ≡ Reply.Read e start len → ⊥
+
+pub other_told : (r : Reply) (shown : List ℕ) → Other r → rmt_reply r shown ≡ told 0 0 []
 unfolding rmt_reply counted_in number_of
-other_told (Reply.Header e) shown h = absurd (miss others 0 tt h)
-other_told (Reply.Refused b e a) shown h = absurd (miss others 1 tt h)
+other_told (Reply.Header e) shown h = absurd (h.no_header e refl)
+other_told (Reply.Refused b e a) shown h = absurd (h.no_refusal b e a refl)
 other_told Reply.Plain shown h = refl
 other_told Reply.Listening shown h = refl
 other_told Reply.ListeningTcp shown h = refl
@@ -108,9 +108,9 @@ other_told (Reply.Sense n key code qualifier) shown h = refl
 other_told (Reply.Check key code qualifier) shown h = refl
 other_told Reply.Elements shown h = refl
 other_told (Reply.TapeState file block) shown h = refl
-other_told (Reply.Mtio e residue) shown h = absurd (miss others 14 tt h)
-other_told (Reply.Wrote e count) shown h = absurd (miss others 15 tt h)
-other_told (Reply.Read e start len) shown h = absurd (miss others 16 tt h)
+other_told (Reply.Mtio e residue) shown h = absurd (h.no_mtio e residue refl)
+other_told (Reply.Wrote e count) shown h = absurd (h.no_write e count refl)
+other_told (Reply.Read e start len) shown h = absurd (h.no_read e start len refl)
 other_told (Reply.DataState v) shown h = refl
 other_told Reply.Environment shown h = refl
 other_told (Reply.MoverState v) shown h = refl

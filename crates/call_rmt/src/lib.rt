@@ -1,4 +1,6 @@
 // The call of a command of the remote tape protocol. It has no requires: it refuses.
+#![tactic(auto)]
+
 ghost use Rattle.std.specs.Prelude.{◌≡◌, List, ℕ, ◌≤◌, length};
 ghost use Rattle.codes.specs.Codes.{longest_record};
 ghost use Rattle.xdr_opaque.specs.Put.{Put};

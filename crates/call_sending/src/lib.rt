@@ -1,4 +1,6 @@
 // What a call returns, and how it comes about: a reply, a refusal, the notices behind it, or nothing. For the calls of the crates above.
+#![tactic(auto)]
+
 ghost use Rattle.std.specs.Prelude.{◌≡◌, List, [], ℕ, ◌+◌, ◌≤◌, length};
 ghost use Rattle.wire_replies.specs.Fit.{Sendable};
 ghost use Rattle.rules_parts.specs.Names.{least_room};

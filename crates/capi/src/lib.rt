@@ -1,4 +1,6 @@
 // The calls for a host in Rust or C. None asks anything of its caller: each promises what the call of the same name below promises.
+#![tactic(auto)]
+
 ghost use Rattle.std.specs.Prelude.{ℕ, ◌≡◌, List, [], length};
 ghost use Rattle.rules.specs.Answer.{held, answered};
 ghost use Rattle.rules.specs.Calls.{opening};

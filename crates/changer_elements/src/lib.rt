@@ -1,5 +1,7 @@
 // The changer's elements, the slot list, moves and element status, as definitions. The list is nine words by value: the drive
 // first (element 1), then the slots (elements 16 to 23); 0 is an empty place, any other word a cartridge's number.
+#![tactic(auto)]
+
 ghost use Rattle.changer_elements.specs.MovesHold.{ElementsHold};
 ghost use Rattle.changer_elements.specs.MoveCases.{MoveCases};
 ghost use Rattle.changer_elements.specs.StatusHolds.{StatusHolds};
@@ -30,7 +32,7 @@ pub const DESCRIPTOR_BYTES: u32 = 12;
 
 // What a refused CDB leaves pending: the sense key, its code and the code's qualifier.
 #[repr(C)]
-#[derive(Drop)]
+#[derive(Clone, Copy)]
 pub struct Sense {
     pub key: u8,
     pub code: u8,
@@ -38,7 +40,7 @@ pub struct Sense {
 }
 
 // What MOVE MEDIUM comes to: a refusal, or the places that the cartridge goes from and to, for `moved`.
-#[derive(Drop)]
+#[derive(Clone, Copy)]
 pub enum MoveDone {
     Refused(Sense),
     Moves(usize, usize),
@@ -46,7 +48,7 @@ pub enum MoveDone {
 
 // What a CDB asks for: the type code, the least address, the number of elements, and how many bytes are handed over at the
 // most.
-#[derive(Drop)]
+#[derive(Clone, Copy)]
 pub struct Asked {
     pub kind: u32,
     pub start: u32,
@@ -55,7 +57,7 @@ pub struct Asked {
 }
 
 // What READ ELEMENT STATUS comes to: a refusal, or what is asked for.
-#[derive(Drop)]
+#[derive(Clone, Copy)]
 pub enum StatusDone {
     Refused(Sense),
     Reports(Asked),

@@ -1,4 +1,6 @@
 // The code of the slot list and of moves: `changer_elements` has the definitions.
+#![tactic(auto)]
+
 ghost use Rattle.std.specs.Prelude.{◌≡◌, true, ◌+◌, ◌-◌, ◌<◌, ◌≤◌, length, get_or};
 ghost use Rattle.changer_elements.specs.Elements.{has_place, place_of, half};
 ghost use Rattle.changer_elements.specs.Slots.{named, is_again, names_none_twice, moved};

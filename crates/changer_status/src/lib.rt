@@ -1,5 +1,7 @@
 // READ ELEMENT STATUS, written: which elements a CDB asks for, and the bytes that tell of them. `changer_elements` has the
 // definitions.
+#![tactic(auto)]
+
 ghost use Rattle.std.specs.Prelude.{◌≡◌, [], ◌∷◌, ◌+◌, ◌*◌, ◌<◌, ◌≤◌, length};
 ghost use Rattle.xdr_opaque.specs.Put.{Put};
 ghost use Rattle.changer_elements.specs.Status.{type_of, allocation, read_status, is_asked, flags_of, descriptor_bytes};

@@ -1,10 +1,12 @@
 // Bytes from text in hex.
+#![tactic(auto)]
+
 ghost use Rattle.std.specs.Prelude.{◌≡◌, length};
 ghost use Rattle.hex_text.specs.Hex.{digit_of, pair_of, blank_of, Reads};
 ghost use Rattle.hex_text.specs.Cases.{HexCases};
 
 // How many bytes a text held; or that it holds something else than pairs of digits and blanks, or more bytes than the output.
-#[derive(Drop)]
+#[derive(Clone, Copy)]
 pub enum Decoded {
     Bytes(usize),
     NotHex,

@@ -1,5 +1,7 @@
 // MD5 (RFC 1321): the digest of any message, and of the string that a login by MD5 is judged by.
 // Two digests are compared by xdr::same, which looks at all bytes whatever they are.
+#![tactic(auto)]
+
 ghost use Rattle.std.specs.Prelude.{◌≡◌, ℕ, ◌+◌, ◌-◌, ◌*◌, ◌%◌, ◌<◌, ◌≤◌, length};
 ghost use Rattle.codes.specs.Codes.{longest_password};
 ghost use Rattle.xdr.specs.Xdr.{overlay};
@@ -82,7 +84,7 @@ const TABLE: [u32; 64] = [
 const SHIFTS: [u32; 16] = [7, 12, 17, 22, 5, 9, 14, 20, 4, 11, 16, 23, 6, 10, 15, 21];
 
 // The registers A, B, C and D of section 3.3.
-#[derive(Drop)]
+#[derive(Clone, Copy)]
 pub struct Registers {
     pub a: u32,
     pub b: u32,

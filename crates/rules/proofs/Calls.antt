@@ -419,22 +419,22 @@ laid k l r = (follows k l r).1
 runs_lengths : (k : Kept) (cs : List Call) → length (run k cs).last.variables ≡ length k.variables
 unfolding run
 runs_lengths k [] = refl
-runs_lengths k (c ∷ cs) = runs_lengths _ cs ∙ lengths k c.lent c.ask.request
+runs_lengths k (c ∷ cs) = runs_lengths (answered k c.lent c.ask.request).next cs ∙ lengths k c.lent c.ask.request
 
 runs_laid : (k : Kept) (cs : List Call) → is_laid k.variables ≡ true → is_laid (run k cs).last.variables ≡ true
 unfolding run
 runs_laid k [] h = h
-runs_laid k (c ∷ cs) h = runs_laid _ cs (laid k c.lent c.ask.request h)
+runs_laid k (c ∷ cs) h = runs_laid (answered k c.lent c.ask.request).next cs (laid k c.lent c.ask.request h)
 
 runs : (k : Kept) (cs : List Call) → keeps k.session ≡ true → keeps (run k cs).last.session ≡ true
 unfolding run
 runs k [] h = h
-runs k (c ∷ cs) h = runs _ cs (kept k c.lent c.ask.request h)
+runs k (c ∷ cs) h = runs (answered k c.lent c.ask.request).next cs (kept k c.lent c.ask.request h)
 
 runs_sound : (k : Kept) (cs : List Call) → is_sound k.image ≡ true → is_sound (run k cs).last.image ≡ true
 unfolding run
 runs_sound k [] h = h
-runs_sound k (c ∷ cs) h = runs_sound _ cs (sound k c.lent c.ask.request h)
+runs_sound k (c ∷ cs) h = runs_sound (answered k c.lent c.ask.request).next cs (sound k c.lent c.ask.request h)
 
 -- ---- the codes of calls, and what a call leaves that does nothing
 Taken : Answered → Type 0

@@ -467,6 +467,7 @@ any_among p P f (e ∷ es) h = by_test (λ (b : Bool). b ≡ true → Among P (e
 
 among_any : (p : AccountEntry → Bool) (P : AccountEntry → Type 0) → ((e : AccountEntry) → P e → p e ≡ true) → (es : List AccountEntry) → Among P es → any_of p es ≡ true
 unfolding any_of choose
+among_any p P f [] x' = elim x' [ ]
 among_any p P f (e ∷ es) (here h) = rw (f e h)
 among_any p P f (e ∷ es) (later h) = by_test (λ (b : Bool). b ≡ true) (p e) _ _ (λ _. refl) (λ _. among_any p P f es h)
 
@@ -596,7 +597,7 @@ only k (c ∷ cs) n t =
 stays : (k : Kept) (cs : List Call) → authorized k ≡ true → authorized (run k cs).last ≡ true
 unfolding run
 stays k [] h = h
-stays k (c ∷ cs) h = stays _ cs (call_stays k c h)
+stays k (c ∷ cs) h = stays (answered k c.lent c.ask.request).next cs (call_stays k c h)
 
 -- ---- the replies to a login
 refused_login_body : (k : Kept) (l : Lent) (r : List ℕ) (e : ℕ) → message_word r ≡ 0x901 → answered k l r ≡ replying r l.time (refused_in r e) [] k

@@ -1,5 +1,7 @@
 // What each request does to a session, and what holds of every request. The definitions are in specs/; the code that serves requests stands in the
 // crates above.
+#![tactic(auto)]
+
 ghost use Rattle.rules.specs.Promises.{Promises};
 ghost use Rattle.rules.specs.Order.{AnyOrder, ServicesAre};
 ghost use Rattle.rules.specs.Calls.{CallsKeep};
@@ -10,7 +12,7 @@ ghost use Rattle.rules.specs.RmtHolds.{RmtHolds};
 use rules_parts::{Data, Mover};
 
 // What comes before any call: it stops with a code and nothing done, or goes on.
-#[derive(Drop)]
+#[derive(Clone, Copy)]
 pub enum Guard {
     Stop(u32),
     Go,
@@ -18,7 +20,7 @@ pub enum Guard {
 
 // Both ends after a joint request, and why each halted in it, or 0.
 #[repr(C)]
-#[derive(Drop)]
+#[derive(Clone, Copy)]
 pub struct Ends {
     pub source: Data,
     pub mover: Mover,

@@ -1,4 +1,5 @@
 -- What a backup leaves on the tape, call by call: the stream's bytes that were taken, and the fill of its last record. Assumes nothing.
+use Rattle.rules_moves.specs.Events.{moved_to_tape}
 use Prim.Native.Nat.{ℕ, ◌+◌, ◌*◌, ◌≤◌}
 use mathlib.Core.Bool.{Bool, true, false}
 use mathlib.Core.List.{List, [], ◌∷◌, ◌++◌, append_assoc, append-nil}
@@ -119,7 +120,7 @@ taped size stream taken rest w [] h b e =
     let all : taken ≡ stream = sym (append-nil taken) ∙ (rw e at b.joins) in
     record { kept = h; holds = rw (← all) b.holds }
 taped size stream taken rest w (ToTape l part last ∷ es) h b a =
-    taped size stream _ _ (step (ToTape l part last) w) es (stepped w h (ToTape l part last)).kept
+    taped size stream (taken ++ take (moved_to_tape w l part last).count rest) (drop (moved_to_tape w l part last).count rest) (step (ToTape l part last) w) es (stepped w h (ToTape l part last)).kept
     (fed_backed size _ stream taken rest _ w.image part last _ _ _ a.0 a.1 a.2 b (to_tape_fed w part last h l)) a.3
 taped size stream taken rest w (Asked c ∷ es) h b a =
     taped size stream taken rest (step (Asked c) w) es (stepped w h (Asked c)).kept (same_backed size stream taken rest w _ (aside_stays w h (Asked c) a.0) b) a.1
@@ -158,7 +159,7 @@ pub stuck : (size : ℕ) (rest : List ℕ) (w : Kept) (es : List Event) → keep
 unfolding runs step
 stuck size rest w [] h f b = f
 stuck size rest w (ToTape l part last ∷ es) h f b =
-    stuck size _ (step (ToTape l part last) w) es (stepped w h (ToTape l part last)).kept (fed_stuck _ _ _ _ _ _ _ _ f (to_tape_fed w part last h l)) b.3
+    stuck size (drop (moved_to_tape w l part last).count rest) (step (ToTape l part last) w) es (stepped w h (ToTape l part last)).kept (fed_stuck _ _ _ _ _ _ _ _ f (to_tape_fed w part last h l)) b.3
 stuck size rest w (Asked c ∷ es) h f b =
     stuck size rest (step (Asked c) w) es (stepped w h (Asked c)).kept (same_stuck w _ (aside_stays w h (Asked c) b.0) f) b.1
 stuck size rest w (Ended l ok ∷ es) h f b =

@@ -146,7 +146,7 @@ backs_hold size rest w (ToTape l part last ∷ es) h =
       same_is part (take (length part) rest) a.0,
       marked last part rest b.0,
       at_size size w (moved_to_tape w l part last) c.0,
-      backs_hold size _ (step (ToTape l part last) w) es c.1,
+      backs_hold size (drop (moved_to_tape w l part last).count rest) (step (ToTape l part last) w) es c.1,
     )
 backs_hold size rest w (Asked c ∷ es) h = let b = both (aside (Asked c) w) h in (is_aside (Asked c) w b.0, backs_hold size rest (step (Asked c) w) es b.1)
 backs_hold size rest w (Ended l ok ∷ es) h = let b = both (aside (Ended l ok) w) h in (is_aside (Ended l ok) w b.0, backs_hold size rest (step (Ended l ok) w) es b.1)
@@ -171,7 +171,7 @@ backs_hold size rest w (SlotsLent slots ∷ es) h =
 -- a backup feeds the tape
 pub backs_feed : (size : ℕ) (rest : List ℕ) (w : Kept) (es : List Event) → Backs size rest w es → Feeds size w es
 backs_feed size rest w [] b = tt
-backs_feed size rest w (ToTape l part last ∷ es) b = (b.2, backs_feed size _ (step (ToTape l part last) w) es b.3)
+backs_feed size rest w (ToTape l part last ∷ es) b = (b.2, backs_feed size (drop (moved_to_tape w l part last).count rest) (step (ToTape l part last) w) es b.3)
 backs_feed size rest w (Asked c ∷ es) b = (b.0, backs_feed size rest (step (Asked c) w) es b.1)
 backs_feed size rest w (Ended l ok ∷ es) b = (b.0, backs_feed size rest (step (Ended l ok) w) es b.1)
 backs_feed size rest w (Made l mover ∷ es) b = (b.0, backs_feed size rest (step (Made l mover) w) es b.1)
@@ -216,11 +216,11 @@ recovers total asked end given w (SlotsLent slots ∷ es) = choose (aside (Slots
 pub recovers_hold : (total asked end given : ℕ) (w : Kept) (es : List Event) → recovers total asked end given w es ≡ true → Recovers total asked end given w es
 unfolding recovers
 recovers_hold total asked end given w [] h = let b = both (eqb asked total) h in (eqb-true asked total b.0, eqb-true w.session.mover.left 0 b.1)
-recovers_hold total asked end given w (FromTape l dest ∷ es) h = recovers_hold total asked end _ (step (FromTape l dest) w) es h
+recovers_hold total asked end given w (FromTape l dest ∷ es) h = recovers_hold total asked end (given + (moved_from_tape w l dest).count) (step (FromTape l dest) w) es h
 recovers_hold total asked end given w (Asked c ∷ es) h =
     let a = both (aside (Asked c) w) h in
     let b = both (in_turn asked end given (noted w c)) a.1 in
-    (is_aside (Asked c) w a.0, in_turn_lem asked end given (noted w c) b.0, recovers_hold total _ _ given (step (Asked c) w) es b.1)
+    (is_aside (Asked c) w a.0, in_turn_lem asked end given (noted w c) b.0, recovers_hold total (asked_after asked (noted w c)) (end_after end (noted w c)) given (step (Asked c) w) es b.1)
 recovers_hold total asked end given w (Ended l ok ∷ es) h =
     let b = both (aside (Ended l ok) w) h in
     (is_aside (Ended l ok) w b.0, recovers_hold total asked end given (step (Ended l ok) w) es b.1)

@@ -31,7 +31,7 @@ use Rattle.rules_moves.specs.Events.{Moving, announced, moved_from_tape}
 use Rattle.rules_moves.specs.Sequence.{Event, Asked, ToTape, FromTape, Ended, Made, Lost, Inserted, Renumbered, StoreLent, SlotsLent, step}
 use Rattle.rules_moves.proofs.Moving.{before_end, running}
 use Rattle.rules_moves.proofs.Sequence.{Carries, announced_carries, stepped}
-use Rattle.rules_annex.specs.RoundTrip.{Recovers, handed_over, noted, Noted, Window, Read, Reset, Other, asked_after}
+use Rattle.rules_annex.specs.RoundTrip.{Recovers, handed_over, noted, Noted, Window, Read, Reset, Other, asked_after, end_after}
 use Rattle.rules_annex.proofs.Calls.{aside_stays}
 use Rattle.rules_annex.proofs.Records.{bytes_length, bytes_part, Holds}
 use Rattle.rules_annex.proofs.Along.{Along, halts_along, pauses_along, asked_along, ended_along, joined_along, parted_along, fed_along}
@@ -254,9 +254,9 @@ more_asked asked Other = omega arith
 -- no more is asked for than in all
 asked_below : (total asked end given : ℕ) (w : Kept) (es : List Event) → Recovers total asked end given w es → asked ≤ total
 asked_below total asked end given w [] r = let e = r.0 in omega arith
-asked_below total asked end given w (FromTape l dest ∷ es) r = asked_below total asked end _ (step (FromTape l dest) w) es r
+asked_below total asked end given w (FromTape l dest ∷ es) r = asked_below total asked end (given + (moved_from_tape w l dest).count) (step (FromTape l dest) w) es r
 asked_below total asked end given w (Asked c ∷ es) r =
-    let a = asked_below total _ _ given (step (Asked c) w) es r.2 in
+    let a = asked_below total (asked_after asked (noted w c)) (end_after end (noted w c)) given (step (Asked c) w) es r.2 in
     let b = more_asked asked (noted w c) in
     omega arith
 asked_below total asked end given w (Ended l ok ∷ es) r = asked_below total asked end given (step (Ended l ok) w) es r.1
@@ -292,9 +292,9 @@ module _ (size : ℕ) (bytes : List ℕ) (n : ℕ) (some : 1 ≤ size) where
       let g = move_gives size asked end given bytes n w h k some (omega arith) a l dest in
       let t = stepped w h (FromTape l dest) in
       joined given _ bytes _ _ g.handed
-      (recovered asked end _ (step (FromTape l dest) w) es t.kept (holds_in size w.image _ n bytes t.leaves.image k) g.along r)
+      (recovered asked end (given + (moved_from_tape w l dest).count) (step (FromTape l dest) w) es t.kept (holds_in size w.image _ n bytes t.leaves.image k) g.along r)
   recovered asked end given w (Asked c ∷ es) h k a r =
-      recovered _ _ given (step (Asked c) w) es (stepped w h (Asked c)).kept (holds_in size w.image _ n bytes (aside_stays w h (Asked c) r.0).image k)
+      recovered (asked_after asked (noted w c)) (end_after end (noted w c)) given (step (Asked c) w) es (stepped w h (Asked c)).kept (holds_in size w.image _ n bytes (aside_stays w h (Asked c) r.0).image k)
       (asked_along size asked end given w a h c r.0 r.1) r.2
   recovered asked end given w (Ended l ok ∷ es) h k a r =
       recovered asked end given (step (Ended l ok) w) es (stepped w h (Ended l ok)).kept (holds_in size w.image _ n bytes (aside_stays w h (Ended l ok) r.0).image k)

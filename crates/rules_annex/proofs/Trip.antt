@@ -1,4 +1,6 @@
 -- What went in comes out: the backup, the rewind, the calls between, the recover. Assumes nothing.
+use Rattle.rules_moves.specs.Events.{moved_to_tape}
+use lib.ListN.{drop}
 use Prim.Native.Nat.{ℕ, ◌*◌, ◌≤◌}
 use mathlib.Core.Bool.{Bool, true, false}
 use mathlib.Core.List.{List, [], ◌∷◌, ◌++◌}
@@ -97,7 +99,7 @@ more_hands e w es a = ap (λ (b : List ℕ). b ++ handed_over (step e w) es) (as
 backs_hands : (size : ℕ) (rest : List ℕ) (w : Kept) (es fs : List Event) → Backs size rest w es → handed_over w (es ++ fs) ≡ handed_over (runs w es) fs
 unfolding runs handed_over
 backs_hands size rest w [] fs b = refl
-backs_hands size rest w (ToTape l part last ∷ es) fs b = backs_hands size _ (step (ToTape l part last) w) es fs b.3
+backs_hands size rest w (ToTape l part last ∷ es) fs b = backs_hands size (drop (moved_to_tape w l part last).count rest) (step (ToTape l part last) w) es fs b.3
 backs_hands size rest w (Asked c ∷ es) fs b = backs_hands size rest (step (Asked c) w) es fs b.1
 backs_hands size rest w (Ended l ok ∷ es) fs b = backs_hands size rest (step (Ended l ok) w) es fs b.1
 backs_hands size rest w (Made l mover ∷ es) fs b = backs_hands size rest (step (Made l mover) w) es fs b.1

@@ -1,4 +1,6 @@
 // The contract's annex (paper 02, No. 12): what went in comes out.
+#![tactic(auto)]
+
 ghost use Rattle.rules_annex.specs.Used.{UsedGrows};
 ghost use Rattle.rules_annex.specs.RoundTrip.{ComesOut};
 ghost use Rattle.rules_annex.specs.Example.{ExampleHolds};

@@ -1,5 +1,7 @@
 // Cases of whole sessions, computed: the examples of paper 01 and six more lists, and the login that they begin from. They keep the definitions of requests and moves to the papers; what holds of
 // moves, and the cases that try each wrong definition of one, are in `rules_moves`.
+#![tactic(auto)]
+
 ghost use Rattle.rules_cases.specs.Examples.{ExamplesHold};
 ghost use Rattle.rules_cases.specs.EndlessCases.{EndlessCasesHold};
 ghost use Rattle.rules_cases.specs.EnvironmentCases.{EnvironmentCasesHold};

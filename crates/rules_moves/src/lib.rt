@@ -1,4 +1,6 @@
 // Moving bytes: what a move comes to, and what holds of moves. The definitions are in specs/; the code stands in the crates above.
+#![tactic(auto)]
+
 ghost use Rattle.rules_moves.specs.RecoverCases.{RecoverCasesHold};
 ghost use Rattle.rules_moves.specs.Endless.{EndlessMoves};
 ghost use Rattle.rules_moves.specs.Sequence.{WindowHolds};
@@ -17,7 +19,7 @@ use rules_parts::types::{Data, Mover, Tape};
 // What a move comes to: the bytes taken or handed over; why the data end and the mover halted and why the mover paused, each 0 where it
 // did not; and the parts of the session after it.
 #[repr(C)]
-#[derive(Drop)]
+#[derive(Clone, Copy)]
 pub struct Move {
     pub count: usize,
     pub dwhy: u32,
@@ -29,7 +31,7 @@ pub struct Move {
 }
 
 // What a walk over the tape's entries comes to: the record that is sought, the position after a mark, or the end.
-#[derive(Drop)]
+#[derive(Clone, Copy)]
 pub enum Found {
     Target(usize),
     Mark(usize),

@@ -1,5 +1,7 @@
 // The session's parts by value: their declarations, their numbers by name, and what a request, a move or a message changes of one, each a method
 // that takes the part and hands back the next. Below the definitions of requests, so that an edit of those does not prove this code again.
+#![tactic(auto)]
+
 ghost use Rattle.std.specs.Prelude.{◌≡◌, ◌+◌, ◌≤◌};
 ghost use Rattle.rules_parts.specs.Parts.{clear_changer, changer_refused, changer_holds, logged_in, challenged_by, rest_data, data_to, data_starts, data_halts, rest_mover, mover_listens, mover_runs, mover_pauses, mover_halts, mover_window, mover_size, mover_seeks, data_fed, mover_records, mover_hands, new_session, with_parts, after_message, shut, window_end, is_past_top, length_wrong, told_in, data_joined, mover_joined, data_partnered, mover_partnered, address_wrong, holds_tape, unwritable};
 ghost use Rattle.rules_parts.specs.Names.{NamesAre, top};

@@ -3,7 +3,7 @@
 
 // The data end. The reason is why it halted; address is the type of its address, LOCAL or TCP; processed counts the stream's bytes.
 #[repr(C)]
-#[derive(Drop)]
+#[derive(Clone, Copy)]
 pub struct Data {
     pub state: u32,
     pub operation: u32,
@@ -15,7 +15,7 @@ pub struct Data {
 // The mover. A window of length 0 is none, one of length 2^64 - 1 has no end; left is what a mover read has still to be given; origin is the
 // tape's position when the mover last became ACTIVE; address is the type of its address.
 #[repr(C)]
-#[derive(Drop)]
+#[derive(Clone, Copy)]
 pub struct Mover {
     pub state: u32,
     pub mode: u32,
@@ -33,7 +33,7 @@ pub struct Mover {
 
 // The tape device; position counts the entries before it.
 #[repr(C)]
-#[derive(Drop)]
+#[derive(Clone, Copy)]
 pub struct Tape {
     pub opened: bool,
     pub writable: bool,
@@ -43,7 +43,7 @@ pub struct Tape {
 // The changer device. Key, code and qualifier are the pending sense, and are 0 where none is; slots names the cartridge in each place, the
 // drive first, then the slots 16 to 23, and has 0 where none is.
 #[repr(C)]
-#[derive(Drop)]
+#[derive(Clone, Copy)]
 pub struct Changer {
     pub opened: bool,
     pub key: u8,
@@ -54,7 +54,7 @@ pub struct Changer {
 
 // What the connection knows of its client: whether it has logged in; and the newest challenge that it was given, if one was.
 #[repr(C)]
-#[derive(Drop)]
+#[derive(Clone, Copy)]
 pub struct Login {
     pub authorized: bool,
     pub challenged: bool,
@@ -63,7 +63,7 @@ pub struct Login {
 
 // A session. First is set until a request has been answered; sequence is the number of the next message; source is the data end.
 #[repr(C)]
-#[derive(Drop)]
+#[derive(Clone, Copy)]
 pub struct Session {
     pub closed: bool,
     pub first: bool,
@@ -77,7 +77,7 @@ pub struct Session {
 
 // What a call returns: 0, 1001 or 1002; how many bytes of the output were written; and the next session.
 #[repr(C)]
-#[derive(Drop)]
+#[derive(Clone, Copy)]
 pub struct Answer {
     pub code: u32,
     pub len: usize,
@@ -86,7 +86,7 @@ pub struct Answer {
 
 // What a move returns: 0, 1001 or 1002; the bytes taken or handed over; how many bytes of the output were written; and the next session.
 #[repr(C)]
-#[derive(Drop)]
+#[derive(Clone, Copy)]
 pub struct Moved {
     pub code: u32,
     pub count: usize,

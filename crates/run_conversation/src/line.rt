@@ -1,26 +1,24 @@
 // The parts of a line.
-use libc::STDOUT_FILENO;
+use std::io;
+use std::io::Write;
 
-pub fn put(text: &[u8]) {
-    io::write_all(STDOUT_FILENO, text);
+pub fn put(out: &mut impl Write, text: &[u8]) -> io::Result<()> {
+    out.write_all(text)
 }
 
-pub fn put_number(label: &[u8], n: u64) {
-    put(label);
-    io::print_decimal(STDOUT_FILENO, n);
+pub fn put_number(out: &mut impl Write, label: &[u8], n: u64) -> io::Result<()> {
+    put(out, label)?;
+    write!(out, "{n}")
 }
 
-fn put_byte(b: u8) {
-    io::print_hex(STDOUT_FILENO, b as u64, 2);
+fn put_byte(out: &mut impl Write, b: u8) -> io::Result<()> {
+    write!(out, "{b:02x}")
 }
 
 // The first n bytes, or all where there are fewer.
-pub fn put_first(s: &[u8], n: usize) {
-    let mut i: usize = 0;
-    while i < n {
-        if i < s.len() {
-            put_byte(s[i]);
-        }
-        i += 1;
+pub fn put_first(out: &mut impl Write, s: &[u8], n: usize) -> io::Result<()> {
+    for b in s.iter().take(n) {
+        put_byte(out, *b)?;
     }
+    Ok(())
 }

@@ -1,9 +1,14 @@
 // Opens a session and lends it the record, in hex, of each file that an argument names: of each a line with its name, the code and the bytes sent.
+#![tactic(auto)]
+
 mod line; // line.rt: the parts of a line
 
 use hex_text::Decoded;
 use line::{put, put_first, put_number};
 use rules_parts::types::Session;
+use std::io::{BufWriter, Read, Write};
+use std::rt::Files;
+use std::{env, fs, io};
 
 // 1,700,000,000 seconds
 const TIME: u32 = 0x6553F100;
@@ -20,82 +25,113 @@ const CHALLENGE: [u8; 64] =
 const SLOTS: [u32; 9] = [1, 0, 0, 0, 0, 0, 0, 0, 0];
 
 // The code of an answer and the bytes sent.
-fn show(code: u32, len: usize, out: &[u8]) {
-    put_number(b": ", code as u64);
+fn show(out: &mut impl Write, code: u32, len: usize, sent: &[u8]) -> io::Result<()> {
+    put_number(out, b": ", code as u64)?;
     if len > 0 {
-        put(b" ");
-        put_first(out, len);
+        put(out, b" ")?;
+        put_first(out, sent, len)?;
     }
-    put(b"\n");
+    put(out, b"\n")
 }
 
 // A new session.
-fn begin() -> Session {
-    let mut out = [0u8; codes::LARGEST_MESSAGE];
-    let a = call_request::open(SLOTS, TIME, &mut out);
-    put(b"open");
-    show(a.code, a.len, &out);
-    a.session
+fn begin(out: &mut impl Write) -> io::Result<Session> {
+    let mut sent = [0u8; codes::LARGEST_MESSAGE];
+    let a = call_request::open(SLOTS, TIME, &mut sent);
+    put(out, b"open")?;
+    show(out, a.code, a.len, &sent)?;
+    Ok(a.session)
 }
 
 // One record.
-fn ask(s: Session, image: &mut [u8], store: &mut [u8], input: &[u8]) -> Session {
-    let mut out = [0u8; codes::LARGEST_MESSAGE];
+fn ask(
+    out: &mut impl Write,
+    s: Session,
+    image: &mut [u8],
+    store: &mut [u8],
+    input: &[u8],
+) -> io::Result<Session> {
+    let mut sent = [0u8; codes::LARGEST_MESSAGE];
     let a = call_request::request(
-        s, &ACCOUNTS, &CHALLENGE, b"", false, image, store, input, TIME, &mut out,
+        s, &ACCOUNTS, &CHALLENGE, b"", false, image, store, input, TIME, &mut sent,
     );
-    show(a.code, a.len, &out);
-    a.session
+    show(out, a.code, a.len, &sent)?;
+    Ok(a.session)
 }
 
 // A record in hex. What is none is said, and not asked.
-fn ask_text(s: Session, image: &mut [u8], store: &mut [u8], text: &[u8]) -> Session {
+fn ask_text(
+    out: &mut impl Write,
+    s: Session,
+    image: &mut [u8],
+    store: &mut [u8],
+    text: &[u8],
+) -> io::Result<Session> {
     let mut record = [0u8; 20000];
     let d = hex_text::decode(text, &mut record);
     match d {
-        Decoded::Bytes(len) => ask(s, image, store, &record[..len]),
+        Decoded::Bytes(len) => ask(out, s, image, store, &record[..len]),
         Decoded::NotHex => {
-            put(b": not hex\n");
-            s
+            put(out, b": not hex\n")?;
+            Ok(s)
         }
         Decoded::NoRoom => {
-            put(b": above 20000 bytes\n");
-            s
+            put(out, b": above 20000 bytes\n")?;
+            Ok(s)
         }
     }
 }
 
-fn ask_file(i: usize, s: Session, image: &mut [u8], store: &mut [u8]) -> Session {
-    let mut path = io::buffer();
-    let n = os::arg(i, &mut path);
-    put(&path[..n]);
-    let fd = os::open_read(&path[..n]);
-    if fd < 0 {
-        os::fail(&path[..n]);
-        return s;
+// A file's text. One that is too long is said, and not asked.
+fn ask_bytes(
+    out: &mut impl Write,
+    s: Session,
+    image: &mut [u8],
+    store: &mut [u8],
+    text: &[u8],
+) -> io::Result<Session> {
+    if 40000 < text.len() {
+        put(out, b": above 40000 bytes\n")?;
+        return Ok(s);
     }
-    let mut text = [0u8; 40001];
-    let len = io::read_full(fd, &mut text);
-    libc::close(fd);
-    if 40000 < len {
-        put(b": above 40000 bytes\n");
-        return s;
+    ask_text(out, s, image, store, text)
+}
+
+// One that cannot be opened is told on standard error, and the session goes on.
+fn ask_file(
+    rt: &(impl Files + Eprint + AllocGlobal),
+    out: &mut impl Write,
+    path: &str,
+    s: Session,
+    image: &mut [u8],
+    store: &mut [u8],
+) -> io::Result<Session> {
+    put(out, path.as_bytes())?;
+    match fs::open(rt, path) {
+        Ok(file) => {
+            let mut text = Vec::new(rt.alloc());
+            file.take(40001).read_to_end(&mut text)?;
+            ask_bytes(out, s, image, store, &text)
+        }
+        Err(e) => {
+            out.flush()?;
+            eprintln!(rt; "{path}: {e}")?;
+            Ok(s)
+        }
     }
-    ask_text(s, image, store, &text[..len])
 }
 
 // The cartridge is empty: 1, a capacity of 8, no entries, no bytes used; then room for 8 entries and 2,048 bytes. The store is
 // all zeros: no pairs.
-fn main() {
+fn main(rt: HostRuntime) -> io::Result<()> {
+    let mut out = BufWriter::new(rt.alloc(), rt.stdout())?;
     let mut image = [0u8; 2128];
     image[3] = 1;
     image[7] = 8;
     let mut store = [0u8; codes::STORE_LENGTH];
-    let count = os::arg_count();
-    let mut s = begin();
-    let mut i: usize = 1;
-    while i < count {
-        s = ask_file(i, s, &mut image, &mut store);
-        i += 1;
+    let mut s = begin(&mut out)?;
+    for path in env::args(&rt)?.skip(1) {
+        s = ask_file(&rt, &mut out, path.as_str(), s, &mut image, &mut store)?;
     }
+    out.flush()
 }

@@ -3,6 +3,8 @@ ghost use Rattle.std.specs.Prelude.{◌≡◌, ◌≤◌, length};
 
 use super::line::{put, put_body, put_number};
 use rules_parts::types::Session;
+use std::io;
+use std::io::Write;
 
 // The record of a request.
 fn write_request(out: &mut [u8], message: u32, body: &[u32])
@@ -16,20 +18,21 @@ fn write_request(out: &mut [u8], message: u32, body: &[u32])
 
 // A request: its message number and the words of its body.
 pub fn ask(
+    out: &mut impl Write,
     label: &[u8],
     s: Session,
     image: &mut [u8],
     store: &mut [u8],
     message: u32,
     body: &[u32],
-) -> Session
+) -> io::Result<Session>
     requires { length body.now ≤ 8 }
 {
     let mut record = [0u8; 60];
     write_request(&mut record, message, body);
     let end = 28 + body.len() * 4;
-    put(label);
-    answer(s, image, store, &record[..end])
+    put(out, label)?;
+    answer(out, s, image, store, &record[..end])
 }
 
 // One account, v with the password pw by MD5: a count, the kind, the id and the password.
@@ -66,34 +69,41 @@ fn challenge() -> [u8; 64] {
 }
 
 // A record, and the body of its reply. A list of one address is lent, 127.0.0.1 and port 10,000: only a listen by TCP looks at it.
-fn answer(s: Session, image: &mut [u8], store: &mut [u8], record: &[u8]) -> Session {
-    let mut out = [0u8; codes::LARGEST_MESSAGE];
+fn answer(
+    out: &mut impl Write,
+    s: Session,
+    image: &mut [u8],
+    store: &mut [u8],
+    record: &[u8],
+) -> io::Result<Session> {
+    let mut sent = [0u8; codes::LARGEST_MESSAGE];
     let list = [0, 0, 0, 1, 127, 0, 0, 1, 0, 0, 39, 16, 0, 0, 0, 0];
     let accounts = accounts();
     let challenge = challenge();
     let a = call_request::request(
-        s, &accounts, &challenge, &list, false, image, store, record, 0, &mut out,
+        s, &accounts, &challenge, &list, false, image, store, record, 0, &mut sent,
     );
-    put(b":");
-    put_body(&out, a.len);
-    a.session
+    put(out, b":")?;
+    put_body(out, &sent, a.len)?;
+    Ok(a.session)
 }
 
 // The slot list: a cartridge in the drive, and none in a slot.
 const SLOTS: [u32; 9] = [1, 0, 0, 0, 0, 0, 0, 0, 0];
 
 // A new session that was given the challenge.
-fn begin(image: &mut [u8], store: &mut [u8]) -> Session {
-    let mut out = [0u8; codes::LARGEST_MESSAGE];
-    let a = call_request::open(SLOTS, 0, &mut out);
-    let s = ask(b"  connect open", a.session, image, store, 2304, &[4]);
-    ask(b"  auth attributes", s, image, store, 259, &[2])
+fn begin(out: &mut impl Write, image: &mut [u8], store: &mut [u8]) -> io::Result<Session> {
+    let mut sent = [0u8; codes::LARGEST_MESSAGE];
+    let a = call_request::open(SLOTS, 0, &mut sent);
+    let s = ask(out, b"  connect open", a.session, image, store, 2304, &[4])?;
+    ask(out, b"  auth attributes", s, image, store, 259, &[2])
 }
 
 // A new session that has logged in by MD5: the digest is of pw, 60 zeros, the challenge and pw again.
-pub fn login(image: &mut [u8], store: &mut [u8]) -> Session {
-    let s = begin(image, store);
+pub fn login(out: &mut impl Write, image: &mut [u8], store: &mut [u8]) -> io::Result<Session> {
+    let s = begin(out, image, store)?;
     ask(
+        out,
         b"  client auth",
         s,
         image,
@@ -112,36 +122,56 @@ pub fn login(image: &mut [u8], store: &mut [u8]) -> Session {
 }
 
 // A new session that has logged in and set a record size of 1,024.
-pub fn prepare(image: &mut [u8], store: &mut [u8]) -> Session {
-    let s = login(image, store);
-    set_size(s, image, store)
+pub fn prepare(out: &mut impl Write, image: &mut [u8], store: &mut [u8]) -> io::Result<Session> {
+    let s = login(out, image, store)?;
+    set_size(out, s, image, store)
 }
 
-pub fn set_size(s: Session, image: &mut [u8], store: &mut [u8]) -> Session {
-    ask(b"  set record size 1024", s, image, store, 2568, &[1024])
+pub fn set_size(
+    out: &mut impl Write,
+    s: Session,
+    image: &mut [u8],
+    store: &mut [u8],
+) -> io::Result<Session> {
+    ask(
+        out,
+        b"  set record size 1024",
+        s,
+        image,
+        store,
+        2568,
+        &[1024],
+    )
 }
 
 pub fn set_window(
+    out: &mut impl Write,
     s: Session,
     image: &mut [u8],
     store: &mut [u8],
     offset: u64,
     length: u64,
-) -> Session {
-    put_number(b"  set window ", offset);
-    put_number(b" ", length);
+) -> io::Result<Session> {
+    put_number(out, b"  set window ", offset)?;
+    put_number(out, b" ", length)?;
     let body = [
         (offset / 4294967296) as u32,
         (offset % 4294967296) as u32,
         (length / 4294967296) as u32,
         (length % 4294967296) as u32,
     ];
-    ask(b"", s, image, store, 2565, &body)
+    ask(out, b"", s, image, store, 2565, &body)
 }
 
 // Tape open, of `tape0`, for writing.
-pub fn open_tape(s: Session, image: &mut [u8], store: &mut [u8]) -> Session {
+pub fn open_tape(
+    out: &mut impl Write,
+    s: Session,
+    image: &mut [u8],
+    store: &mut [u8],
+) -> io::Result<Session> {
     ask(
+        out,
         b"  tape open",
         s,
         image,
@@ -152,62 +182,91 @@ pub fn open_tape(s: Session, image: &mut [u8], store: &mut [u8]) -> Session {
 }
 
 // Mover listen, in mode 0 at LOCAL.
-pub fn listen(s: Session, image: &mut [u8], store: &mut [u8]) -> Session {
-    ask(b"  mover listen", s, image, store, 2561, &[0, 0])
+pub fn listen(
+    out: &mut impl Write,
+    s: Session,
+    image: &mut [u8],
+    store: &mut [u8],
+) -> io::Result<Session> {
+    ask(out, b"  mover listen", s, image, store, 2561, &[0, 0])
 }
 
 // Mover listen, in mode 0 by TCP.
-pub fn listen_tcp(s: Session, image: &mut [u8], store: &mut [u8]) -> Session {
-    ask(b"  mover listen by TCP", s, image, store, 2561, &[0, 1])
+pub fn listen_tcp(
+    out: &mut impl Write,
+    s: Session,
+    image: &mut [u8],
+    store: &mut [u8],
+) -> io::Result<Session> {
+    ask(
+        out,
+        b"  mover listen by TCP",
+        s,
+        image,
+        store,
+        2561,
+        &[0, 1],
+    )
 }
 
 // What a move or an event came to.
-fn show(s: Session) {
-    put_number(b", state ", s.mover.state as u64);
-    put_number(b", pause ", s.mover.pause as u64);
-    put_number(b", halt ", s.mover.halt as u64);
-    put_number(b", moved ", s.mover.moved);
-    put_number(b", processed ", s.source.processed);
-    put_number(b", position ", s.tape.position as u64);
-    put(b"\n");
+fn show(out: &mut impl Write, s: &Session) -> io::Result<()> {
+    put_number(out, b", state ", s.mover.state as u64)?;
+    put_number(out, b", pause ", s.mover.pause as u64)?;
+    put_number(out, b", halt ", s.mover.halt as u64)?;
+    put_number(out, b", moved ", s.mover.moved)?;
+    put_number(out, b", processed ", s.source.processed)?;
+    put_number(out, b", position ", s.tape.position as u64)?;
+    put(out, b"\n")
 }
 
 // A move to tape.
-fn feed(s: Session, image: &mut [u8], stream: &[u8], last: bool) -> Session {
-    let mut out = [0u8; codes::LARGEST_MESSAGE];
-    let r = call_moves::move_to_tape(s, image, stream, last, 0, &mut out);
-    put_number(b"  move of ", stream.len() as u64);
+fn feed(
+    out: &mut impl Write,
+    s: Session,
+    image: &mut [u8],
+    stream: &[u8],
+    last: bool,
+) -> io::Result<Session> {
+    let mut sent = [0u8; codes::LARGEST_MESSAGE];
+    let r = call_moves::move_to_tape(s, image, stream, last, 0, &mut sent);
+    put_number(out, b"  move of ", stream.len() as u64)?;
     if last {
-        put(b", the last");
+        put(out, b", the last")?;
     }
-    put_number(b": taken ", r.count as u64);
-    let next = r.session;
-    show(next);
-    next
+    put_number(out, b": taken ", r.count as u64)?;
+    show(out, &r.session)?;
+    Ok(r.session)
 }
 
 // A move to tape of the stream from a place on.
-pub fn feed_from(s: Session, image: &mut [u8], stream: &[u8], at: usize, last: bool) -> Session {
+pub fn feed_from(
+    out: &mut impl Write,
+    s: Session,
+    image: &mut [u8],
+    stream: &[u8],
+    at: usize,
+    last: bool,
+) -> io::Result<Session> {
     if stream.len() < at {
-        return s;
+        return Ok(s);
     }
-    feed(s, image, &stream[at..], last)
+    feed(out, s, image, &stream[at..], last)
 }
 
 // The mover's connection is made.
-pub fn make(s: Session) -> Session {
-    let mut out = [0u8; codes::LARGEST_MESSAGE];
-    let a = call_moves::made(s, true, 0, &mut out);
-    put(b"  made");
-    let next = a.session;
-    show(next);
-    next
+pub fn make(out: &mut impl Write, s: Session) -> io::Result<Session> {
+    let mut sent = [0u8; codes::LARGEST_MESSAGE];
+    let a = call_moves::made(s, true, 0, &mut sent);
+    put(out, b"  made")?;
+    show(out, &a.session)?;
+    Ok(a.session)
 }
 
 // The mover's connection is lost.
-pub fn lose(s: Session) {
-    let mut out = [0u8; codes::LARGEST_MESSAGE];
-    let a = call_moves::lost(s, true, 0, &mut out);
-    put(b"  lost");
-    show(a.session);
+pub fn lose(out: &mut impl Write, s: Session) -> io::Result<()> {
+    let mut sent = [0u8; codes::LARGEST_MESSAGE];
+    let a = call_moves::lost(s, true, 0, &mut sent);
+    put(out, b"  lost")?;
+    show(out, &a.session)
 }

@@ -1,25 +1,26 @@
 // The parts of a line.
-use libc::STDOUT_FILENO;
+use std::io;
+use std::io::Write;
 
-pub fn put(text: &[u8]) {
-    io::write_all(STDOUT_FILENO, text);
+pub fn put(out: &mut impl Write, text: &[u8]) -> io::Result<()> {
+    out.write_all(text)
 }
 
-pub fn put_number(label: &[u8], n: u64) {
-    put(label);
-    io::print_decimal(STDOUT_FILENO, n);
+pub fn put_number(out: &mut impl Write, label: &[u8], n: u64) -> io::Result<()> {
+    put(out, label)?;
+    write!(out, "{n}")
 }
 
 // The words from byte 28 up to an end, or up to the last: the body of a reply.
-pub fn put_body(s: &[u8], end: usize) {
+pub fn put_body(out: &mut impl Write, s: &[u8], end: usize) -> io::Result<()> {
     let stop = xdr::lesser_len(end, s.len());
     let mut at: usize = 28;
     while at < stop {
         if stop - at < 4 {
             break;
         }
-        put_number(b" ", xdr::read_word(s, at) as u64);
+        put_number(out, b" ", xdr::read_word(s, at) as u64)?;
         at += 4;
     }
-    put(b"\n");
+    put(out, b"\n")
 }

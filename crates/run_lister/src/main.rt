@@ -1,4 +1,11 @@
 // Lists the cartridge image on standard input.
-fn main() {
-    run_listing::list_from(0);
+#![tactic(auto)]
+
+use std::io;
+use std::io::{BufWriter, Write};
+
+fn main(rt: HostRuntime) -> io::Result<()> {
+    let mut out = BufWriter::new(rt.alloc(), rt.stdout())?;
+    run_listing::list_from(&mut out, &mut rt.stdin())?;
+    out.flush()
 }

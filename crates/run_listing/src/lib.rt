@@ -1,91 +1,98 @@
-// The lister: a cartridge image as text on standard output.
+// The lister: a cartridge image as text.
+#![tactic(auto)]
+
+ghost use Rattle.std.specs.Prelude.{◌≤◌, length, IfOk};
 ghost use Rattle.tape_image.specs.Sound.{Sound};
 
-use libc::STDOUT_FILENO;
+use std::io;
+use std::io::{Read, Write};
 
-fn put(text: &[u8]) {
-    io::write_all(STDOUT_FILENO, text);
+fn put(out: &mut impl Write, text: &[u8]) -> io::Result<()> {
+    out.write_all(text)
 }
 
-fn put_number(n: usize) {
-    io::print_decimal(STDOUT_FILENO, n as u64);
+fn put_number(out: &mut impl Write, n: usize) -> io::Result<()> {
+    write!(out, "{n}")
 }
 
-fn put_header(image: &[u8])
+fn put_header(out: &mut impl Write, image: &[u8]) -> io::Result<()>
     requires { Sound image.now }
 {
     let capacity = tape_image::capacity(image);
     let entries = tape_image::count(image);
     let used = tape_image::used_bytes(image);
     let body = image.len() - tape_image::body_at(image);
-    put(b"cartridge ");
-    put_number(entries);
-    put(b" of ");
-    put_number(capacity);
-    put(b" entries, ");
-    put_number(used);
-    put(b" of ");
-    put_number(body);
-    put(b" bytes\n");
+    writeln!(
+        out,
+        "cartridge {entries} of {capacity} entries, {used} of {body} bytes"
+    )
 }
 
-fn put_kind(len: usize) {
+fn put_kind(out: &mut impl Write, len: usize) -> io::Result<()> {
     if len == 0 {
-        put(b" mark");
-    } else {
-        put(b" record ");
-        put_number(len);
+        return put(out, b" mark");
     }
+    put(out, b" record ")?;
+    put_number(out, len)
 }
 
-fn put_entry(i: usize, len: usize, start: usize) {
-    put_number(i);
-    put_kind(len);
-    put(b" at ");
-    put_number(start);
-    put(b"\n");
+fn put_entry(out: &mut impl Write, i: usize, len: usize, start: usize) -> io::Result<()> {
+    put_number(out, i)?;
+    put_kind(out, len)?;
+    writeln!(out, " at {start}")
 }
 
-fn put_entries(image: &[u8])
+fn put_entries(out: &mut impl Write, image: &[u8]) -> io::Result<()>
     requires { Sound image.now }
 {
     let entries = tape_image::count(image);
-    let mut i: usize = 0;
-    while i < entries {
+    for i in 0..entries {
         let len = tape_image::entry_len(image, i);
         let start = tape_image::entry_start(image, i);
-        put_entry(i, len, start);
-        i += 1;
+        put_entry(out, i, len, start)?;
     }
+    Ok(())
 }
 
-fn refuse() {
-    put(b"refused 15\n");
+fn refuse(out: &mut impl Write) -> io::Result<()> {
+    put(out, b"refused 15\n")
 }
 
 // Lists any bytes: those that are no sound image, or are above 65,536, are refused.
-pub fn list(image: &[u8]) {
+#[tactic(auto, using(tape_image::proofs::Laws::sound_facts))]
+pub fn list(out: &mut impl Write, image: &[u8]) -> io::Result<()> {
     if 65536 < image.len() {
-        refuse();
-        return;
+        return refuse(out);
     }
     if tape_sound::sound(image) {
-        put_header(image);
-        put_entries(image);
+        put_header(out, image)?;
+        put_entries(out, image)
     } else {
-        refuse();
+        refuse(out)
     }
 }
 
-// Lists what a descriptor gives. One byte above the limit is enough to know that an image is too long. A failed read looks like the
-// end of the input to read_full, so one more read has to find the end: an image that was read in part may still be sound.
-pub fn list_from(fd: i32) {
+// Reads until the buffer is full or the input ends, and answers how many bytes were read.
+fn read_full(input: &mut impl Read, buf: &mut [u8]) -> io::Result<usize>
+    ensures { IfOk result (λ n. n ≤ length buf.new) }
+{
+    let mut done = 0;
+    while done < buf.len() {
+        let n = input.read(&mut buf[done..])?;
+        if n == 0 {
+            break;
+        }
+        done += n;
+    }
+    Ok(done)
+}
+
+// Lists what an input gives. One byte above the limit is enough to know that an image is too long. An input that cannot be read to its
+// end is refused too: an image that was read in part may still be sound.
+pub fn list_from(out: &mut impl Write, input: &mut impl Read) -> io::Result<()> {
     let mut image = [0u8; 65537];
-    let n = io::read_full(fd, &mut image);
-    let mut more = [0u8; 1];
-    if libc::read(fd, &mut more) == 0 {
-        list(&image[..n]);
-    } else {
-        refuse();
+    match read_full(input, &mut image) {
+        Ok(n) => list(out, &image[..n]),
+        Err(_) => refuse(out),
     }
 }

@@ -1,43 +1,49 @@
 // The lines of a record.
 ghost use Rattle.std.specs.Prelude.{◌≤◌, length};
 
-use libc::STDOUT_FILENO;
+use std::io;
+use std::io::Write;
 
-fn put(text: &[u8]) {
-    io::write_all(STDOUT_FILENO, text);
+fn put(out: &mut impl Write, text: &[u8]) -> io::Result<()> {
+    out.write_all(text)
 }
 
-fn put_byte(b: u8) {
-    io::print_hex(STDOUT_FILENO, b as u64, 2);
+fn put_byte(out: &mut impl Write, b: u8) -> io::Result<()> {
+    write!(out, "{b:02x}")
 }
 
 // The mark and the header take 28 bytes, a line; a word takes four.
-fn put_gap(i: usize) {
+fn put_gap(out: &mut impl Write, i: usize) -> io::Result<()> {
     if i % 28 == 0 {
-        put(b"\n");
-    } else if i % 4 == 0 {
-        put(b" ");
+        return put(out, b"\n");
     }
+    if i % 4 == 0 {
+        return put(out, b" ");
+    }
+    Ok(())
 }
 
-fn put_bytes(s: &[u8], n: usize)
+fn put_bytes(out: &mut impl Write, s: &[u8], n: usize) -> io::Result<()>
     requires { n ≤ length s.now }
 {
-    let mut i: usize = 0;
-    while i < n {
-        put_gap(i);
-        put_byte(s[i]);
-        i += 1;
+    for (i, b) in s[..n].iter().enumerate() {
+        put_gap(out, i)?;
+        put_byte(out, *b)?;
     }
+    Ok(())
 }
 
-// The first n bytes of an output, and four after them, which are to stay as they were.
-pub fn put_sent(name: &[u8], out: &[u8; codes::LARGEST_MESSAGE], n: usize)
+// The first n bytes of what was sent, and four after them, which are to stay as they were.
+pub fn put_sent(
+    out: &mut impl Write,
+    name: &[u8],
+    sent: &[u8; codes::LARGEST_MESSAGE],
+    n: usize,
+) -> io::Result<()>
     requires { n ≤ 36000 }
 {
-    put(name);
-    put(b" ");
-    io::print_decimal(STDOUT_FILENO, n as u64);
-    put_bytes(out, n + 4);
-    put(b"\n");
+    put(out, name)?;
+    write!(out, " {n}")?;
+    put_bytes(out, sent, n + 4)?;
+    put(out, b"\n")
 }

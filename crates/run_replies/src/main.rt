@@ -1,13 +1,18 @@
 // Prints replies and notices as they are sent: of each a name and a length, then its bytes.
+#![tactic(auto)]
+
 mod changer; // changer.rt: replies to the changer's CDBs
 mod lines; // lines.rt: the lines of a record
 mod sending; // sending.rt: a record written and printed
 
 use sending::{answer, notify, refuse, send};
+use std::io;
+use std::io::{BufWriter, Write};
 use wire_replies::{DataView, MoverView, Notice, Reply};
 
-fn plain() {
+fn plain(out: &mut impl Write) -> io::Result<()> {
     send(
+        out,
         b"header_unknown",
         1,
         1001,
@@ -15,8 +20,9 @@ fn plain() {
         501,
         Reply::Header(1),
         b"",
-    );
+    )?;
     send(
+        out,
         b"header_bad",
         4294967295,
         0,
@@ -24,15 +30,25 @@ fn plain() {
         4294967294,
         Reply::Header(18),
         b"",
-    );
-    send(b"plain", 3, 1003, 0x900, 503, Reply::Plain, b"");
-    refuse(b"plain_refused", 4, 1004, 0xA05, 504, 0, 26, 0);
-    send(b"listening", 5, 1005, 0x409, 505, Reply::Listening, b"");
-    refuse(b"listening_refused", 6, 1006, 0xA01, 506, 0, 19, 1);
+    )?;
+    send(out, b"plain", 3, 1003, 0x900, 503, Reply::Plain, b"")?;
+    refuse(out, b"plain_refused", 4, 1004, 0xA05, 504, 0, 26, 0)?;
+    send(
+        out,
+        b"listening",
+        5,
+        1005,
+        0x409,
+        505,
+        Reply::Listening,
+        b"",
+    )?;
+    refuse(out, b"listening_refused", 6, 1006, 0xA01, 506, 0, 19, 1)
 }
 
-fn config() {
+fn config(out: &mut impl Write) -> io::Result<()> {
     send(
+        out,
         b"connection_types",
         7,
         1007,
@@ -40,9 +56,23 @@ fn config() {
         507,
         Reply::ConnectionTypes,
         b"",
-    );
-    refuse(b"connection_types_refused", 8, 1008, 0x102, 508, 0, 4, 1);
+    )?;
+    refuse(
+        out,
+        b"connection_types_refused",
+        8,
+        1008,
+        0x102,
+        508,
+        0,
+        4,
+        1,
+    )
+}
+
+fn server_info(out: &mut impl Write) -> io::Result<()> {
     send(
+        out,
         b"server_info_before_auth",
         9,
         1009,
@@ -50,8 +80,9 @@ fn config() {
         509,
         Reply::ServerInfo(false),
         b"",
-    );
+    )?;
     send(
+        out,
         b"server_info",
         10,
         1010,
@@ -59,15 +90,25 @@ fn config() {
         510,
         Reply::ServerInfo(true),
         b"",
-    );
+    )
 }
 
-fn scsi() {
-    send(b"scsi_state", 11, 1011, 0x202, 511, Reply::ScsiState, b"");
-    refuse(b"scsi_state_refused", 12, 1012, 0x202, 512, 0, 6, 3);
-    send(b"cdb", 13, 1013, 0x206, 513, Reply::Cdb, b"");
-    refuse(b"cdb_refused", 14, 1014, 0x206, 514, 0, 9, 4);
+fn scsi(out: &mut impl Write) -> io::Result<()> {
     send(
+        out,
+        b"scsi_state",
+        11,
+        1011,
+        0x202,
+        511,
+        Reply::ScsiState,
+        b"",
+    )?;
+    refuse(out, b"scsi_state_refused", 12, 1012, 0x202, 512, 0, 6, 3)?;
+    send(out, b"cdb", 13, 1013, 0x206, 513, Reply::Cdb, b"")?;
+    refuse(out, b"cdb_refused", 14, 1014, 0x206, 514, 0, 9, 4)?;
+    send(
+        out,
         b"check",
         15,
         1015,
@@ -75,11 +116,12 @@ fn scsi() {
         515,
         Reply::Check(5, 0x20, 0),
         b"",
-    );
+    )
 }
 
-fn sense() {
+fn sense(out: &mut impl Write) -> io::Result<()> {
     send(
+        out,
         b"sense",
         16,
         1016,
@@ -87,8 +129,9 @@ fn sense() {
         516,
         Reply::Sense(18, 5, 0x20, 0),
         b"",
-    );
+    )?;
     send(
+        out,
         b"sense_none",
         17,
         1017,
@@ -96,8 +139,13 @@ fn sense() {
         517,
         Reply::Sense(18, 0, 0, 0),
         b"",
-    );
+    )
+}
+
+// A length of the sense that is below 18.
+fn sense_cut(out: &mut impl Write) -> io::Result<()> {
     send(
+        out,
         b"sense_4",
         18,
         1018,
@@ -105,8 +153,9 @@ fn sense() {
         518,
         Reply::Sense(4, 5, 0x20, 0),
         b"",
-    );
+    )?;
     send(
+        out,
         b"sense_13",
         19,
         1019,
@@ -114,8 +163,9 @@ fn sense() {
         519,
         Reply::Sense(13, 5, 0x20, 0),
         b"",
-    );
+    )?;
     send(
+        out,
         b"sense_0",
         20,
         1020,
@@ -123,11 +173,12 @@ fn sense() {
         520,
         Reply::Sense(0, 5, 0x20, 0),
         b"",
-    );
+    )
 }
 
-fn tape() {
+fn tape(out: &mut impl Write) -> io::Result<()> {
     send(
+        out,
         b"tape_state",
         21,
         1021,
@@ -135,12 +186,34 @@ fn tape() {
         521,
         Reply::TapeState(2, 3),
         b"",
-    );
-    refuse(b"tape_state_refused", 22, 1022, 0x302, 522, 1, 7, 9);
-    send(b"mtio", 23, 1023, 0x303, 523, Reply::Mtio(0, 0), b"");
-    send(b"mtio_mark", 24, 1024, 0x303, 524, Reply::Mtio(12, 2), b"");
-    send(b"wrote", 25, 1025, 0x304, 525, Reply::Wrote(0, 32768), b"");
+    )?;
+    refuse(out, b"tape_state_refused", 22, 1022, 0x302, 522, 1, 7, 9)?;
+    send(out, b"mtio", 23, 1023, 0x303, 523, Reply::Mtio(0, 0), b"")?;
     send(
+        out,
+        b"mtio_mark",
+        24,
+        1024,
+        0x303,
+        524,
+        Reply::Mtio(12, 2),
+        b"",
+    )
+}
+
+fn writes(out: &mut impl Write) -> io::Result<()> {
+    send(
+        out,
+        b"wrote",
+        25,
+        1025,
+        0x304,
+        525,
+        Reply::Wrote(0, 32768),
+        b"",
+    )?;
+    send(
+        out,
         b"wrote_refused",
         26,
         1026,
@@ -148,11 +221,12 @@ fn tape() {
         526,
         Reply::Wrote(13, 0),
         b"",
-    );
+    )
 }
 
-fn reads() {
+fn reads(out: &mut impl Write) -> io::Result<()> {
     send(
+        out,
         b"read_5",
         27,
         1027,
@@ -160,8 +234,9 @@ fn reads() {
         527,
         Reply::Read(0, 3, 5),
         b"abcdefghijkl",
-    );
+    )?;
     send(
+        out,
         b"read_8",
         28,
         1028,
@@ -169,8 +244,12 @@ fn reads() {
         528,
         Reply::Read(0, 4, 8),
         b"abcdefghijkl",
-    );
+    )
+}
+
+fn reads_of_none(out: &mut impl Write) -> io::Result<()> {
     send(
+        out,
         b"read_nothing",
         29,
         1029,
@@ -178,8 +257,9 @@ fn reads() {
         529,
         Reply::Read(0, 12, 0),
         b"abcdefghijkl",
-    );
+    )?;
     send(
+        out,
         b"read_refused",
         30,
         1030,
@@ -187,10 +267,10 @@ fn reads() {
         530,
         Reply::Read(12, 0, 0),
         b"abcdefghijkl",
-    );
+    )
 }
 
-fn data_states() {
+fn data_states(out: &mut impl Write) -> io::Result<()> {
     let active = DataView {
         operation: 2,
         state: 1,
@@ -199,6 +279,7 @@ fn data_states() {
         processed: 0xFEDC_BA98_7654_3210,
     };
     send(
+        out,
         b"data_state",
         31,
         1031,
@@ -206,7 +287,7 @@ fn data_states() {
         531,
         Reply::DataState(active),
         b"",
-    );
+    )?;
     let halted = DataView {
         operation: 1,
         state: 2,
@@ -215,6 +296,7 @@ fn data_states() {
         processed: 3000,
     };
     send(
+        out,
         b"data_state_halted",
         32,
         1032,
@@ -222,11 +304,11 @@ fn data_states() {
         532,
         Reply::DataState(halted),
         b"",
-    );
-    refuse(b"data_state_refused", 33, 1033, 0x400, 533, 1, 4, 13);
+    )?;
+    refuse(out, b"data_state_refused", 33, 1033, 0x400, 533, 1, 4, 13)
 }
 
-fn mover_states() {
+fn mover_states(out: &mut impl Write) -> io::Result<()> {
     let paused = MoverView {
         mode: 1,
         state: 3,
@@ -242,6 +324,7 @@ fn mover_states() {
         length: 0x0000_0000_FFFF_FC00,
     };
     send(
+        out,
         b"mover_state",
         34,
         1034,
@@ -249,35 +332,37 @@ fn mover_states() {
         534,
         Reply::MoverState(paused),
         b"",
-    );
-    refuse(b"mover_state_refused", 35, 1035, 0xA00, 535, 0, 4, 17);
+    )?;
+    refuse(out, b"mover_state_refused", 35, 1035, 0xA00, 535, 0, 4, 17)
 }
 
-fn notices() {
-    notify(b"connected", 1, 1049155200, Notice::Connected);
-    notify(b"data_halted", 37, 1037, Notice::DataHalted(4));
-    notify(b"mover_halted", 38, 1038, Notice::MoverHalted(5));
+fn notices(out: &mut impl Write) -> io::Result<()> {
+    notify(out, b"connected", 1, 1049155200, Notice::Connected)?;
+    notify(out, b"data_halted", 37, 1037, Notice::DataHalted(4))?;
+    notify(out, b"mover_halted", 38, 1038, Notice::MoverHalted(5))?;
     notify(
+        out,
         b"mover_paused",
         39,
         1039,
         Notice::MoverPaused(3, 0x0123_4567_89AB_CDEF),
-    );
+    )
 }
 
 // Refusals of the layouts that are not above, as each message has them.
-fn refusals() {
-    refuse(b"server_info_refused", 43, 1043, 0x108, 543, 0, 4, 4);
-    refuse(b"tape_mtio_refused", 44, 1044, 0x303, 544, 0, 19, 1);
-    refuse(b"tape_write_refused", 45, 1045, 0x304, 545, 0, 19, 1);
-    refuse(b"tape_read_refused", 46, 1046, 0x305, 546, 0, 19, 1);
+fn refusals(out: &mut impl Write) -> io::Result<()> {
+    refuse(out, b"server_info_refused", 43, 1043, 0x108, 543, 0, 4, 4)?;
+    refuse(out, b"tape_mtio_refused", 44, 1044, 0x303, 544, 0, 19, 1)?;
+    refuse(out, b"tape_write_refused", 45, 1045, 0x304, 545, 0, 19, 1)?;
+    refuse(out, b"tape_read_refused", 46, 1046, 0x305, 546, 0, 19, 1)
 }
 
 // Two addresses: 10.0.0.1 and port 10,000 with the pair of A and 1, and 192.168.1.1 and port 65,535 with none.
-fn listens() {
+fn listens(out: &mut impl Write) -> io::Result<()> {
     let list =
         b"\x00\x00\x00\x02\x0A\x00\x00\x01\x00\x00\x27\x10\x00\x00\x00\x01\x00\x00\x00\x01A\x00\x00\x00\x00\x00\x00\x011\x00\x00\x00\xC0\xA8\x01\x01\x00\x00\xFF\xFF\x00\x00\x00\x00";
     send(
+        out,
         b"listening_tcp",
         47,
         1047,
@@ -285,8 +370,9 @@ fn listens() {
         547,
         Reply::ListeningTcp,
         list,
-    );
+    )?;
     send(
+        out,
         b"listening_local_lent_a_list",
         48,
         1048,
@@ -294,10 +380,10 @@ fn listens() {
         548,
         Reply::Listening,
         list,
-    );
+    )
 }
 
-fn states_by_tcp() {
+fn data_state_by_tcp(out: &mut impl Write) -> io::Result<()> {
     let joined = DataView {
         operation: 1,
         state: 1,
@@ -306,6 +392,7 @@ fn states_by_tcp() {
         processed: 0,
     };
     send(
+        out,
         b"data_state_tcp",
         49,
         1049,
@@ -313,7 +400,10 @@ fn states_by_tcp() {
         549,
         Reply::DataState(joined),
         b"",
-    );
+    )
+}
+
+fn mover_state_by_tcp(out: &mut impl Write) -> io::Result<()> {
     let active = MoverView {
         mode: 0,
         state: 2,
@@ -329,6 +419,7 @@ fn states_by_tcp() {
         length: 0xFFFF_FFFF_FFFF_FFFF,
     };
     send(
+        out,
         b"mover_state_tcp",
         50,
         1050,
@@ -336,14 +427,21 @@ fn states_by_tcp() {
         550,
         Reply::MoverState(active),
         b"",
-    );
+    )
+}
+
+fn states_by_tcp(out: &mut impl Write) -> io::Result<()> {
+    data_state_by_tcp(out)?;
+    mover_state_by_tcp(out)
 }
 
 // Stores: no pair; TYPE=tar, FILESYSTEM=/home and a pair of empty texts, with a byte past them; PATHNAME_SEPARATOR=: and
 // TYPE=tar.
-fn environments() {
+#[tactic(auto, unfolding(wire_pairs::specs::Store::is_laid, wire_pairs::specs::Store::laid_from, xdr::specs::Xdr::word, xdr::specs::Choose::choose))]
+fn environments(out: &mut impl Write) -> io::Result<()> {
     let none = b"\x00\x00\x00\x00";
     send(
+        out,
         b"environment_none",
         51,
         1051,
@@ -351,10 +449,11 @@ fn environments() {
         551,
         Reply::Environment,
         none,
-    );
+    )?;
     let kept =
         b"\x00\x00\x00\x03\x00\x00\x00\x00\x00\x00\x00\x04\x00\x00\x00\x04\x00\x00\x00\x03\x00\x00\x00\x07\x00\x00\x00\x0A\x00\x00\x00\x11\x00\x00\x00\x05\x00\x00\x00\x16\x00\x00\x00\x00\x00\x00\x00\x16\x00\x00\x00\x00TYPEtarFILESYSTEM/home!";
     send(
+        out,
         b"environment",
         52,
         1052,
@@ -362,10 +461,11 @@ fn environments() {
         552,
         Reply::Environment,
         kept,
-    );
+    )?;
     let named =
         b"\x00\x00\x00\x02\x00\x00\x00\x00\x00\x00\x00\x12\x00\x00\x00\x12\x00\x00\x00\x01\x00\x00\x00\x13\x00\x00\x00\x04\x00\x00\x00\x17\x00\x00\x00\x03PATHNAME_SEPARATOR:TYPEtar";
     send(
+        out,
         b"environment_named",
         53,
         1053,
@@ -373,14 +473,15 @@ fn environments() {
         553,
         Reply::Environment,
         named,
-    );
-    refuse(b"environment_refused", 54, 1054, 0x404, 554, 0, 19, 1);
+    )?;
+    refuse(out, b"environment_refused", 54, 1054, 0x404, 554, 0, 19, 1)
 }
 
 // A challenge of 64 bytes, no two alike.
-fn auth_types() {
+fn auth_types(out: &mut impl Write) -> io::Result<()> {
     let challenge = b"ABCDEFGHIJKLMNOPQRSTUVWXYZabcdefghijklmnopqrstuvwxyz0123456789+/";
     send(
+        out,
         b"auth_attr_md5",
         56,
         1056,
@@ -388,25 +489,31 @@ fn auth_types() {
         556,
         Reply::Challenge,
         challenge,
-    );
-    refuse(b"auth_attr_refused", 57, 1057, 0x103, 557, 0, 9, 1);
+    )?;
+    refuse(out, b"auth_attr_refused", 57, 1057, 0x103, 557, 0, 9, 1)
 }
 
-fn main() {
-    plain();
-    config();
-    scsi();
-    sense();
-    tape();
-    reads();
-    data_states();
-    mover_states();
-    notices();
-    answer();
-    refusals();
-    listens();
-    states_by_tcp();
-    environments();
-    auth_types();
-    changer::replies();
+fn main(rt: HostRuntime) -> io::Result<()> {
+    let mut out = BufWriter::new(rt.alloc(), rt.stdout())?;
+    plain(&mut out)?;
+    config(&mut out)?;
+    server_info(&mut out)?;
+    scsi(&mut out)?;
+    sense(&mut out)?;
+    sense_cut(&mut out)?;
+    tape(&mut out)?;
+    writes(&mut out)?;
+    reads(&mut out)?;
+    reads_of_none(&mut out)?;
+    data_states(&mut out)?;
+    mover_states(&mut out)?;
+    notices(&mut out)?;
+    answer(&mut out)?;
+    refusals(&mut out)?;
+    listens(&mut out)?;
+    states_by_tcp(&mut out)?;
+    environments(&mut out)?;
+    auth_types(&mut out)?;
+    changer::replies(&mut out)?;
+    out.flush()
 }

@@ -3,8 +3,11 @@ ghost use Rattle.std.specs.Prelude.{◌≤◌, ◌+◌};
 ghost use Rattle.wire_replies.specs.Fit.{Sending};
 
 use super::lines::put_sent;
+use std::io;
+use std::io::Write;
 use wire_replies::{Notice, Reply};
 
+#[tactic(auto, unfolding(wire_replies::specs::Fit::Sendable))]
 fn put_reply(
     out: &mut [u8; codes::LARGEST_MESSAGE],
     sequence: u32,
@@ -34,6 +37,7 @@ fn put_notice(
 }
 
 pub fn send(
+    out: &mut impl Write,
     name: &[u8],
     sequence: u32,
     time: u32,
@@ -41,16 +45,17 @@ pub fn send(
     echo: u32,
     reply: Reply,
     image: &[u8],
-)
+) -> io::Result<()>
     requires { Sending reply image.now }
 {
-    let mut out = [0xAAu8; codes::LARGEST_MESSAGE];
-    let end = put_reply(&mut out, sequence, time, message, echo, reply, image);
-    put_sent(name, &out, end);
+    let mut sent = [0xAAu8; codes::LARGEST_MESSAGE];
+    let end = put_reply(&mut sent, sequence, time, message, echo, reply, image);
+    put_sent(out, name, &sent, end)
 }
 
 // A refusal: its number, with the zero words before and after it.
 pub fn refuse(
+    out: &mut impl Write,
     name: &[u8],
     sequence: u32,
     time: u32,
@@ -59,24 +64,30 @@ pub fn refuse(
     before: u32,
     error: u32,
     after: u32,
-)
+) -> io::Result<()>
     requires { before + after ≤ 17 }
 {
     let reply = Reply::Refused(before, error, after);
-    send(name, sequence, time, message, echo, reply, b"");
+    send(out, name, sequence, time, message, echo, reply, b"")
 }
 
-pub fn notify(name: &[u8], sequence: u32, time: u32, notice: Notice) {
-    let mut out = [0xAAu8; codes::LARGEST_MESSAGE];
-    let end = put_notice(&mut out, 0, sequence, time, notice);
-    put_sent(name, &out, end);
+pub fn notify(
+    out: &mut impl Write,
+    name: &[u8],
+    sequence: u32,
+    time: u32,
+    notice: Notice,
+) -> io::Result<()> {
+    let mut sent = [0xAAu8; codes::LARGEST_MESSAGE];
+    let end = put_notice(&mut sent, 0, sequence, time, notice);
+    put_sent(out, name, &sent, end)
 }
 
 // A reply and the two notices behind it, as an abort sends them.
-pub fn answer() {
-    let mut out = [0xAAu8; codes::LARGEST_MESSAGE];
-    let first = put_reply(&mut out, 40, 1040, 0x403, 540, Reply::Plain, b"");
-    let second = put_notice(&mut out, first, 41, 1040, Notice::DataHalted(2));
-    let end = put_notice(&mut out, second, 42, 1040, Notice::MoverHalted(1));
-    put_sent(b"answer", &out, end);
+pub fn answer(out: &mut impl Write) -> io::Result<()> {
+    let mut sent = [0xAAu8; codes::LARGEST_MESSAGE];
+    let first = put_reply(&mut sent, 40, 1040, 0x403, 540, Reply::Plain, b"");
+    let second = put_notice(&mut sent, first, 41, 1040, Notice::DataHalted(2));
+    let end = put_notice(&mut sent, second, 42, 1040, Notice::MoverHalted(1));
+    put_sent(out, b"answer", &sent, end)
 }

@@ -1,63 +1,66 @@
 // Reads lines of a name and a record in hex, and prints a line for each: its name, then what its frame is or the request that its body holds. Where the
 // name begins with rmt, the bytes are a command of the remote tape protocol, and it is told what that is read as.
 // A line that begins with = is passed over: there the file says what the record above is to be read as.
+#![tactic(auto)]
+
 ghost use Rattle.std.specs.Prelude.{◌≤◌, length};
 
 mod line; // line.rt: the parts of a line
 mod shown; // shown.rt: a request with its fields
 
 use hex_text::Decoded;
-use libc::STDIN_FILENO;
 use line::{put, put_number};
+use std::alloc::Global;
+use std::io;
+use std::io::{BufWriter, Read, Write};
 use wire_frame::Framed;
 use wire_requests::Request;
 
 const LARGEST_INPUT: usize = 1_048_576;
 
 // The request of a message number and a body.
-fn show_request(number: u32, body: &[u8]) {
+fn show_request(out: &mut impl Write, number: u32, body: &[u8]) -> io::Result<()> {
     let row = wire_frame::row_of(number);
     let kind = row.kind;
     let r = wire_decoding::decode(kind, body);
     match r {
-        Request::Connect(k) => shown::connect(k, body),
-        Request::Config(k) => shown::config(k),
-        Request::Scsi(k) => shown::scsi(k, body),
-        Request::Tape(k) => shown::tape(k, body),
-        Request::Data(k) => shown::data(k, body),
-        Request::Mover(k) => shown::mover(k),
-        Request::Joint(k) => shown::joint(k),
-        Request::Unknown => shown::unknown(number),
-        Request::Bad => put(b" bad"),
+        Request::Connect(k) => shown::connect(out, k, body),
+        Request::Config(k) => shown::config(out, k),
+        Request::Scsi(k) => shown::scsi(out, k, body),
+        Request::Tape(k) => shown::tape(out, k, body),
+        Request::Data(k) => shown::data(out, k, body),
+        Request::Mover(k) => shown::mover(out, k),
+        Request::Joint(k) => shown::joint(out, k),
+        Request::Unknown => shown::unknown(out, number),
+        Request::Bad => put(out, b" bad"),
     }
 }
 
 // Any bytes: a request has its sequence number in front.
-fn show(record: &[u8]) {
+#[tactic(auto, using(wire_frame::proofs::Laws::request_well))]
+fn show(out: &mut impl Write, record: &[u8]) -> io::Result<()> {
     let f = wire_frame::read_frame(record);
     match f {
-        Framed::Broken => put(b"broken"),
-        Framed::NotRequest => put(b"not a request"),
+        Framed::Broken => put(out, b"broken")?,
+        Framed::NotRequest => put(out, b"not a request")?,
         Framed::Request { sequence, message } => {
-            put_number(b"", sequence as u64);
-            show_request(message, &record[28..]);
+            put_number(out, b"", sequence as u64)?;
+            show_request(out, message, &record[28..])?;
         }
     }
-    put(b"\n");
+    put(out, b"\n")
 }
 
 // The place of the first such byte, or the end.
 fn find(s: &[u8], b: u8) -> usize
     ensures { result ≤ length s.now }
 {
-    let mut i: usize = 0;
-    while i < s.len() {
-        if s[i] == b {
+    for (i, x) in s.iter().enumerate() {
+        if *x == b {
             return i;
         }
-        i += 1;
     }
-    i
+    s.len()
 }
 
 // Any record above 36,868 bytes is broken, so that there is room for all that differ.
@@ -66,88 +69,77 @@ fn empty_record() -> [u8; 36870] {
 }
 
 // A command of the remote tape protocol.
-fn show_command(bytes: &[u8]) {
+fn show_command(out: &mut impl Write, bytes: &[u8]) -> io::Result<()> {
     let c = wire_rmt_reading::command(bytes);
-    shown::command(c, bytes);
-    put(b"\n");
+    shown::command(out, c, bytes)?;
+    put(out, b"\n")
 }
 
 // Whether a name is a command's.
 fn is_command(name: &[u8]) -> bool {
-    if name.len() < 3 {
-        return false;
-    }
-    if name[0] != b'r' {
-        return false;
-    }
-    if name[1] != b'm' {
-        return false;
-    }
-    name[2] == b't'
+    name.starts_with(b"rmt")
 }
 
 // A record, or a command, by the name.
-fn show_named(name: &[u8], bytes: &[u8]) {
+fn show_named(out: &mut impl Write, name: &[u8], bytes: &[u8]) -> io::Result<()> {
     if is_command(name) {
-        show_command(bytes);
-        return;
+        show_command(out, bytes)
+    } else {
+        show(out, bytes)
     }
-    show(bytes);
 }
 
 // A name, then a record in hex. One that is above the buffer is said to be so, and not shown in part.
-fn show_vector(line: &[u8]) {
+fn show_vector(out: &mut impl Write, line: &[u8]) -> io::Result<()> {
     let n = find(line, 32);
-    put(&line[..n]);
-    put(b": ");
+    put(out, &line[..n])?;
+    put(out, b": ")?;
     let mut record = empty_record();
     let d = hex_text::decode(&line[n..], &mut record);
     match d {
-        Decoded::Bytes(len) => show_named(&line[..n], &record[..len]),
-        Decoded::NotHex => put(b"not hex\n"),
-        Decoded::NoRoom => put(b"above 36870 bytes\n"),
+        Decoded::Bytes(len) => show_named(out, &line[..n], &record[..len]),
+        Decoded::NotHex => put(out, b"not hex\n"),
+        Decoded::NoRoom => put(out, b"above 36870 bytes\n"),
     }
 }
 
 // Whether a line says what is expected. It is not read: what is printed is of the record alone.
 fn is_expected(line: &[u8]) -> bool {
-    if line.len() == 0 {
-        return false;
-    }
-    line[0] == b'='
+    line.starts_with(b"=")
 }
 
-fn show_line(line: &[u8]) {
+fn show_line(out: &mut impl Write, line: &[u8]) -> io::Result<()> {
     if is_expected(line) {
-        return;
+        return Ok(());
     }
-    show_vector(line);
+    show_vector(out, line)
 }
 
 // Any text, line by line.
-fn show_lines(text: &[u8]) {
-    let mut at: usize = 0;
+fn show_lines(out: &mut impl Write, text: &[u8]) -> io::Result<()> {
+    let mut at = 0;
     while at < text.len() {
         let n = find(&text[at..], 10);
-        show_line(&text[at..at + n]);
-        at += n;
-        if at < text.len() {
-            at += 1;
-        }
+        show_line(out, &text[at..at + n])?;
+        at += n + 1;
     }
+    Ok(())
 }
 
-// One byte above the limit is enough to know that the input is too long.
-fn empty_input() -> [u8; LARGEST_INPUT + 1] {
-    [0u8; LARGEST_INPUT + 1]
+// The input, or its front: one byte above the limit is enough to know that it is too long.
+fn read_input(alloc: Global, input: impl Read + Drop) -> io::Result<Vec<u8>> {
+    let mut text = Vec::new(alloc);
+    input.take(LARGEST_INPUT as u64 + 1).read_to_end(&mut text)?;
+    Ok(text)
 }
 
-fn main() {
-    let mut text = empty_input();
-    let n = io::read_full(STDIN_FILENO, &mut text);
-    if LARGEST_INPUT < n {
-        put(b"above 1048576 bytes\n");
-        return;
+fn main(rt: HostRuntime) -> io::Result<()> {
+    let mut out = BufWriter::new(rt.alloc(), rt.stdout())?;
+    let text = read_input(rt.alloc(), rt.stdin())?;
+    if LARGEST_INPUT < text.len() {
+        put(&mut out, b"above 1048576 bytes\n")?;
+    } else {
+        show_lines(&mut out, &text)?;
     }
-    show_lines(&text[..n]);
+    out.flush()
 }

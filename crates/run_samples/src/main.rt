@@ -1,25 +1,26 @@
 // Lists each image file that an argument names, with its name on a line before it.
-use libc::STDOUT_FILENO;
+#![tactic(auto)]
 
-fn list_file(i: usize) {
-    let mut path = io::buffer();
-    let n = os::arg(i, &mut path);
-    io::write_all(STDOUT_FILENO, &path[..n]);
-    io::write_all(STDOUT_FILENO, b"\n");
-    let fd = os::open_read(&path[..n]);
-    if fd < 0 {
-        os::fail(&path[..n]);
-        return;
+use std::io::{BufWriter, Write};
+use std::rt::Files;
+use std::{env, fs, io};
+
+// A file that cannot be opened is told on standard error, and the next one follows.
+fn list_file(rt: &(impl Files + Eprint), out: &mut impl Write, path: &str) -> io::Result<()> {
+    writeln!(out, "{path}")?;
+    match fs::open(rt, path) {
+        Ok(mut file) => run_listing::list_from(out, &mut file),
+        Err(e) => {
+            out.flush()?;
+            eprintln!(rt; "{path}: {e}")
+        }
     }
-    run_listing::list_from(fd);
-    libc::close(fd);
 }
 
-fn main() {
-    let count = os::arg_count();
-    let mut i: usize = 1;
-    while i < count {
-        list_file(i);
-        i += 1;
+fn main(rt: HostRuntime) -> io::Result<()> {
+    let mut out = BufWriter::new(rt.alloc(), rt.stdout())?;
+    for path in env::args(&rt)?.skip(1) {
+        list_file(&rt, &mut out, path.as_str())?;
     }
+    out.flush()
 }

@@ -1,4 +1,6 @@
 // The addresses of listens and connects, for both ends.
+#![tactic(auto)]
+
 ghost use Rattle.std.specs.Prelude.{◌≡◌};
 ghost use Rattle.rules.specs.Addresses.{listen_wrong, connect_wrong, listening, unmet};
 

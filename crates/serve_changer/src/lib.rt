@@ -1,4 +1,6 @@
 // The requests of the SCSI interface: a changer that knows four opcodes and refuses the others.
+#![tactic(auto)]
+
 ghost use Rattle.std.specs.Prelude.{[], ◌≡◌};
 ghost use Rattle.xdr.specs.Xdr.{same_bytes};
 ghost use Rattle.wire_requests.specs.Within.{bytes_at, Within, texts_within};
@@ -20,7 +22,7 @@ use wire_requests::ScsiRequest;
 const LONGEST_CDB: usize = 16;
 
 // What a request changes of the changer. It stands for the changer after it, since no enum holds an array.
-#[derive(Drop)]
+#[derive(Clone, Copy)]
 pub enum ChangerChange {
     Nothing,
     Cleared(bool),
@@ -29,7 +31,7 @@ pub enum ChangerChange {
 }
 
 // A refusal; a reply and what changes with it; or the status of elements, whose reply shows it and changes nothing.
-#[derive(Drop)]
+#[derive(Clone, Copy)]
 pub enum ScsiDone {
     Refuse(u32),
     Accept(Reply, ChangerChange),

@@ -1,4 +1,6 @@
 // The requests of CONNECT and CONFIG, and what asks for a login.
+#![tactic(auto)]
+
 ghost use Rattle.std.specs.Prelude.{◌≡◌, List, ℕ};
 ghost use Rattle.wire_requests.specs.Within.{bytes_at, Within, texts_within};
 ghost use Rattle.wire_requests.specs.declared.Request.TheVariants as Request;
@@ -13,7 +15,7 @@ use wire_replies::Reply;
 use wire_requests::{ConfigRequest, ConnectRequest, Request};
 
 // What a request changes of what the connection knows. It stands for the login after it, since no enum holds an array.
-#[derive(Drop)]
+#[derive(Clone, Copy)]
 pub enum LoginChange {
     Nothing,
     LoggedIn,
@@ -21,7 +23,7 @@ pub enum LoginChange {
 }
 
 // A refusal, or a reply and what changes with it.
-#[derive(Drop)]
+#[derive(Clone, Copy)]
 pub enum LoginDone {
     Refuse(u32),
     Accept(Reply, LoginChange),

@@ -1,4 +1,6 @@
 // The requests of the data interface that are not joint, and the store of the data end's environment.
+#![tactic(auto)]
+
 ghost use Rattle.std.specs.Prelude.{◌≡◌, List, ℕ, length};
 ghost use Rattle.codes.specs.Codes.{store_length};
 ghost use Rattle.xdr.specs.Xdr.{same_bytes};
@@ -14,7 +16,7 @@ use wire_replies::{DataView, Reply};
 use wire_requests::{DataRequest, Pairs};
 
 // A refusal, or a reply and the data end after it.
-#[derive(Drop)]
+#[derive(Clone, Copy)]
 pub enum DataDone {
     Refuse(u32),
     Accept(Reply, Data),

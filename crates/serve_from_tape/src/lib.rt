@@ -1,4 +1,6 @@
 // One move from tape: its tests, the walk to the record that the seek position is in, and the bytes of it that are handed over.
+#![tactic(auto)]
+
 ghost use Rattle.std.specs.Prelude.{◌≡◌, false, ◌+◌, ◌-◌, ◌<◌, ◌≤◌};
 ghost use Rattle.tape_image.specs.Image.{count};
 ghost use Rattle.rules.specs.Relation.{mover_wrong};

@@ -1,4 +1,6 @@
 // The joint requests: those that read or change both ends.
+#![tactic(auto)]
+
 ghost use Rattle.std.specs.Prelude.{◌≡◌, eqb};
 ghost use Rattle.codes.specs.Codes.{tcp_address};
 ghost use Rattle.xdr.specs.Choose.{choose};
@@ -13,7 +15,7 @@ use wire_replies::Reply;
 use wire_requests::JointRequest;
 
 // A refusal, or a reply and both ends after it.
-#[derive(Drop)]
+#[derive(Clone, Copy)]
 pub enum JointDone {
     Refuse(u32),
     Accept(Reply, Ends),

@@ -1,4 +1,6 @@
 // The requests of the mover that are not joint.
+#![tactic(auto)]
+
 ghost use Rattle.std.specs.Prelude.{◌≡◌};
 ghost use Rattle.rules.specs.MoverService.{record_number, mover_state, mover_listen, mover_continue, mover_stop, set_window, mover_read, set_size, mover_step};
 ghost use Rattle.serve_mover.specs.Done.{outcome_of};
@@ -8,7 +10,7 @@ use wire_replies::{MoverView, Reply};
 use wire_requests::MoverRequest;
 
 // A refusal, or a reply and the mover after it.
-#[derive(Drop)]
+#[derive(Clone, Copy)]
 pub enum MoverDone {
     Refuse(u32),
     Accept(Reply, Mover),

@@ -1,5 +1,7 @@
 // What a move comes to, by value, for the code that walks and copies; and the events: the method's end, a connection made and one lost. The
 // definitions are those of rules_moves.
+#![tactic(auto)]
+
 ghost use Rattle.std.specs.Prelude.{◌≡◌, ◌+◌, ◌≤◌};
 ghost use Rattle.xdr.specs.Choose.{choose};
 ghost use Rattle.rules_parts.specs.Names.{data_successful, data_internal_error, top};

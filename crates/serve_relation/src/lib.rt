@@ -1,4 +1,6 @@
 // The relation of a session, decided for any session: what every call keeps.
+#![tactic(auto)]
+
 ghost use Rattle.std.specs.Prelude.{◌≡◌, ◌+◌, ◌≤◌, ltb};
 ghost use Rattle.rules.specs.declared.Guard.TheVariants as Guard;
 ghost use Rattle.rules.specs.Answer.{guarded};

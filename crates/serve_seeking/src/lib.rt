@@ -1,4 +1,6 @@
 // The seek position: whether it is outside the window, the walk to the record that it is in, its place there, and how much of the record is handed over.
+#![tactic(auto)]
+
 ghost use Rattle.std.specs.Prelude.{◌≡◌, ◌+◌, ◌-◌, ◌<◌, ◌≤◌};
 ghost use Rattle.tape_image.specs.Image.{count, Table};
 ghost use Rattle.tape_image.specs.Sound.{Sound};

@@ -1,4 +1,6 @@
 // The requests of the tape interface. The image is reached through the crate cartridge alone.
+#![tactic(auto)]
+
 ghost use Rattle.std.specs.Prelude.{◌≡◌, ℕ, List};
 ghost use Rattle.xdr.specs.Xdr.{same_bytes};
 ghost use Rattle.wire_requests.specs.Within.{bytes_at, Within, texts_within};
@@ -15,7 +17,7 @@ use wire_requests::TapeRequest;
 const READ_WRITE: u32 = 1;
 
 // A refusal, or a reply and the tape after it.
-#[derive(Drop)]
+#[derive(Clone, Copy)]
 pub enum TapeDone {
     Refuse(u32),
     Accept(Reply, Tape),

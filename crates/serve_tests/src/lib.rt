@@ -1,4 +1,6 @@
 // Tests of the mover: what listen and connect both ask of it, and whether it is at rest for a window and where that may begin.
+#![tactic(auto)]
+
 ghost use Rattle.std.specs.Prelude.{◌≡◌};
 ghost use Rattle.rules.specs.Judge.{first};
 ghost use Rattle.rules.specs.MoverService.{offset_wrong, join_tests, busy, elsewhere};

@@ -1,4 +1,6 @@
 // One move to tape, on the parts of a session: the rules are asked in the order of `to_tape`, and the first that applies decides.
+#![tactic(auto)]
+
 ghost use Rattle.std.specs.Prelude.{◌≡◌, false, ◌≤◌};
 ghost use Rattle.tape_ops.specs.Step.{Told};
 ghost use Rattle.rules_parts.specs.Names.{top};

@@ -1,5 +1,7 @@
 // A cartridge without a session: its entries, and reading a record to the front of a buffer. Neither asks anything of its caller: whatever is lent,
 // there is an answer.
+#![tactic(auto)]
+
 ghost use Rattle.std.specs.Prelude.{◌≡◌};
 ghost use Rattle.tape_calls.specs.Entries.{entry_told};
 ghost use Rattle.tape_calls.specs.Handing.{Handed};
@@ -8,7 +10,7 @@ use tape_ops::Part;
 
 // An entry of a cartridge: of a record its length, of a mark 0; and where it starts in the body. The error is 0, 13 past the last entry, or 15.
 #[repr(C)]
-#[derive(Drop)]
+#[derive(Clone, Copy)]
 pub struct Entry {
     pub error: u32,
     pub len: usize,

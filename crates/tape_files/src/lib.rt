@@ -1,4 +1,6 @@
 // The files of a cartridge and what thinning it out comes to, as definitions: `tape_thinning` has the code.
+#![tactic(auto)]
+
 ghost use Rattle.tape_files.specs.Holds.{ThinningHolds};
 ghost use Rattle.tape_files.specs.Cases.{ThinCases};
 

@@ -1,4 +1,6 @@
 // FSF and BSF by the list of the marks' numbers, where it lies in a cartridge image: rising words, searched by halves.
+#![tactic(auto)]
+
 ghost use Rattle.std.specs.Prelude.{◌≡◌, ◌+◌, ◌*◌, ◌<◌, ◌≤◌, length, get_or};
 ghost use Rattle.tape_image.specs.Image.{FieldRead, Table, most_entries};
 ghost use Rattle.tape_marks.specs.Marks.{words_at, is_mark_list, before, marks_ahead, count_th, stops_at, jump};

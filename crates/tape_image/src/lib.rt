@@ -1,5 +1,7 @@
 // The cartridge image in a caller's byte slice: where its words lie. No other crate knows the layout. `tape_sound` judges an image, `tape_walking` walks
 // over its entries.
+#![tactic(auto)]
+
 ghost use Rattle.std.specs.Prelude.{◌≡◌, ◌+◌, ◌-◌, ◌*◌, ◌<◌, ◌≤◌, length};
 ghost use Rattle.xdr.specs.Xdr.{word};
 ghost use Rattle.tape_image.specs.Image.{header_len, capacity, count, used, entry_at, entry_len, entry_start, body_at};
@@ -103,7 +105,7 @@ pub fn put_entry(image: &mut [u8], position: usize, keep: usize, len: usize)
 
 // The file and the block number of a position.
 #[repr(C)]
-#[derive(Drop)]
+#[derive(Clone, Copy)]
 pub struct Place {
     pub file: u32,
     pub block: u32,

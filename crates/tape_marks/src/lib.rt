@@ -1,4 +1,6 @@
 // Marks by their numbers: the list of them, and where FSF and BSF come to by it, as definitions. `tape_finding` searches the list where it lies.
+#![tactic(auto)]
+
 ghost use Rattle.tape_marks.specs.Holds.{MarksAtAGlance};
 ghost use Rattle.tape_marks.specs.Cases.{MarkCases};
 

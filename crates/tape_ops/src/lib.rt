@@ -1,5 +1,7 @@
 // The tape operations on a cartridge image, for any image and any position: what a session calls. An unsound image or a position
 // above the number of entries is an answer, 7.
+#![tactic(auto)]
+
 ghost use Rattle.std.specs.Prelude.{◌≡◌};
 ghost use Rattle.tape_image.specs.Sound.{Placed};
 ghost use Rattle.tape_ops.specs.Step.{Told};
@@ -10,7 +12,7 @@ use tape_spacing::Spaced;
 
 // What a write gives: the error, the bytes written and the next position.
 #[repr(C)]
-#[derive(Drop)]
+#[derive(Clone, Copy)]
 pub struct Wrote {
     pub error: u32,
     pub count: u32,
@@ -19,7 +21,7 @@ pub struct Wrote {
 
 // What a read gives: the error, the next position, and where the bytes lie in the image.
 #[repr(C)]
-#[derive(Drop)]
+#[derive(Clone, Copy)]
 pub struct Part {
     pub error: u32,
     pub position: usize,
@@ -29,7 +31,7 @@ pub struct Part {
 
 // What get state gives: the error, the file and the block number.
 #[repr(C)]
-#[derive(Drop)]
+#[derive(Clone, Copy)]
 pub struct Standing {
     pub error: u32,
     pub file: u32,

@@ -1,4 +1,6 @@
 // Whether a cartridge image is sound, of any bytes.
+#![tactic(auto)]
+
 ghost use Rattle.std.specs.Prelude.{◌≡◌, ◌+◌, ◌-◌, ◌*◌, ◌<◌, ◌≤◌};
 ghost use Rattle.tape_image.specs.Image.{Table, header_ok, table_ok, is_sound, faulty};
 

@@ -51,15 +51,15 @@ module _ (f marks : Bool) (l : List ℕ) where
   module _ (m k i left : ℕ) (some : left ≡ 0 → ⊥) (more : m ≡ suc k) where
     pub walk_mark : marks ≡ true → entry_len l (passes f i) ≡ 0 → walk f marks l m i left ≡ walk f marks l k (position_after f i) (left - 1)
     unfolding walk stops left_after choose
-    walk_mark by q = rw (more, ne_eqb _ _ some, eq-eqb _ _ q, by)
+    walk_mark by q = rw (by, more, ne_eqb _ _ some, eq-eqb _ _ q)
 
     pub walk_pass : marks ≡ true → (entry_len l (passes f i) ≡ 0 → ⊥) → walk f marks l m i left ≡ walk f marks l k (position_after f i) left
     unfolding walk stops left_after choose
-    walk_pass by q = rw (more, ne_eqb _ _ some, ne_eqb _ _ q, by)
+    walk_pass by q = rw (by, more, ne_eqb _ _ some, ne_eqb _ _ q)
 
     pub walk_record : marks ≡ false → (entry_len l (passes f i) ≡ 0 → ⊥) → walk f marks l m i left ≡ walk f marks l k (position_after f i) (left - 1)
     unfolding walk stops left_after choose
-    walk_record by q = rw (more, ne_eqb _ _ some, ne_eqb _ _ q, by)
+    walk_record by q = rw (by, more, ne_eqb _ _ some, ne_eqb _ _ q)
 
 -- ---- where a walk ends: within the table, and with no more left than was asked
 pub record Walked (n times : ℕ) (s : Spaced) : Type 0 where

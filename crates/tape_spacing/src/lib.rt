@@ -1,10 +1,12 @@
 // Spacing over the entries of a cartridge: FSF, BSF, FSR and BSR, what each comes to. `tape_walking` walks over them.
+#![tactic(auto)]
+
 ghost use Rattle.tape_spacing.specs.Examples.{SpacingExamplesHold};
 ghost use Rattle.tape_spacing.specs.Alike.{SpacingAlike};
 
 // Where a walk over the table ended: the error, the position and the residue.
 #[repr(C)]
-#[derive(Drop)]
+#[derive(Clone, Copy)]
 pub struct Spaced {
     pub error: u32,
     pub position: usize,

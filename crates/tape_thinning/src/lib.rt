@@ -1,4 +1,6 @@
 // Thinning out a cartridge: the named files of one image go to another. `tape_files` has the definitions.
+#![tactic(auto)]
+
 ghost use Rattle.std.specs.Prelude.{◌≡◌, true, ◌+◌, ◌≤◌, ◌<◌, length};
 ghost use Rattle.xdr.specs.Choose.{choose};
 ghost use Rattle.tape_image.specs.Image.{entry_bytes};
@@ -9,7 +11,7 @@ ghost use Rattle.tape_files.proofs.Laid.{Ready};
 ghost use Rattle.tape_thinning.specs.Walk.{next_at, Surveyed, room_of, Copyable, Thinned};
 
 // How many files a cartridge has, and the entries and bytes of the named ones.
-#[derive(Drop)]
+#[derive(Clone, Copy)]
 pub struct Survey {
     pub files: usize,
     pub entries: usize,

@@ -1,4 +1,6 @@
 // Walks over the entries of a sound cartridge image, where they lie: FSF, BSF, FSR and BSR, and what get state says of a position.
+#![tactic(auto)]
+
 ghost use Rattle.std.specs.Prelude.{◌≡◌, ℕ, ◌+◌, ◌-◌, ◌*◌, ◌<◌, ◌≤◌, length};
 ghost use Rattle.tape_image.specs.Image.{most_entries};
 ghost use Rattle.tape_image.specs.Sound.{Placed};

@@ -1,4 +1,6 @@
 // Writing records and marks to a sound cartridge image.
+#![tactic(auto)]
+
 ghost use Rattle.std.specs.Prelude.{◌≡◌, ◌+◌, ◌-◌, ◌<◌, ◌≤◌, length};
 ghost use Rattle.codes.specs.Codes.{longest_record};
 ghost use Rattle.tape_image.specs.Image.{capacity};

@@ -46,6 +46,7 @@ or_true false = refl
 
 enters : (p : AccountEntry → Bool) (es : List AccountEntry) → Among p es → any_of p es ≡ true
 unfolding any_of choose
+enters p [] x' = elim x' [ ]
 enters p (e ∷ es) (here h) = rw h
 enters p (e ∷ es) (later h) = rw (enters p es h) (or_true (p e))
 

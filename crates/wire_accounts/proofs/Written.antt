@@ -51,10 +51,10 @@ module _ {b : List ℕ} where
 
   several : {at : ℕ} (es : List AccountEntry) → From b at (entry_bytes es) → Each Writable es → accounts_from b (length es) at ≡ these es
   unfolding accounts_from entry_bytes and_then with_account choose
-  several {at} [] f w = let n : at ≡ length b = omega (arith, from_length f) in rw (eq-eqb at (length b) n)
-  several (e ∷ es) f w =
+  several {at = at} [] f w = let n : at ≡ length b = omega (arith, from_length f) in rw (eq-eqb at (length b) n)
+  several {at = at} (e ∷ es) f w =
       let o = one e (entry_bytes es) f w.0 in
-      rw (o.0, several es o.1 w.1)
+      rw (o.0, several {at = at + length (account_bytes e)} es o.1 w.1)
 
 pub back : (es : List AccountEntry) → length es ≤ most_accounts → Each Writable es → accounts_in (accounts_bytes es) ≡ these es
 unfolding accounts_in accounts_bytes choose

@@ -1,4 +1,6 @@
 // The accounts that a host lends: read from their buffer, and compared with a login.
+#![tactic(auto)]
+
 ghost use Rattle.std.specs.Prelude.{◌≡◌, ◌+◌, ◌≤◌, length};
 ghost use Rattle.xdr.specs.Xdr.{same_bytes};
 ghost use Rattle.wire_accounts.specs.Accounts.{is_kind, accounts_in, are_laid, entries_in};
@@ -10,14 +12,14 @@ ghost use Rattle.wire_accounts.specs.Holds.{AccountsHold};
 use xdr_opaque::{Opaque, opaque_at};
 
 // A part of the buffer.
-#[derive(Drop)]
+#[derive(Clone, Copy)]
 pub struct Stretch {
     pub start: usize,
     pub len: usize,
 }
 
 // Where an account stands; next is behind it, and 0 where there is no account.
-#[derive(Drop)]
+#[derive(Clone, Copy)]
 pub struct AccountPlace {
     pub kind: u32,
     pub id: Stretch,

@@ -1,4 +1,6 @@
 // The bodies of requests, decoded to plain values.
+#![tactic(auto)]
+
 ghost use Rattle.std.specs.Prelude.{◌≡◌};
 ghost use Rattle.wire_requests.specs.Bodies.{connect_body, config_body, scsi_body, tape_body, data_body, mover_body, joint_body};
 ghost use Rattle.wire_requests.specs.Within.{Decoded};

@@ -1,23 +1,25 @@
 // A record on the wire: its frame, and which message its number is.
+#![tactic(auto)]
+
 ghost use Rattle.std.specs.Prelude.{◌≡◌};
 ghost use Rattle.wire_frame.specs.Frame.{framed};
 ghost use Rattle.wire_frame.specs.Messages.{row_of};
 
-#[derive(Drop)]
+#[derive(Clone, Copy)]
 pub enum ConnectKind {
     Open,
     Auth,
     Close,
 }
 
-#[derive(Drop)]
+#[derive(Clone, Copy)]
 pub enum ConfigKind {
     ConnectionType,
     AuthAttributes,
     ServerInfo,
 }
 
-#[derive(Drop)]
+#[derive(Clone, Copy)]
 pub enum ScsiKind {
     Open,
     Close,
@@ -26,7 +28,7 @@ pub enum ScsiKind {
     Cdb,
 }
 
-#[derive(Drop)]
+#[derive(Clone, Copy)]
 pub enum TapeKind {
     Open,
     Close,
@@ -36,7 +38,7 @@ pub enum TapeKind {
     Read,
 }
 
-#[derive(Drop)]
+#[derive(Clone, Copy)]
 pub enum DataKind {
     State,
     Backup,
@@ -46,7 +48,7 @@ pub enum DataKind {
     Listen,
 }
 
-#[derive(Drop)]
+#[derive(Clone, Copy)]
 pub enum MoverKind {
     State,
     Listen,
@@ -57,7 +59,7 @@ pub enum MoverKind {
     Size,
 }
 
-#[derive(Drop)]
+#[derive(Clone, Copy)]
 pub enum JointKind {
     DataAbort,
     DataConnect,
@@ -67,7 +69,7 @@ pub enum JointKind {
 }
 
 // A message by its interface. The joint ones can read or change both the data and the mover end.
-#[derive(Drop)]
+#[derive(Clone, Copy)]
 pub enum Message {
     Connect(ConnectKind),
     Config(ConfigKind),
@@ -80,7 +82,7 @@ pub enum Message {
 }
 
 // A message, and the zero words before and after the number in the body of its refusal.
-#[derive(Drop)]
+#[derive(Clone, Copy)]
 pub struct Row {
     pub kind: Message,
     pub before: u32,
@@ -88,7 +90,7 @@ pub struct Row {
 }
 
 // What a record is: broken, of another type than a request, or a request with its sequence and message number.
-#[derive(Drop)]
+#[derive(Clone, Copy)]
 pub enum Framed {
     Broken,
     NotRequest,

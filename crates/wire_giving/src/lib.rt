@@ -1,4 +1,6 @@
 // The pairs of a store, as the reply to 0x404 gives them.
+#![tactic(auto)]
+
 ghost use Rattle.std.specs.Prelude.{◌≡◌, true, [], ◌∷◌, ◌+◌, ◌≤◌, length};
 ghost use Rattle.codes.specs.Codes.{store_length};
 ghost use Rattle.xdr.specs.Xdr.{same_bytes};

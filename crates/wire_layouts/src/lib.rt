@@ -1,17 +1,19 @@
 // Bodies by their layouts: what each is read as. `wire_scanning` reads them.
+#![tactic(auto)]
+
 ghost use Rattle.wire_layouts.specs.Laws.{FieldsRoundTrip, FieldsOneSpelling, UnreadRests};
 ghost use Rattle.wire_layouts.specs.AddressLists.{AddressesGiven};
 ghost use Rattle.wire_layouts.specs.AddressCases.{AddressCases};
 
 // A text or opaque data in the body: where it starts, and how long it is.
-#[derive(Drop)]
+#[derive(Clone, Copy)]
 pub struct Text {
     pub start: usize,
     pub len: usize,
 }
 
 // What is kept of the fields of a body, each at its number; not ok is a body that does not decode.
-#[derive(Drop)]
+#[derive(Clone, Copy)]
 pub struct Scan {
     pub ok: bool,
     pub words: [u32; 5],
@@ -22,7 +24,7 @@ pub struct Scan {
 
 // The addresses of a list: a host and a port each, as many as count says.
 #[repr(C)]
-#[derive(Drop)]
+#[derive(Clone, Copy)]
 pub struct Addresses {
     pub count: u32,
     pub hosts: [u32; 16],
@@ -30,14 +32,14 @@ pub struct Addresses {
 }
 
 // The offset after what was passed over, or that it is cut short.
-#[derive(Drop)]
+#[derive(Clone, Copy)]
 pub enum After {
     Next(usize),
     Short,
 }
 
 // A field, and the offset after it; Stop is a tag behind which the rest is not read.
-#[derive(Drop)]
+#[derive(Clone, Copy)]
 pub enum Seen {
     Word(u32, usize),
     Hyper(u64, usize),

@@ -1,4 +1,6 @@
 // The pairs of an environment and the store that keeps them: definitions, and what holds of them. `wire_storing` reads and writes stores.
+#![tactic(auto)]
+
 ghost use Rattle.wire_pairs.specs.Holds.{StoreHolds};
 ghost use Rattle.wire_pairs.specs.StoreCases.{StoreCases};
 

@@ -1,7 +1,7 @@
 -- What is sent is read back. Assumes nothing.
 use Prim.{tt}
 use Prim.Native.Nat.{ℕ, zero, suc, ◌+◌, ◌*◌, ◌^◌, ◌≤◌, ◌<◌}
-use mathlib.Core.Path.{◌≡◌, refl, sym, ap, ◌∙◌}
+use mathlib.Core.Path.{◌≡◌, refl, sym, ap, ◌∙◌, subst}
 use mathlib.Core.List.{List, [], ◌∷◌, ◌++◌, append_assoc, append-nil}
 use native.Mathlib.Omega.{arith}
 use native.Mathlib.Nat.{not-suc-le-zero, add-zero}
@@ -48,7 +48,9 @@ texts_at p (t ∷ ts) tail h k =
     let o = opaque_back p t q h.0 in
     let f : TextAt (p ++ (opaque t ++ q)) (length p) t (length p + length (opaque t)) = record { found = o.found; bytes = o.bytes } in
     let r : TextsAt ((p ++ opaque t) ++ q) (length (p ++ opaque t)) ts tail = texts_at (p ++ opaque t) ts tail h.1 k in
-    (rw (append_assoc (opaque t) (opaques ts) (be32s tail)) f, rw (shift p (opaque t) (opaques ts) (be32s tail), ← length-append p (opaque t)) r)
+    let s : TextsAt ((p ++ opaque t) ++ q) (length p + length (opaque t)) ts tail =
+    subst (λ (n : ℕ). TextsAt ((p ++ opaque t) ++ q) n ts tail) (length-append p (opaque t)) r in
+    (rw (append_assoc (opaque t) (opaques ts) (be32s tail)) f, subst (λ (l : List ℕ). TextsAt l (length p + length (opaque t)) ts tail) (sym (shift p (opaque t) (opaques ts) (be32s tail))) s)
 
 body_at : (b : Body) → Words32 b.words → Texts32 b.texts → Words32 b.tail → BodyAt (body_bytes b) b
 unfolding body_bytes

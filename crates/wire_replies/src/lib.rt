@@ -1,4 +1,6 @@
 // Replies and notices: what each is by its layout. `wire_writing` writes them.
+#![tactic(auto)]
+
 ghost use Rattle.wire_replies.specs.Fit.{AnswersFit, EnvironmentFits};
 ghost use Rattle.wire_replies.specs.RoundTrip.{RepliesBack};
 ghost use Rattle.wire_replies.specs.Refusals.{RefusalsAsLong};
@@ -10,7 +12,7 @@ ghost use Rattle.wire_replies.specs.ScsiReplies.{ScsiReplies};
 
 // What get state tells of the data end.
 #[repr(C)]
-#[derive(Drop)]
+#[derive(Clone, Copy)]
 pub struct DataView {
     pub operation: u32,
     pub state: u32,
@@ -21,7 +23,7 @@ pub struct DataView {
 
 // What get state tells of the mover.
 #[repr(C)]
-#[derive(Drop)]
+#[derive(Clone, Copy)]
 pub struct MoverView {
     pub mode: u32,
     pub state: u32,
@@ -46,7 +48,7 @@ pub struct MoverView {
 // it was lent, the status of the changer's elements. TapeState is the file and the block, Mtio
 // the residue, Wrote the count, and Read where the bytes lie in the image. Environment gives the pairs of the store
 // that was lent.
-#[derive(Drop)]
+#[derive(Clone, Copy)]
 pub enum Reply {
     Header(u32),
     Refused(u32, u32, u32),
@@ -71,7 +73,7 @@ pub enum Reply {
 }
 
 // What is sent unasked; a pause carries the kept seek position.
-#[derive(Drop)]
+#[derive(Clone, Copy)]
 pub enum Notice {
     DataHalted(u32),
     Connected,

@@ -1,12 +1,14 @@
 // The requests that bodies are: what each is by its layout. `wire_decoding` decodes them. A text is its place in the body, and is compared or copied from
 // there.
+#![tactic(auto)]
+
 ghost use Rattle.wire_requests.specs.RoundTrip.{RequestsBack, RequestsOneSpelling};
 ghost use Rattle.wire_requests.specs.Rows.{RowsHold};
 
 use wire_layouts::Text;
 
 // A login by MD5 holds the id and the digest; of any other type the rest is not read.
-#[derive(Drop)]
+#[derive(Clone, Copy)]
 pub enum ConnectRequest {
     Open(u32),
     Md5Auth(Text, Text),
@@ -15,7 +17,7 @@ pub enum ConnectRequest {
 }
 
 // The auth attributes are asked of an auth type.
-#[derive(Drop)]
+#[derive(Clone, Copy)]
 pub enum ConfigRequest {
     ConnectionType,
     AuthAttributes(u32),
@@ -23,7 +25,7 @@ pub enum ConfigRequest {
 }
 
 // Execute CDB holds the CDB and the data-in length.
-#[derive(Drop)]
+#[derive(Clone, Copy)]
 pub enum ScsiRequest {
     Open(Text),
     Close,
@@ -32,7 +34,7 @@ pub enum ScsiRequest {
     Cdb(Text, u32),
 }
 
-#[derive(Drop)]
+#[derive(Clone, Copy)]
 pub enum TapeRequest {
     Open(Text, u32),
     Close,
@@ -43,14 +45,14 @@ pub enum TapeRequest {
 }
 
 // The pairs of a start request: where the first begins in the body, and how many they are.
-#[derive(Drop)]
+#[derive(Clone, Copy)]
 pub struct Pairs {
     pub start: usize,
     pub count: u32,
 }
 
 // A start request holds the name of its method and its pairs.
-#[derive(Drop)]
+#[derive(Clone, Copy)]
 pub enum DataRequest {
     State,
     Backup(Text, Pairs),
@@ -61,7 +63,7 @@ pub enum DataRequest {
 }
 
 // Listen holds the mode and the address type, a window its offset and its length.
-#[derive(Drop)]
+#[derive(Clone, Copy)]
 pub enum MoverRequest {
     State,
     Listen(u32, u32),
@@ -73,7 +75,7 @@ pub enum MoverRequest {
 }
 
 // A connect holds the address type and how many addresses its list has; the mover's has the mode before them.
-#[derive(Drop)]
+#[derive(Clone, Copy)]
 pub enum JointRequest {
     DataAbort,
     DataConnect(u32, u32),
@@ -83,7 +85,7 @@ pub enum JointRequest {
 }
 
 // A decoded request; Unknown is a message that is not handled, Bad a body that does not decode.
-#[derive(Drop)]
+#[derive(Clone, Copy)]
 pub enum Request {
     Connect(ConnectRequest),
     Config(ConfigRequest),

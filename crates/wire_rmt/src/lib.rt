@@ -1,19 +1,21 @@
 // The remote tape protocol of source 001: commands and replies, as definitions. `wire_rmt_reading` reads the one and
 // `wire_rmt_writing` writes the other.
+#![tactic(auto)]
+
 ghost use Rattle.wire_rmt.specs.Holds.{NumbersHold, CommandsHold, RepliesHold};
 ghost use Rattle.wire_rmt.specs.Cases.{RmtCases};
 
 use wire_layouts::Text;
 
 // A number and the offset behind its line feed.
-#[derive(Drop)]
+#[derive(Clone, Copy)]
 pub enum Number {
     Value { value: u32, next: usize },
     Bad,
 }
 
 // A command; a path and data are their places in it. Operate holds 001's number of the operation, and its count.
-#[derive(Drop)]
+#[derive(Clone, Copy)]
 pub enum Command {
     Open(Text, u32),
     Close,

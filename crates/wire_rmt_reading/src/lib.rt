@@ -1,4 +1,6 @@
 // Reads a command of the remote tape protocol, for any bytes; and what its mode and its operation are to NDMP.
+#![tactic(auto)]
+
 ghost use Rattle.std.specs.Prelude.{◌≡◌, ◌+◌, ◌≤◌, length};
 ghost use Rattle.wire_rmt.specs.Numbers.{is_digit, ending, digits_on, number_at};
 ghost use Rattle.wire_rmt.specs.Commands.{line_end, open_in, close_in, read_in, write_in, operate_in, rmt_command, tape_mode, mtio_of};

@@ -1,4 +1,6 @@
 // Writes replies of the remote tape protocol into an output; and which error a number of NDMP is.
+#![tactic(auto)]
+
 ghost use Rattle.std.specs.Prelude.{◌≡◌, ◌+◌, ◌≤◌, length};
 ghost use Rattle.xdr_opaque.specs.Put.{Put};
 ghost use Rattle.wire_rmt.specs.Numbers.{most_digits, digit_count, decimal};

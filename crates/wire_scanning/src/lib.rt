@@ -1,4 +1,6 @@
 // Bodies read by their layouts.
+#![tactic(auto)]
+
 ghost use Rattle.std.specs.Prelude.{◌≡◌, map, ◌≤◌, ◌<◌, length, true, false};
 ghost use Rattle.wire_layouts.specs.Layout.{word, hyper, text, port, digest, one, many, tag, part_at, parts_at, times_at, field_at};
 ghost use Rattle.wire_layouts.specs.Scans.{empty_scan, scanned, field_of, part_of, address_at, addresses, past, forget, field_seen, after_seen};

@@ -1,4 +1,6 @@
 // The store of a data end's environment: judged, and written from the pairs of a body.
+#![tactic(auto)]
+
 ghost use Rattle.std.specs.Prelude.{◌≡◌, true, ◌+◌, ◌*◌, ◌≤◌, ◌<◌, length, take, drop};
 ghost use Rattle.xdr.specs.Xdr.{be32s, overlay};
 ghost use Rattle.codes.specs.Codes.{most_listed, store_length};
@@ -58,7 +60,7 @@ pub fn is_laid(store: &[u8]) -> bool
 }
 
 // Where a text of a body stands: its bytes start at start and are len long; next is past its fill.
-#[derive(Drop)]
+#[derive(Clone, Copy)]
 struct Place {
     start: usize,
     len: usize,

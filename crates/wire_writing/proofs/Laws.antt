@@ -121,12 +121,9 @@ pub part : (start len : ℕ) (l : List ℕ) → take (start + len - start) (drop
 part start len l = let e : start + len - start ≡ len = omega arith in rw e
 
 -- ---- the error in the header: none in a reply of any kind but the first
-abbrev others : List ℕ
-others = 1 ∷ 2 ∷ 3 ∷ 4 ∷ 5 ∷ 6 ∷ 7 ∷ 8 ∷ 9 ∷ 10 ∷ 11 ∷ 12 ∷ 13 ∷ 14 ∷ 15 ∷ 16 ∷ 17 ∷ 18 ∷ 19 ∷ []
-
-pub no_header : (r : Reply) → OneOf others (tag_of the_type r) → 0 ≡ header_error r
+pub no_header : (r : Reply) → ((e : ℕ) → r ≡ Header e → ⊥) → 0 ≡ header_error r
 unfolding header_error
-no_header (Header e) h = absurd (miss others 0 tt h)
+no_header (Header e) h = absurd (h e refl)
 no_header (Refused b e a) h = refl
 no_header Plain h = refl
 no_header Listening h = refl

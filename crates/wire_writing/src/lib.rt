@@ -1,4 +1,6 @@
 // Replies and notices, written into a caller's output.
+#![tactic(auto)]
+
 ghost use Rattle.std.specs.Prelude.{◌≡◌, true, [], ◌∷◌, ◌+◌, ◌*◌, ◌≤◌, length};
 ghost use Rattle.codes.specs.Codes.{largest_message, sense_bytes, most_status, most_lent, store_length, md5_auth};
 ghost use Rattle.xdr.specs.Xdr.{be32s, overlay};

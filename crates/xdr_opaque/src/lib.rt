@@ -1,4 +1,6 @@
 // XDR (RFC 4506) in byte slices: variable-length opaque data and strings, and a word that may be missing.
+#![tactic(auto)]
+
 ghost use Rattle.std.specs.Prelude.{◌≡◌, ◌+◌, ◌*◌, ◌≤◌, ◌<◌, length, replicate};
 ghost use Rattle.xdr.specs.Xdr.{be32s};
 ghost use Rattle.xdr_opaque.specs.Opaque.{word_at, all_zero, opaque_at};
@@ -6,14 +8,14 @@ ghost use Rattle.xdr_opaque.specs.Put.{Put, opaque};
 ghost use Rattle.xdr_opaque.specs.RoundTrip.{OpaqueRoundTrip};
 
 // A word, or that the slice ends before it does.
-#[derive(Drop)]
+#[derive(Clone, Copy)]
 pub enum Word {
     Value(u32),
     Short,
 }
 
 // Opaque data or a string: its bytes start at start and are len long; next is past the fill.
-#[derive(Drop)]
+#[derive(Clone, Copy)]
 pub enum Opaque {
     At {
         start: usize,

@@ -1,0 +1,7 @@
+use Rattle.rules_moves.specs.Events.{connection_lost}
+use Rattle.call_moves.proofs.lost.Goals as goal
+
+pub returns : goal.returns
+unfolding connection_lost
+returns c = λ image variables. rw c.lost_at-mv.ensures at
+    (c.tell.ensures image variables)

@@ -1,0 +1,7 @@
+use Rattle.rules_moves.specs.Events.{connection_made}
+use Rattle.call_moves.proofs.made.Goals as goal
+
+pub returns : goal.returns
+unfolding connection_made
+returns c = λ image variables. rw c.made_at-mv.ensures at
+    (c.tell.ensures image variables)

@@ -1,0 +1,70 @@
+use native.Mathlib.Omega.{arith}
+use mathlib.Core.Path.{sym, ◌∙◌}
+use Rattle.rules.specs.Answer.{held, requested}
+use Rattle.wire_frame.proofs.Laws.{request_well}
+use Rattle.rules.proofs.Guarding.{guard_goes}
+use Rattle.call_sending.proofs.Calling.{call_if, call_else}
+use Rattle.call_request.specs.Call.{lent}
+use Rattle.call_request.proofs.Framing.{frame_broken, frame_other, frame_request}
+use Rattle.call_request.proofs.Routing.{call_stopped, call_goes, room_is, room_there}
+use Rattle.call_request.proofs.request.Goals as goal
+
+pub returns-in-Stop : goal.returns-in-Stop
+returns-in-Stop c = let c8 = c in
+    let a = c8.args in
+    let k = held a.s a.image.now a.variables.now in
+    let l = lent a.accounts.now a.challenge.now a.addresses.now a.made a.time a.out.now in
+    call_stopped k l a.input.now _ (room_is k l c.room_of-room.ensures) _
+    (sym c.in-Stop.is ∙ c.guard-guard.ensures)
+    (c.quiet.ensures _ _ _)
+
+pub framed_call-requires : goal.framed_call-requires
+framed_call-requires c = let c8 = c in
+    let c16 = c8 in
+    let a = c16.args in
+    let k = held a.s a.image.now a.variables.now in
+    let l = lent a.accounts.now a.challenge.now a.addresses.now a.made a.time a.out.now in
+    let f = sym c.in-Request.is ∙
+    c.read_frame.ensures in
+    let g = guard_goes _ _ (sym c.in_default.is ∙
+    c8.guard-guard.ensures) in
+    let there = room_there k l (room_is k l c8.room_of-room.ensures) g.roomy in
+    (record { long = (request_well _ _ _ f).long; room = omega (arith, there.0) }, (frame_request _ _ _ f).2, there.1)
+
+pub returns-in-Broken : goal.returns-in-Broken
+returns-in-Broken c = let c8 = c in
+    let a = c8.args in
+    let k = held a.s a.image.now a.variables.now in
+    let l = lent a.accounts.now a.challenge.now a.addresses.now a.made a.time a.out.now in
+    call_goes k l a.input.now _ (room_is k l
+    c.room_of-room.ensures)
+    (sym c.in_default.is ∙
+    c.guard-guard.ensures)
+    (call_else _ (frame_broken _ (sym c.in-Broken.is ∙
+    c.read_frame.ensures)) (c.shut.ensures _ _ _))
+
+pub returns-in-NotRequest : goal.returns-in-NotRequest
+unfolding requested
+returns-in-NotRequest c = let c8 = c in
+    let a = c8.args in
+    let k = held a.s a.image.now a.variables.now in
+    let l = lent a.accounts.now a.challenge.now a.addresses.now a.made a.time a.out.now in
+    let f = frame_other _ (sym c.in-NotRequest.is ∙ c.read_frame.ensures) in
+    call_goes k l a.input.now _ (room_is k l
+    c.room_of-room.ensures)
+    (sym c.in_default.is ∙
+    c.guard-guard.ensures)
+    (call_if _ f.0 (call_if _ f.1 (c.quiet-in-NotRequest.ensures _ _ _)))
+
+pub returns-in-Request : goal.returns-in-Request
+unfolding requested
+returns-in-Request c = let c8 = c in
+    let c16 = c8 in
+    let a = c16.args in
+    let k = held a.s a.image.now a.variables.now in
+    let l = lent a.accounts.now a.challenge.now a.addresses.now a.made a.time a.out.now in
+    let f = frame_request _ _ _ (sym c8.in-Request.is ∙
+    c8.read_frame.ensures) in
+    call_goes k l a.input.now _ (room_is k l c16.room_of-room.ensures)
+    (sym c8.in_default.is ∙ c16.guard-guard.ensures)
+    (call_if _ f.0 (call_else _ f.1 c.framed_call.ensures))

@@ -1,0 +1,24 @@
+use mathlib.Core.Path.{sym, ◌∙◌}
+use native.Mathlib.Omega.{arith}
+use lib.ListN.{length}
+use Rattle.rules.specs.Answer.{held}
+use Rattle.rules.proofs.Guarding.{guard_goes}
+use Rattle.call_rmt.proofs.Commanding.{command_stopped, command_goes}
+use Rattle.call_rmt.proofs.rmt.Goals as goal
+
+pub returns-in-Stop : goal.returns-in-Stop
+returns-in-Stop c = let a = c.args in
+    λ variables.
+    command_stopped (held a.s a.image.now variables) (length a.out.now) a.command.now _
+    (sym c.in-Stop.is ∙ c.guard-guard.ensures) (c.quiet.ensures _ _ _)
+
+pub obey-requires : goal.obey-requires
+obey-requires c = let g = guard_goes _ _ (sym c.in_default.is ∙ c.guard-guard.ensures) in
+    omega (arith, g.roomy)
+
+pub returns : goal.returns
+returns c = let c7 = c in
+    let a = c7.args in
+    λ variables.
+    command_goes (held a.s a.image.now variables) (length a.out.now) a.command.now
+    (sym c7.in_default.is ∙ c7.guard-guard.ensures) (c.obey.ensures variables)

@@ -1,0 +1,6 @@
+use Rattle.rules_cases.proofs.Cases as laws
+use Rattle.rules_cases.proofs.first_size_cases_hold.Goals as goal
+
+-- The cases of the first record size are a theorem of `Cases`.
+pub returns : goal.returns
+returns c = (laws.cases_hold).1

@@ -1,0 +1,4 @@
+use Rattle.serve_joint.proofs.halt.Goals as goal
+
+pub returns : goal.returns
+returns c = cc

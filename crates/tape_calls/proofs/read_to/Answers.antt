@@ -1,0 +1,17 @@
+use native.Mathlib.Omega.{arith}
+use borrow.Author.Rules.{rules}
+use Rattle.tape_calls.proofs.Laws.{read_within, handed_none, handed_all}
+use Rattle.tape_calls.proofs.read_to.Goals as goal
+
+pub returns-then-out-len : goal.returns-then-out-len
+returns-then-out-len c = handed_none _ _ _ _ c.read-part.ensures _ c.if-out-len.true
+
+pub overflow_add-start : goal.overflow_add-start
+overflow_add-start c = let w = read_within _ _ _ _ c.read-part.ensures in
+    search rules
+
+pub slice_bounds-copy_blocks-end : goal.slice_bounds-copy_blocks-end
+slice_bounds-copy_blocks-end c = read_within _ _ _ _ c.read-part.ensures
+
+pub returns : goal.returns
+returns c = handed_all _ _ _ _ c.read-part.ensures _ _ (omega arith) c.copy_blocks.ensures

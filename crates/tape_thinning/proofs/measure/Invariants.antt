@@ -1,0 +1,10 @@
+use Prim.Native.Nat.{◌-◌}
+use Rattle.tape_thinning.proofs.Laws.{Measuring}
+use Rattle.tape_thinning.proofs.measure.Given as goal
+
+-- What is counted and what is left to count are the whole; each turn is one law.
+abbrev pub invariant-loop-i : goal.invariant-loop-i
+invariant-loop-i l = Measuring l.source l.numbers l.i l.file l.begun l.next l.entries l.bytes
+
+abbrev pub decreases-loop-i : goal.decreases-loop-i
+decreases-loop-i l = l.count - l.i

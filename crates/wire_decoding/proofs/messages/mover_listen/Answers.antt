@@ -1,0 +1,15 @@
+use mathlib.Core.Path.{refl}
+use mathlib.Core.List.{◌∷◌}
+use Rattle.wire_layouts.specs.Layout.{word, one}
+use Rattle.wire_requests.specs.Bodies.{listen_fields, request_of, mover_body}
+use Rattle.wire_decoding.proofs.Laws.{of_scan, by_type}
+use Rattle.wire_frame.specs.declared.Message.TheVariants as Message
+use Rattle.wire_frame.specs.declared.MoverKind.TheVariants as MoverKind
+use borrow.Author.Rules.{rules}
+use Rattle.wire_decoding.proofs.messages.mover_listen.Goals as goal
+
+pub returns : goal.returns
+unfolding mover_body
+returns c = let k = c in
+    let e = by_type (λ t. one word ∷ listen_fields t) _ _ refl refl _ k.is_tcp.ensures k.scan_by_type-k.ensures in
+    of_scan (request_of (Message.Mover MoverKind.Listen)) e c.judged.ensures

@@ -1,0 +1,7 @@
+use Rattle.wire_pairs.specs.Pairs.{separator_name}
+use borrow.Author.Rules.{rules}
+use Rattle.wire_giving.proofs.is_separator.Goals as goal
+
+pub returns : goal.returns
+unfolding separator_name
+returns c = c.same.ensures

@@ -1,0 +1,12 @@
+use Prim.Native.Nat.{◌≤◌, ◌-◌}
+use mathlib.Core.Path.{◌≡◌}
+use lib.ListN.{length, drop}
+use Rattle.xdr_opaque.specs.Opaque.{all_zero}
+use Rattle.xdr_opaque.proofs.all_zero.Given as goal
+
+-- Invariant: the bytes passed are zero, so the whole is zero where what is left is.
+abbrev pub invariant-loop-i : goal.invariant-loop-i
+invariant-loop-i l = (l.i ≤ length l.s) × (all_zero l.s ≡ all_zero (drop l.i l.s))
+
+abbrev pub decreases-loop-i : goal.decreases-loop-i
+decreases-loop-i l = length l.s - l.i
