@@ -6,7 +6,7 @@ mod line; // line.rt: the parts of a line
 use hex_text::Decoded;
 use line::{put, put_first, put_number};
 use rules_parts::types::Session;
-use std::io::{BufWriter, Read, Write};
+use std::io::Write;
 use std::rt::Files;
 use std::{env, fs, io};
 
@@ -99,7 +99,7 @@ fn ask_bytes(
 
 // One that cannot be opened is told on standard error, and the session goes on.
 fn ask_file(
-    rt: &(impl Files + Eprint + AllocGlobal),
+    rt: &(impl Files + Eprint),
     out: &mut impl Write,
     path: &str,
     s: Session,
@@ -108,10 +108,10 @@ fn ask_file(
 ) -> io::Result<Session> {
     put(out, path.as_bytes())?;
     match fs::open(rt, path) {
-        Ok(file) => {
-            let mut text = Vec::new(rt.alloc());
-            file.take(40001).read_to_end(&mut text)?;
-            ask_bytes(out, s, image, store, &text)
+        Ok(mut file) => {
+            let mut text = [0u8; 40001];
+            let n = run_reading::read_full(&mut file, &mut text)?;
+            ask_bytes(out, s, image, store, &text[..n])
         }
         Err(e) => {
             out.flush()?;
@@ -124,7 +124,7 @@ fn ask_file(
 // The cartridge is empty: 1, a capacity of 8, no entries, no bytes used; then room for 8 entries and 2,048 bytes. The store is
 // all zeros: no pairs.
 fn main(rt: HostRuntime) -> io::Result<()> {
-    let mut out = BufWriter::new(rt.alloc(), rt.stdout())?;
+    let mut out = rt.stdout();
     let mut image = [0u8; 2128];
     image[3] = 1;
     image[7] = 8;

@@ -10,7 +10,7 @@ mod line; // line.rt: the parts of a line
 use line::{put, put_number};
 use rules_parts::types::Session;
 use std::io;
-use std::io::{BufWriter, Write};
+use std::io::Write;
 
 // An empty cartridge: 1, a capacity of 4, no entries, no bytes used; then room for 4 entries and 4,096 bytes.
 fn blank() -> [u8; 4144] {
@@ -194,7 +194,7 @@ fn cases_a_to_f(out: &mut impl Write) -> io::Result<()> {
 }
 
 fn main(rt: HostRuntime) -> io::Result<()> {
-    let mut out = BufWriter::new(rt.alloc(), rt.stdout())?;
+    let mut out = rt.stdout();
     cases_a_to_f(&mut out)?;
     let mut stream = [0u8; 3000];
     for (i, b) in stream.iter_mut().enumerate() {

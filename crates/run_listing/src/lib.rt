@@ -72,26 +72,11 @@ pub fn list(out: &mut impl Write, image: &[u8]) -> io::Result<()> {
     }
 }
 
-// Reads until the buffer is full or the input ends, and answers how many bytes were read.
-fn read_full(input: &mut impl Read, buf: &mut [u8]) -> io::Result<usize>
-    ensures { IfOk result (λ n. n ≤ length buf.new) }
-{
-    let mut done = 0;
-    while done < buf.len() {
-        let n = input.read(&mut buf[done..])?;
-        if n == 0 {
-            break;
-        }
-        done += n;
-    }
-    Ok(done)
-}
-
 // Lists what an input gives. One byte above the limit is enough to know that an image is too long. An input that cannot be read to its
 // end is refused too: an image that was read in part may still be sound.
 pub fn list_from(out: &mut impl Write, input: &mut impl Read) -> io::Result<()> {
     let mut image = [0u8; 65537];
-    match read_full(input, &mut image) {
+    match run_reading::read_full(input, &mut image) {
         Ok(n) => list(out, &image[..n]),
         Err(_) => refuse(out),
     }

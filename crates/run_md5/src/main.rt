@@ -4,7 +4,7 @@
 ghost use Rattle.std.specs.Prelude.{◌≤◌, length};
 
 use std::io;
-use std::io::{BufWriter, Write};
+use std::io::Write;
 
 const CHALLENGE: [u8; 64] = *b"0123456789ABCDEFGHIJKLMNOPQRSTUVWXYZabcdefghijklmnopqrstuvwxyz-+";
 
@@ -67,7 +67,7 @@ fn show_login(out: &mut impl Write, password: &[u8], challenge: &[u8; 64]) -> io
 }
 
 fn main(rt: HostRuntime) -> io::Result<()> {
-    let mut out = BufWriter::new(rt.alloc(), rt.stdout())?;
+    let mut out = rt.stdout();
     put(&mut out, b"MD5 test suite:\n")?;
     show(&mut out, b"")?;
     show(&mut out, b"a")?;

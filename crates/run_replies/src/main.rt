@@ -7,7 +7,7 @@ mod sending; // sending.rt: a record written and printed
 
 use sending::{answer, notify, refuse, send};
 use std::io;
-use std::io::{BufWriter, Write};
+use std::io::Write;
 use wire_replies::{DataView, MoverView, Notice, Reply};
 
 fn plain(out: &mut impl Write) -> io::Result<()> {
@@ -494,7 +494,7 @@ fn auth_types(out: &mut impl Write) -> io::Result<()> {
 }
 
 fn main(rt: HostRuntime) -> io::Result<()> {
-    let mut out = BufWriter::new(rt.alloc(), rt.stdout())?;
+    let mut out = rt.stdout();
     plain(&mut out)?;
     config(&mut out)?;
     server_info(&mut out)?;

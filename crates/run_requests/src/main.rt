@@ -10,9 +10,8 @@ mod shown; // shown.rt: a request with its fields
 
 use hex_text::Decoded;
 use line::{put, put_number};
-use std::alloc::Global;
 use std::io;
-use std::io::{BufWriter, Read, Write};
+use std::io::Write;
 use wire_frame::Framed;
 use wire_requests::Request;
 
@@ -126,20 +125,19 @@ fn show_lines(out: &mut impl Write, text: &[u8]) -> io::Result<()> {
     Ok(())
 }
 
-// The input, or its front: one byte above the limit is enough to know that it is too long.
-fn read_input(alloc: Global, input: impl Read + Drop) -> io::Result<Vec<u8>> {
-    let mut text = Vec::new(alloc);
-    input.take(LARGEST_INPUT as u64 + 1).read_to_end(&mut text)?;
-    Ok(text)
+// One byte above the limit is enough to know that the input is too long.
+fn empty_input() -> [u8; LARGEST_INPUT + 1] {
+    [0u8; LARGEST_INPUT + 1]
 }
 
 fn main(rt: HostRuntime) -> io::Result<()> {
-    let mut out = BufWriter::new(rt.alloc(), rt.stdout())?;
-    let text = read_input(rt.alloc(), rt.stdin())?;
-    if LARGEST_INPUT < text.len() {
+    let mut out = rt.stdout();
+    let mut text = empty_input();
+    let n = run_reading::read_full(&mut rt.stdin(), &mut text)?;
+    if LARGEST_INPUT < n {
         put(&mut out, b"above 1048576 bytes\n")?;
     } else {
-        show_lines(&mut out, &text)?;
+        show_lines(&mut out, &text[..n])?;
     }
     out.flush()
 }

@@ -1,7 +1,7 @@
 // Lists each image file that an argument names, with its name on a line before it.
 #![tactic(auto)]
 
-use std::io::{BufWriter, Write};
+use std::io::Write;
 use std::rt::Files;
 use std::{env, fs, io};
 
@@ -18,7 +18,7 @@ fn list_file(rt: &(impl Files + Eprint), out: &mut impl Write, path: &str) -> io
 }
 
 fn main(rt: HostRuntime) -> io::Result<()> {
-    let mut out = BufWriter::new(rt.alloc(), rt.stdout())?;
+    let mut out = rt.stdout();
     for path in env::args(&rt)?.skip(1) {
         list_file(&rt, &mut out, path.as_str())?;
     }

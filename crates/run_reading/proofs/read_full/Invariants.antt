@@ -1,6 +1,6 @@
 -- Each read is into what is left of the buffer.
 use Rattle.std.proofs.Common.{length, ◌-◌, ◌≤◌}
-use Rattle.run_listing.proofs.read_full.Given as goal
+use Rattle.run_reading.proofs.read_full.Given as goal
 
 abbrev pub invariant-loop-done : goal.invariant-loop-done
 invariant-loop-done g l = l.done ≤ length l.buf
