@@ -1,4 +1,5 @@
 // The calls of the session core. No call has a requires: it refuses.
+// What a request of each service comes to is kept out of its callers: inlined, their frames add up on the stack.
 #![tactic(auto)]
 
 ghost use Rattle.std.specs.Prelude.{◌≡◌, Bool, true, false, List, [], ℕ, ◌+◌, ◌≤◌, length, eqb};
@@ -84,6 +85,7 @@ fn data_reply(
     call_sending::finish(next, input, time, reply, addresses, out)
 }
 
+#[inline(never)]
 fn data_call(
     s: Session,
     q: DataRequest,
@@ -123,6 +125,7 @@ fn status_reply(s: Session, asked: Asked, input: &[u8], time: u32, out: &mut [u8
     call_sending::finish(s, input, time, Reply::Elements, &status[..n], out)
 }
 
+#[inline(never)]
 fn scsi_call(s: Session, q: ScsiRequest, input: &[u8], time: u32, out: &mut [u8]) -> Answer
     requires { Ready input.now out.old × texts_within (body_of input.now) (Request.Scsi q) }
     ensures { (image variables : List ℕ) → CallTold (settled (held s image variables) time input.now (Request.Scsi q) (onto (with_changer (held s image variables) (scsi_shown q (body_of input.now) s.changer.slots)) (scsi_step s.tape.opened s.changer q (body_of input.now)))) result image variables out.old out.new }
@@ -144,6 +147,7 @@ fn scsi_call(s: Session, q: ScsiRequest, input: &[u8], time: u32, out: &mut [u8]
     }
 }
 
+#[inline(never)]
 fn tape_call(
     s: Session,
     q: TapeRequest,
@@ -171,6 +175,7 @@ fn tape_call(
     }
 }
 
+#[inline(never)]
 fn mover_call(
     s: Session,
     q: MoverRequest,
@@ -198,6 +203,7 @@ fn mover_call(
 }
 
 // A joint request, and the notices of what halted: data first, mover second.
+#[inline(never)]
 fn joint_call(
     s: Session,
     q: JointRequest,
@@ -228,6 +234,7 @@ fn joint_call(
 }
 
 // What CONNECT or CONFIG came to, answered: the challenge is what a client may be given, and shown what the reply may show.
+#[inline(never)]
 fn login_call(
     s: Session,
     done: LoginDone,
@@ -256,6 +263,7 @@ fn login_call(
 }
 
 // CONNECT; an accepted close has no reply. It gives no challenge, so it may be handed any.
+#[inline(never)]
 fn connect_call(
     s: Session,
     q: ConnectRequest,
@@ -277,6 +285,7 @@ fn connect_call(
 }
 
 // A record that is no request of any service, refused in the header.
+#[inline(never)]
 fn header_call(s: Session, error: u32, input: &[u8], time: u32, out: &mut [u8]) -> Answer
     requires { Ready input.now out.old }
     ensures { (image variables : List ℕ) → CallTold (replying input.now time (Reply.Header error) [] (held s image variables)) result image variables out.old out.new }

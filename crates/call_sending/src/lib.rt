@@ -11,7 +11,8 @@ ghost use Rattle.call_sending.specs.Call.{CallTold, Ready};
 use rules_parts::types::{Answer, Session};
 use wire_replies::{Notice, Reply};
 
-// The reply to a record, and the session counted. For every service.
+// The reply to a record, and the session counted. For every service. Inlined, so that the frame of its caller serves it too.
+#[inline(always)]
 pub fn finish(
     next: Session,
     input: &[u8],
