@@ -1,3 +1,4 @@
+pub mod Texts
 pub mod Layout
 pub mod Laws
 pub mod Scans

@@ -1,6 +1,8 @@
 // Bodies by their layouts: what each is read as. `wire_scanning` reads them.
 #![tactic(auto)]
 
+ghost use Rattle.std.specs.Prelude.{◌≡◌};
+ghost use Rattle.wire_layouts.specs.Texts.{bytes_at, Within};
 ghost use Rattle.wire_layouts.specs.Laws.{FieldsRoundTrip, FieldsOneSpelling, UnreadRests};
 ghost use Rattle.wire_layouts.specs.AddressLists.{AddressesGiven};
 ghost use Rattle.wire_layouts.specs.AddressCases.{AddressCases};
@@ -10,6 +12,16 @@ ghost use Rattle.wire_layouts.specs.AddressCases.{AddressCases};
 pub struct Text {
     pub start: usize,
     pub len: usize,
+}
+
+impl Text {
+    // Its bytes.
+    pub fn of<'a>(self, body: &'a [u8]) -> &'a [u8]
+        requires { Within body.now self }
+        ensures { result.now ≡ bytes_at body.now self }
+    {
+        &body[self.start..self.start + self.len]
+    }
 }
 
 // What is kept of the fields of a body, each at its number; not ok is a body that does not decode.

@@ -1,8 +1,9 @@
 -- What a decoded request is, and that its texts lie within the body.
-use Rattle.std.specs.Prelude.{ℕ, ◌+◌, ◌≤◌, ◌≡◌, List, [], ◌∷◌, length, take, drop}
+use Rattle.std.specs.Prelude.{ℕ, ◌≡◌, List, [], ◌∷◌}
 use Rattle.wire_frame.specs.declared.Message.{Message}
 use Rattle.wire_requests.specs.Bodies.{decoded}
 use Rattle.wire_layouts.specs.declared.Text.{Text}
+pub use Rattle.wire_layouts.specs.Texts.{bytes_at, Within}
 use Rattle.wire_requests.specs.declared.ConnectRequest.TheVariants as ConnectRequest
 use Rattle.wire_requests.specs.declared.ScsiRequest.TheVariants as ScsiRequest
 use Rattle.wire_requests.specs.declared.TapeRequest.TheVariants as TapeRequest
@@ -38,13 +39,6 @@ texts_of (Mover r) = []
 texts_of (Joint r) = []
 texts_of Unknown = []
 texts_of Bad = []
-
--- the bytes of a text, and that they lie within the body
-abbrev pub bytes_at : List ℕ → Text → List ℕ
-bytes_at b t = take t.len (drop t.start b)
-
-abbrev pub Within : List ℕ → Text → Type 0
-Within b t = t.start + t.len ≤ length b
 
 abbrev pub all_within : List ℕ → List Text → Type 0
 all_within b [] = Unit
