@@ -1,5 +1,12 @@
 // Numbers of 004 and of paper 01 by name, for every crate.
+#![tactic(auto)]
+
+ghost use Rattle.std.specs.Prelude.{◌≡◌};
 ghost use Rattle.codes.specs.Codes.{AsWritten};
+ghost use Rattle.codes.specs.Errors.{number_of, ErrorsNumbered};
+
+use std::error::Error;
+use std::fmt;
 
 // Refusals and outcomes, as 004 names them.
 pub const NOT_SUPPORTED: u32 = 1;
@@ -118,5 +125,83 @@ pub const VERSION_FOUR: u32 = 4;
 
 // No work: its contract is that the names of the definitions stand for the numbers that 004 and paper 01 write.
 pub fn as_written()
-    ensures { AsWritten }
+    ensures { AsWritten × ErrorsNumbered }
 {}
+
+// An error of 004 by its name: what a request is refused by. Its number stands in a reply.
+#[derive(Clone, Copy, Debug, PartialEq, Eq, Hash)]
+pub enum NdmpError {
+    NotSupported,
+    DeviceOpened,
+    NotAuthorized,
+    PermissionDenied,
+    NotOpen,
+    IoError,
+    IllegalArguments,
+    NoTapeLoaded,
+    AtMark,
+    AtEnd,
+    BadFile,
+    NoDevice,
+    Undecodable,
+    IllegalState,
+    NoMemory,
+    OtherNotListening,
+    ReadInProgress,
+    Precondition,
+}
+
+impl NdmpError {
+    // The number that 004 gives it.
+    pub fn number(self) -> u32
+        ensures { result ≡ number_of self }
+    {
+        match self {
+            NdmpError::NotSupported => NOT_SUPPORTED,
+            NdmpError::DeviceOpened => DEVICE_OPENED,
+            NdmpError::NotAuthorized => NOT_AUTHORIZED,
+            NdmpError::PermissionDenied => PERMISSION_DENIED,
+            NdmpError::NotOpen => NOT_OPEN,
+            NdmpError::IoError => IO_ERROR,
+            NdmpError::IllegalArguments => ILLEGAL_ARGUMENTS,
+            NdmpError::NoTapeLoaded => NO_TAPE_LOADED,
+            NdmpError::AtMark => AT_MARK,
+            NdmpError::AtEnd => AT_END,
+            NdmpError::BadFile => BAD_FILE,
+            NdmpError::NoDevice => NO_DEVICE,
+            NdmpError::Undecodable => UNDECODABLE,
+            NdmpError::IllegalState => ILLEGAL_STATE,
+            NdmpError::NoMemory => NO_MEMORY,
+            NdmpError::OtherNotListening => OTHER_NOT_LISTENING,
+            NdmpError::ReadInProgress => READ_IN_PROGRESS,
+            NdmpError::Precondition => PRECONDITION,
+        }
+    }
+}
+
+impl fmt::Display for NdmpError {
+    fn fmt<W: fmt::Write>(&self, f: &mut fmt::Formatter<W>) -> fmt::Result {
+        f.write_str(match self {
+            NdmpError::NotSupported => "not supported",
+            NdmpError::DeviceOpened => "device opened",
+            NdmpError::NotAuthorized => "not authorized",
+            NdmpError::PermissionDenied => "permission denied",
+            NdmpError::NotOpen => "device not open",
+            NdmpError::IoError => "I/O error",
+            NdmpError::IllegalArguments => "illegal arguments",
+            NdmpError::NoTapeLoaded => "no tape loaded",
+            NdmpError::AtMark => "at a mark",
+            NdmpError::AtEnd => "at the end of the medium",
+            NdmpError::BadFile => "bad file",
+            NdmpError::NoDevice => "no such device",
+            NdmpError::Undecodable => "not decoded",
+            NdmpError::IllegalState => "illegal state",
+            NdmpError::NoMemory => "no memory",
+            NdmpError::OtherNotListening => "the other end does not listen",
+            NdmpError::ReadInProgress => "a read is in progress",
+            NdmpError::Precondition => "a precondition is not met",
+        })
+    }
+}
+
+impl Error for NdmpError {}
