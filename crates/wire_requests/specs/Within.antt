@@ -3,7 +3,7 @@ use Rattle.std.specs.Prelude.{ℕ, ◌≡◌, List, [], ◌∷◌}
 use Rattle.wire_frame.specs.declared.Message.{Message}
 use Rattle.wire_requests.specs.Bodies.{decoded}
 use Rattle.wire_layouts.specs.declared.Text.{Text}
-pub use Rattle.wire_layouts.specs.Texts.{bytes_at, Within}
+use Rattle.wire_layouts.specs.Texts as texts
 use Rattle.wire_requests.specs.declared.ConnectRequest.TheVariants as ConnectRequest
 use Rattle.wire_requests.specs.declared.ScsiRequest.TheVariants as ScsiRequest
 use Rattle.wire_requests.specs.declared.TapeRequest.TheVariants as TapeRequest
@@ -39,6 +39,13 @@ texts_of (Mover r) = []
 texts_of (Joint r) = []
 texts_of Unknown = []
 texts_of Bad = []
+
+-- the bytes of a text, and that they lie within the body
+abbrev pub bytes_at : List ℕ → Text → List ℕ
+bytes_at = texts.bytes_at
+
+abbrev pub Within : List ℕ → Text → Type 0
+Within = texts.Within
 
 abbrev pub all_within : List ℕ → List Text → Type 0
 all_within b [] = Unit
