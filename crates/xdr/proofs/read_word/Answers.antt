@@ -3,4 +3,4 @@ use Rattle.xdr.proofs.read_word.Goals as goal
 
 pub returns : goal.returns
 unfolding word
-returns c = cc c.wide-4.ensures.0
+returns c = c.from_be_bytes.ensures

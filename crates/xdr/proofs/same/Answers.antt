@@ -1,28 +1,17 @@
-use mathlib.Core.Path.{refl}
-use native.Mathlib.Omega.{arith}
-use borrow.Author.Rules.{rules}
-use Rattle.xdr.specs.Choose.{choose}
-use Rattle.xdr.proofs.Comparing.{same_lengths, same_kept, same_lost, all_same}
+use mathlib.Core.Bool.{true, ◌&&◌}
+use mathlib.Core.Path.{◌∙◌}
+use lib.Dec.{eqb}
+use Rattle.std.proofs.Common.{rules}
+use borrow.Author.Tests.{tests}
+use Rattle.std.proofs.lemmas.Iterator.{YieldsList-from_slice, YieldsList-from_zip}
+use Rattle.std.proofs.lemmas.Iterator.Consumers.{fold_from_yields_List}
+use Rattle.xdr.proofs.Comparing.{same_lengths, fold_same}
 use Rattle.xdr.proofs.same.Goals as goal
-use Rattle.xdr.proofs.same.Goals.{then-a-i, else-a-i}
 
 pub returns-then-a-b : goal.returns-then-a-b
 returns-then-a-b c = same_lengths _ _ c.if-a-b.true
 
-pub loop-i-init : goal.loop-i-init
-unfolding choose
-loop-i-init c = (search rules, refl)
-
-pub loop-i-preserved : goal.loop-i-preserved
-loop-i-preserved c = let s = c.args in
-    let o = c.loop-i in (
-      search rules,
-      elim c.if-a-i.branch [
-        | then-a-i w ↦ rw w.equal-is (same_lost s.a.now s.b.now o.i o.equal o.invariant.1 (omega arith) (omega arith) w.if-a-i.true)
-        | else-a-i w ↦ rw w.equal-is (same_kept s.a.now s.b.now o.i o.equal o.invariant.1 (omega arith) (omega arith) w.if-a-i.false)
-      ],
-    )
-
 pub returns : goal.returns
-returns c = let s = c.args in
-    all_same s.a.now s.b.now c.loop-i.i _ c.loop-i.invariant.1 (omega arith) (omega arith)
+returns c = fold_from_yields_List _ (λ equal p. equal && eqb p.0 p.1) true _ c.fold.ensures.ran
+    (YieldsList-from_zip (YieldsList-from_slice c.args.a.now cc) (YieldsList-from_slice c.args.b.now cc)) (λ equal x r q k. search (rules, tests))
+    ∙ fold_same c.args.a.now c.args.b.now true (search rules)

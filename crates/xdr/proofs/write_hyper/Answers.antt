@@ -1,7 +1,6 @@
-use Rattle.xdr.proofs.Laws.{more, length_be32}
-use Rattle.xdr.specs.Xdr.{be64}
+use mathlib.Core.Path.{◌∙◌}
+use Rattle.xdr.proofs.Laws.{be64_is}
 use Rattle.xdr.proofs.write_hyper.Goals as goal
 
 pub returns : goal.returns
-unfolding be64
-returns c = more _ _ _ _ _ _ _ c.write_word.ensures c.write_word-2.ensures (rw length_be32)
+returns c = rw (← be64_is c.args.v) (rw (← c.to_be_bytes.ensures) c.copy_bytes.ensures)
