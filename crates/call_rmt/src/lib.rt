@@ -49,7 +49,7 @@ fn put_told(out: &mut [u8], outcome: u32, count: u32, bytes: &[u8]) -> usize
         return wire_rmt_writing::put_refused(out, 0, outcome);
     }
     let next = wire_rmt_writing::put_accepted(out, 0, count);
-    xdr::copy_blocks(out, next, bytes);
+    xdr::copy_bytes(out, next, bytes);
     next + bytes.len()
 }
 

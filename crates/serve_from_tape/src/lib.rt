@@ -25,7 +25,7 @@ fn read_record(i: usize, d: Data, m: Mover, t: Tape, image: &[u8], dest: &mut [u
     let n = serve_seeking::amount(m, dest.len());
     let begin = serve_seeking::record_start(image, i) + into;
     let end = begin + n;
-    xdr::copy_blocks(dest, 0, &image[begin..end]);
+    xdr::copy_bytes(dest, 0, &image[begin..end]);
     serve_moves::hand_over(n, i, d, m, t)
 }
 

@@ -60,6 +60,6 @@ pub fn read_to(image: &[u8], position: usize, times: u32, out: &mut [u8]) -> Par
             len: 0,
         };
     }
-    xdr::copy_blocks(out, 0, &image[start..start + len]);
+    xdr::copy_bytes(out, 0, &image[start..start + len]);
     part
 }

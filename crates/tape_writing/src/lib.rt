@@ -34,7 +34,7 @@ pub fn write_filled(image: &mut [u8], position: usize, part: &[u8], size: usize)
         return false;
     }
     tape_image::put_entry(image, position, keep, size);
-    xdr::copy_blocks(image, body + keep, part);
+    xdr::copy_bytes(image, body + keep, part);
     xdr::zero_fill(image, body + keep + part.len(), size - part.len());
     true
 }

@@ -142,7 +142,7 @@ fn keep_text(store: &mut [u8], to: usize, body: &[u8], text: Place)
 {
     let start = text.start;
     let end = start + text.len;
-    xdr::copy_blocks(store, to, &body[start..end]);
+    xdr::copy_bytes(store, to, &body[start..end]);
 }
 
 // Writes the texts of so many pairs of a body, from an offset of the store on.

@@ -117,7 +117,7 @@ fn put_lent(out: &mut [u8], at: usize, kind: u32, bytes: &[u8]) -> usize
     ensures { Put at (body_bytes (record { words = 0 ∷ kind ∷ []; raw = bytes.now; texts = []; tail = [] })) out.old result out.new }
 {
     let first = xdr_opaque::put_words(out, at, &[0, kind]);
-    xdr::copy_blocks(out, first, bytes);
+    xdr::copy_bytes(out, first, bytes);
     first + bytes.len()
 }
 

@@ -107,7 +107,7 @@ pub fn put_opaque(out: &mut [u8], at: usize, s: &[u8]) -> usize
     let n = s.len();
     let zeros = (4 - n % 4) % 4;
     xdr::write_word(out, at, n as u32);
-    xdr::copy_blocks(out, at + 4, s);
+    xdr::copy_bytes(out, at + 4, s);
     xdr::zero_fill(out, at + 4 + n, zeros);
     at + 4 + n + zeros
 }

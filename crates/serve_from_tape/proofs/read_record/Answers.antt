@@ -10,7 +10,7 @@ pub returns : goal.returns
 returns c = let a = c.args in
     let n = c.amount-n in
     let begin = c.record_start.result + c.into_record-into.result in
-    let copied = c.copy_blocks.ensures in
+    let copied = c.copy_bytes.ensures in
     let handed = c.hand_over.ensures in
     read_right a.i a.d a.m a.t a.image.now a.dest.now _ _ n.result begin (omega arith) n.ensures.is n.ensures.rest (omega arith)
     copied handed

@@ -10,8 +10,8 @@ pub overflow_add-start : goal.overflow_add-start
 overflow_add-start c = let w = read_within _ _ _ _ c.read-part.ensures in
     search rules
 
-pub slice_bounds-copy_blocks-end : goal.slice_bounds-copy_blocks-end
-slice_bounds-copy_blocks-end c = read_within _ _ _ _ c.read-part.ensures
+pub slice_bounds-copy_bytes-end : goal.slice_bounds-copy_bytes-end
+slice_bounds-copy_bytes-end c = read_within _ _ _ _ c.read-part.ensures
 
 pub returns : goal.returns
-returns c = handed_all _ _ _ _ c.read-part.ensures _ _ (omega arith) c.copy_blocks.ensures
+returns c = handed_all _ _ _ _ c.read-part.ensures _ _ (omega arith) c.copy_bytes.ensures

@@ -1,6 +1,7 @@
-use Rattle.xdr.specs.Xdr.{be32}
+use mathlib.Core.Path.{◌∙◌}
+use native.Mathlib.Omega.{arith}
+use Rattle.xdr.proofs.Laws.{written, be32_is, length_be32}
 use Rattle.xdr.proofs.write_word.Goals as goal
 
 pub returns : goal.returns
-unfolding be32
-returns c = rw (← c.to_be_bytes.ensures) c.copy_bytes.ensures
+returns c = written _ _ _ _ _ (c.copy_from_slice.ensures.after ∙ c.to_be_bytes.ensures ∙ be32_is c.args.v) (rw length_be32 (omega arith))

@@ -1,7 +1,5 @@
 use mathlib.Core.Path.{◌∙◌, refl}
 use Rattle.std.proofs.Common.{rules}
-use native.Mathlib.Omega.{arith}
-use lib.Seq.{take-length}
 use Rattle.xdr.specs.Xdr.{be32s}
 use Rattle.xdr.proofs.Laws.{overlay_none, overlay_word}
 use Rattle.xdr.proofs.write_words.Goals as goal

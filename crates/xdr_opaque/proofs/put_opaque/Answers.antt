@@ -5,4 +5,4 @@ use Rattle.xdr_opaque.proofs.put_opaque.Goals as goal
 
 pub returns : goal.returns
 returns c = put_opaque _ _ _ _ _ _ _ _ c.write_word.ensures
-    c.copy_blocks.ensures c.zero_fill.ensures (omega arith) refl
+    c.copy_bytes.ensures c.zero_fill.ensures (omega arith) refl
