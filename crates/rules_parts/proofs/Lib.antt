@@ -1,4 +1,3 @@
--- `Changing` has what a changed part is, by its one field that is computed; `Ending` where a window ends.
-pub mod Changing
+-- `Ending` has where a window ends, `Addressing` which address types are wrong and which ends have a partner.
 pub mod Ending
 pub mod Addressing

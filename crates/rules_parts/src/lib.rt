@@ -12,26 +12,19 @@ pub mod types;
 pub use types::{Answer, Changer, Data, Login, Moved, Mover, Session, Tape};
 
 // A reason is told in its state only.
+#[tactic(auto, unfolding(crate::specs::Parts::told_in, xdr::specs::Choose::choose))]
 pub fn told_in(at: u32, state: u32, reason: u32) -> u32
     ensures { result ≡ told_in at state reason }
 {
-    if state == at {
-        return reason;
-    }
-    0
+    if state == at { reason } else { 0 }
 }
 
 // Whether an address type is neither LOCAL nor TCP, or is TCP where that is of no use.
+#[tactic(auto, unfolding(crate::specs::Parts::address_wrong, xdr::specs::Choose::choose))]
 pub fn is_address_wrong(address: u32, useless: bool) -> bool
     ensures { result ≡ address_wrong address useless }
 {
-    if address == codes::LOCAL_ADDRESS {
-        return false;
-    }
-    if address == codes::TCP_ADDRESS {
-        return useless;
-    }
-    true
+    address != codes::LOCAL_ADDRESS && (address != codes::TCP_ADDRESS || useless)
 }
 
 // The states of the data end, what it runs, and why it halts.
@@ -80,30 +73,24 @@ impl Data {
         Data {
             state: Data::ACTIVE,
             operation,
-            reason: self.reason,
-            address: self.address,
-            processed: self.processed,
+            ..self
         }
     }
 
     // Whether it is joined, with the mover or by TCP.
+    #[tactic(auto, unfolding(crate::specs::Parts::data_joined, xdr::specs::Choose::choose))]
     pub fn is_joined(self) -> bool
         ensures { result ≡ data_joined self.state }
     {
-        if self.state == Data::ACTIVE {
-            return true;
-        }
-        self.state == Data::CONNECTED
+        self.state == Data::ACTIVE || self.state == Data::CONNECTED
     }
 
     // Whether it is joined with the mover.
+    #[tactic(auto, unfolding(crate::specs::Parts::data_partnered, xdr::specs::Choose::choose))]
     pub fn is_partnered(self) -> bool
         ensures { result ≡ data_partnered self }
     {
-        if self.address == codes::LOCAL_ADDRESS {
-            return self.is_joined();
-        }
-        false
+        self.address == codes::LOCAL_ADDRESS && self.is_joined()
     }
 
     // Listens or is joined, by an address of a type.
@@ -112,10 +99,8 @@ impl Data {
     {
         Data {
             state,
-            operation: self.operation,
-            reason: self.reason,
             address,
-            processed: self.processed,
+            ..self
         }
     }
 
@@ -125,10 +110,8 @@ impl Data {
     {
         Data {
             state: Data::HALTED,
-            operation: self.operation,
             reason: why,
-            address: self.address,
-            processed: self.processed,
+            ..self
         }
     }
 
@@ -137,11 +120,8 @@ impl Data {
         ensures { result ≡ data_fed n self }
     {
         Data {
-            state: self.state,
-            operation: self.operation,
-            reason: self.reason,
-            address: self.address,
-            processed: std::num::wrapping_add_u64(self.processed, n),
+            processed: self.processed.wrapping_add(n),
+            ..self
         }
     }
 }
@@ -184,12 +164,13 @@ impl Mover {
     pub const FIRST_SIZE: u32 = 10240;
 
     // The last position of a stream, which no byte has.
-    pub const TOP: u64 = 18446744073709551615;
+    pub const TOP: u64 = u64::MAX;
 
     // The length of a window with no end.
-    pub const ENDLESS: u64 = 18446744073709551615;
+    pub const ENDLESS: u64 = u64::MAX;
 
     // Whether a part of the stream ends above 2^64 - 1. The sum itself would overflow.
+    #[tactic(auto, unfolding(crate::specs::Parts::is_past_top))]
     pub fn is_past_top(offset: u64, length: u64) -> bool
         ensures { result ≡ is_past_top offset length }
     {
@@ -197,68 +178,58 @@ impl Mover {
     }
 
     // Whether a window with this length is one that set window refuses.
+    #[tactic(auto, unfolding(crate::specs::Parts::length_wrong, xdr::specs::Choose::choose))]
     pub fn is_length_wrong(size: u32, offset: u64, length: u64) -> bool
         requires { 1 ≤ size }
         ensures { result ≡ length_wrong size offset length }
     {
-        if length == Mover::ENDLESS {
-            return false;
-        }
-        if length % size as u64 != 0 {
-            return true;
-        }
-        Mover::is_past_top(offset, length)
+        length != Mover::ENDLESS
+            && (length % size as u64 != 0 || Mover::is_past_top(offset, length))
     }
 
     // Where a window ends.
+    #[tactic(auto, using(crate::proofs::Ending::end_endless, crate::proofs::Ending::end_other))]
     pub fn window_end(offset: u64, length: u64) -> u64
         requires { window_end offset length ≤ top }
         ensures { result ≡ window_end offset length }
     {
         if length == Mover::ENDLESS {
-            return Mover::TOP;
+            Mover::TOP
+        } else {
+            offset + length
         }
-        offset + length
     }
 
     // Whether a mode goes to tape, and the tape cannot be written.
+    #[tactic(auto, unfolding(crate::specs::Parts::unwritable, xdr::specs::Choose::choose))]
     pub fn is_unwritable(mode: u32, writable: bool) -> bool
         ensures { result ≡ unwritable mode writable }
     {
-        if mode == Mover::TO_TAPE {
-            return !writable;
-        }
-        false
+        mode == Mover::TO_TAPE && !writable
     }
 
     // Whether a mover in a state holds the tape.
+    #[tactic(auto, unfolding(crate::specs::Parts::holds_tape, xdr::specs::Choose::choose))]
     pub fn holds_tape(state: u32) -> bool
         ensures { result ≡ holds_tape state }
     {
-        if state == Mover::LISTEN {
-            return true;
-        }
-        state == Mover::ACTIVE
+        state == Mover::LISTEN || state == Mover::ACTIVE
     }
 
     // Whether it is joined, with the data end or by TCP.
+    #[tactic(auto, unfolding(crate::specs::Parts::mover_joined, xdr::specs::Choose::choose))]
     pub fn is_joined(self) -> bool
         ensures { result ≡ mover_joined self.state }
     {
-        if self.state == Mover::ACTIVE {
-            return true;
-        }
-        self.state == Mover::PAUSED
+        self.state == Mover::ACTIVE || self.state == Mover::PAUSED
     }
 
     // Whether it is joined with the data end.
+    #[tactic(auto, unfolding(crate::specs::Parts::mover_partnered, xdr::specs::Choose::choose))]
     pub fn is_partnered(self) -> bool
         ensures { result ≡ mover_partnered self }
     {
-        if self.address == codes::LOCAL_ADDRESS {
-            return self.is_joined();
-        }
-        false
+        self.address == codes::LOCAL_ADDRESS && self.is_joined()
     }
 
     // Waits for its peer, in a mode, by an address of a type.
@@ -268,16 +239,8 @@ impl Mover {
         Mover {
             state: Mover::LISTEN,
             mode,
-            pause: self.pause,
-            halt: self.halt,
-            size: self.size,
             address,
-            offset: self.offset,
-            length: self.length,
-            moved: self.moved,
-            seek: self.seek,
-            left: self.left,
-            origin: self.origin,
+            ..self
         }
     }
 
@@ -289,15 +252,9 @@ impl Mover {
             state: Mover::ACTIVE,
             mode,
             pause: 0,
-            halt: self.halt,
-            size: self.size,
             address,
-            offset: self.offset,
-            length: self.length,
-            moved: self.moved,
-            seek: self.seek,
-            left: self.left,
             origin: position,
+            ..self
         }
     }
 
@@ -307,17 +264,10 @@ impl Mover {
     {
         Mover {
             state: Mover::PAUSED,
-            mode: self.mode,
             pause: why,
-            halt: self.halt,
-            size: self.size,
-            address: self.address,
             offset: 0,
             length: 0,
-            moved: self.moved,
-            seek: self.seek,
-            left: self.left,
-            origin: self.origin,
+            ..self
         }
     }
 
@@ -327,17 +277,9 @@ impl Mover {
     {
         Mover {
             state: Mover::HALTED,
-            mode: self.mode,
             pause: 0,
             halt: why,
-            size: self.size,
-            address: self.address,
-            offset: self.offset,
-            length: self.length,
-            moved: self.moved,
-            seek: self.seek,
-            left: self.left,
-            origin: self.origin,
+            ..self
         }
     }
 
@@ -346,18 +288,9 @@ impl Mover {
         ensures { result ≡ mover_window offset length self }
     {
         Mover {
-            state: self.state,
-            mode: self.mode,
-            pause: self.pause,
-            halt: self.halt,
-            size: self.size,
-            address: self.address,
             offset,
             length,
-            moved: self.moved,
-            seek: self.seek,
-            left: self.left,
-            origin: self.origin,
+            ..self
         }
     }
 
@@ -366,18 +299,10 @@ impl Mover {
         ensures { result ≡ mover_size size self }
     {
         Mover {
-            state: self.state,
-            mode: self.mode,
-            pause: self.pause,
-            halt: self.halt,
             size,
-            address: self.address,
             offset: 0,
             length: 0,
-            moved: self.moved,
-            seek: self.seek,
-            left: self.left,
-            origin: self.origin,
+            ..self
         }
     }
 
@@ -385,20 +310,7 @@ impl Mover {
     pub fn seeks(self, seek: u64, left: u64) -> Mover
         ensures { result ≡ mover_seeks seek left self }
     {
-        Mover {
-            state: self.state,
-            mode: self.mode,
-            pause: self.pause,
-            halt: self.halt,
-            size: self.size,
-            address: self.address,
-            offset: self.offset,
-            length: self.length,
-            moved: self.moved,
-            seek,
-            left,
-            origin: self.origin,
-        }
+        Mover { seek, left, ..self }
     }
 
     // Has moved one record to tape.
@@ -406,18 +318,8 @@ impl Mover {
         ensures { result ≡ mover_records self }
     {
         Mover {
-            state: self.state,
-            mode: self.mode,
-            pause: self.pause,
-            halt: self.halt,
-            size: self.size,
-            address: self.address,
-            offset: self.offset,
-            length: self.length,
-            moved: std::num::wrapping_add_u64(self.moved, self.size as u64),
-            seek: self.seek,
-            left: self.left,
-            origin: self.origin,
+            moved: self.moved.wrapping_add(self.size as u64),
+            ..self
         }
     }
 
@@ -427,18 +329,10 @@ impl Mover {
         ensures { result ≡ mover_hands n self }
     {
         Mover {
-            state: self.state,
-            mode: self.mode,
-            pause: self.pause,
-            halt: self.halt,
-            size: self.size,
-            address: self.address,
-            offset: self.offset,
-            length: self.length,
-            moved: std::num::wrapping_add_u64(self.moved, n),
+            moved: self.moved.wrapping_add(n),
             seek: self.seek + n,
             left: self.left - n,
-            origin: self.origin,
+            ..self
         }
     }
 
@@ -478,8 +372,8 @@ impl Login {
         let challenge = self.challenge;
         Login {
             authorized: true,
-            challenged: self.challenged,
             challenge,
+            ..self
         }
     }
 
@@ -488,9 +382,9 @@ impl Login {
         ensures { result ≡ challenged_by challenge.now self }
     {
         Login {
-            authorized: self.authorized,
             challenged: true,
             challenge: *challenge,
+            ..self
         }
     }
 }
@@ -500,13 +394,12 @@ impl Changer {
     pub fn cleared(self, opened: bool) -> Changer
         ensures { result ≡ clear_changer opened self }
     {
-        let slots = self.slots;
         Changer {
             opened,
             key: 0,
             code: 0,
             qualifier: 0,
-            slots,
+            ..self
         }
     }
 
@@ -514,13 +407,11 @@ impl Changer {
     pub fn refused(self, key: u8, code: u8, qualifier: u8) -> Changer
         ensures { result ≡ changer_refused key code qualifier self }
     {
-        let slots = self.slots;
         Changer {
-            opened: self.opened,
             key,
             code,
             qualifier,
-            slots,
+            ..self
         }
     }
 
@@ -528,13 +419,7 @@ impl Changer {
     pub fn holds(self, slots: [u32; 9]) -> Changer
         ensures { result ≡ changer_holds slots self }
     {
-        Changer {
-            opened: self.opened,
-            key: self.key,
-            code: self.code,
-            qualifier: self.qualifier,
-            slots,
-        }
+        Changer { slots, ..self }
     }
 }
 
@@ -582,23 +467,60 @@ impl Session {
         next
     }
 
+    // The session with another login.
+    pub fn with_login(self, login: Login) -> Session
+        ensures { result ≡ with_parts self login self.source self.mover self.tape self.changer }
+    {
+        Session { login, ..self }
+    }
+
+    // The session with another data end.
+    pub fn with_source(self, source: Data) -> Session
+        ensures { result ≡ with_parts self self.login source self.mover self.tape self.changer }
+    {
+        Session { source, ..self }
+    }
+
+    // The session with another mover.
+    pub fn with_mover(self, mover: Mover) -> Session
+        ensures { result ≡ with_parts self self.login self.source mover self.tape self.changer }
+    {
+        Session { mover, ..self }
+    }
+
+    // The session with another tape device.
+    pub fn with_tape(self, tape: Tape) -> Session
+        ensures { result ≡ with_parts self self.login self.source self.mover tape self.changer }
+    {
+        Session { tape, ..self }
+    }
+
+    // The session with another changer device.
+    pub fn with_changer(self, changer: Changer) -> Session
+        ensures { result ≡ with_parts self self.login self.source self.mover self.tape changer }
+    {
+        Session { changer, ..self }
+    }
+
     // The session after one message sent, with the first-request mark as told.
     pub fn after_message(self, first: bool) -> Session
         ensures { result ≡ after_message self first }
     {
-        let mut next = self;
-        next.first = first;
-        next.sequence = std::num::wrapping_add_u32(self.sequence, 1);
-        next
+        Session {
+            first,
+            sequence: self.sequence.wrapping_add(1),
+            ..self
+        }
     }
 
     // The session closed.
     pub fn shuts(self) -> Session
         ensures { result ≡ shut self }
     {
-        let mut next = self;
-        next.closed = true;
-        next
+        Session {
+            closed: true,
+            ..self
+        }
     }
 }
 

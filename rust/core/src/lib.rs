@@ -7,8 +7,6 @@ mod types {
     include!("../../../crates/rules_parts/src/types.rt");
 }
 
-use std::fmt;
-
 pub use types::{Answer, Changer, Data, Login, Moved, Mover, Session, Tape};
 
 /// The least output that the calls take.
@@ -22,34 +20,6 @@ pub type Challenge = [u8; codes::CHALLENGE_LENGTH];
 
 /// The cartridge in each place of the changer: the drive first, then the slots 16 to 23. 0 is none.
 pub type Slots = [u32; 9];
-
-/// The declarations derive Clone and Copy alone, so what else is needed of them stands here, field by field.
-macro_rules! by_value {
-    ($($t:ident { $($f:ident),* })*) => { $(
-        impl PartialEq for $t {
-            fn eq(&self, other: &Self) -> bool {
-                let $t { $($f),* } = self;
-                $(*$f == other.$f)&&*
-            }
-        }
-        impl fmt::Debug for $t {
-            fn fmt(&self, f: &mut fmt::Formatter) -> fmt::Result {
-                f.debug_struct(stringify!($t))$(.field(stringify!($f), &self.$f))*.finish()
-            }
-        }
-    )* };
-}
-
-by_value! {
-    Data { state, operation, reason, address, processed }
-    Mover { state, mode, pause, halt, size, address, offset, length, moved, seek, left, origin }
-    Tape { opened, writable, position }
-    Changer { opened, key, code, qualifier, slots }
-    Login { authorized, challenged, challenge }
-    Session { closed, first, login, sequence, source, mover, tape, changer }
-    Answer { code, len, session }
-    Moved { code, count, len, session }
-}
 
 unsafe extern "C" {
     fn mossgoblin_open(slots: *const Slots, time: u32, out: *mut u8, n: usize) -> Answer;
