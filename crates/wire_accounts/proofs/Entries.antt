@@ -11,10 +11,10 @@ use borrow.Author.Tests.{eqb-true, leb-true}
 use Rattle.codes.specs.Codes.{text_auth, md5_auth, most_accounts}
 use Rattle.xdr.specs.Xdr.{word}
 use Rattle.xdr.proofs.Tests.{by_test}
+use Rattle.std.specs.Prelude.{Option, Some, None}
 use Rattle.xdr_opaque.specs.Opaque.{opaque_at}
 use Rattle.xdr_opaque.specs.Put.{Each}
 use Rattle.xdr_opaque.specs.declared.Opaque.{Opaque}
-use Rattle.xdr_opaque.specs.declared.Opaque.TheVariants.{At, Bad}
 use Rattle.wire_accounts.specs.Accounts.{AccountEntry, AccountRead, found, none, Accounts, these, broken, entries_of, entries_in}
 use Rattle.wire_accounts.specs.Accounts.{is_kind, with_password, with_id, account_at, with_account, and_then, accounts_from, accounts_in}
 use Rattle.wire_accounts.specs.Written.{Marked}
@@ -35,15 +35,15 @@ mark_is kind h =
     (λ k _. inl (eqb-true _ _ k)) (λ _ k. inr (eqb-true _ _ k)) h
 
 module _ (b : List ℕ) (kind : ℕ) (h : is_kind kind ≡ true) where
-  password_marked : (id : List ℕ) (o : Opaque) → MarkedRead (with_password b kind id o)
+  password_marked : (id : List ℕ) (o : Option Opaque) → MarkedRead (with_password b kind id o)
   unfolding MarkedRead with_password
-  password_marked id (At start len next) = mark_is kind h
-  password_marked id Bad = tt
+  password_marked id (Some o) = mark_is kind h
+  password_marked id None = tt
 
-  id_marked : (o : Opaque) → MarkedRead (with_id b kind o)
+  id_marked : (o : Option Opaque) → MarkedRead (with_id b kind o)
   unfolding MarkedRead with_id
-  id_marked (At start len next) = password_marked _ (opaque_at b next)
-  id_marked Bad = tt
+  id_marked (Some o) = password_marked _ (opaque_at b o.next)
+  id_marked None = tt
 
 read_marked : (b : List ℕ) (at : ℕ) → MarkedRead (account_at b at)
 unfolding MarkedRead account_at

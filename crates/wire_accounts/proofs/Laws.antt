@@ -7,11 +7,12 @@ use native.Mathlib.Omega.{arith}
 use lib.Dec.{eqb, leb}
 use lib.ListN.{length, take, drop, length-take, length-drop}
 use borrow.Author.Tests.{le-leb, lt-leb, leb-true, eq-eqb, ne_eqb}
+use Rattle.std.specs.Prelude.{Some, None}
 use Rattle.codes.specs.Codes.{most_accounts, longest_password}
 use Rattle.xdr.specs.Choose.{choose}
 use Rattle.xdr.specs.Xdr.{word, same_bytes}
 use Rattle.xdr_opaque.specs.Opaque.{opaque_at}
-use Rattle.xdr_opaque.specs.declared.Opaque.TheVariants.{At, Bad}
+use Rattle.xdr_opaque.specs.declared.Opaque.{Opaque}
 use Rattle.xdr_opaque.proofs.Laws.{opaque_read, opaque_within}
 use Rattle.md5_digest.specs.Login.{login_digest}
 use Rattle.wire_accounts.specs.Accounts.{AccountEntry, Accounts, none, these, broken}
@@ -37,33 +38,33 @@ module _ (b : List ℕ) (at : ℕ) where
     absent : account_at b at ≡ none → AccountAt b at a
     absent e = subst (AccountAt b at) (sym z) (missing e)
 
-    pub no_id : Bad ≡ opaque_at b (at + 4) → AccountAt b at a
+    pub no_id : None ≡ opaque_at b (at + 4) → AccountAt b at a
     unfolding account_at with_id
     no_id e = absent (rw (← e) (either (is_kind (word b at))))
 
-    pub no_password : (i m k : ℕ) → At i m k ≡ opaque_at b (at + 4) → Bad ≡ opaque_at b k → AccountAt b at a
+    pub no_password : (o : Opaque) → Some o ≡ opaque_at b (at + 4) → None ≡ opaque_at b o.next → AccountAt b at a
     unfolding account_at with_id with_password
-    no_password i m k e f = absent (rw (← e, ← f) (either (is_kind (word b at))))
+    no_password o e f = absent (rw (← e, ← f) (either (is_kind (word b at))))
 
     pub no_kind : (n : ℕ) → n ≡ word b at → is_kind n ≡ false → AccountAt b at a
     unfolding account_at choose
     no_kind n e h = let g : is_kind (word b at) ≡ false = rw e at h in absent (rw g)
 
   -- an id stands behind a kind
-  pub kind_there : (i m k : ℕ) → At i m k ≡ opaque_at b (at + 4) → at + 4 ≤ length b
-  kind_there i m k e =
-      let r = opaque_read b (at + 4) i m k e in
-      let w = opaque_within b (at + 4) i m k e in
+  pub kind_there : (o : Opaque) → Some o ≡ opaque_at b (at + 4) → at + 4 ≤ length b
+  kind_there o e =
+      let r = opaque_read b (at + 4) o e in
+      let w = opaque_within b (at + 4) o e in
       omega (arith, r.start, w.0, w.1)
 
-  pub account_there : (n i m k s l x : ℕ) → n ≡ word b at → is_kind n ≡ true → At i m k ≡ opaque_at b (at + 4) → At s l x ≡ opaque_at b k
-      → AccountAt b at (record { kind = n; id = record { start = i; len = m }; password = record { start = s; len = l }; next = x })
+  pub account_there : (n : ℕ) (o o' : Opaque) → n ≡ word b at → is_kind n ≡ true → Some o ≡ opaque_at b (at + 4) → Some o' ≡ opaque_at b o.next
+      → AccountAt b at (record { kind = n; id = record { start = o.start; len = o.len }; password = record { start = o'.start; len = o'.len }; next = o'.next })
   unfolding account_at with_id with_password placed choose
-  account_there n i m k s l x e h f g =
-      let u = opaque_within b (at + 4) i m k f in
-      let v = opaque_within b k s l x g in
-      let r = opaque_read b k s l x g in
-      let z : eqb x 0 ≡ false = ne_eqb x 0 (λ q. omega (arith, r.next, q)) in
+  account_there n o o' e h f g =
+      let u = opaque_within b (at + 4) o f in
+      let v = opaque_within b o.next o' g in
+      let r = opaque_read b o.next o' g in
+      let z : eqb o'.next 0 ≡ false = ne_eqb o'.next 0 (λ q. omega (arith, r.next, q)) in
       record {
         is = rw (← e, h, ← f, ← g, z);
         id = record { ends = omega (arith, u.0, u.1) };

@@ -1,13 +1,12 @@
 -- The accounts that a host lends (02 No. 2): "The accounts grow to eight, each marked text or MD5". The layout of the
 -- buffer is ours, and is XDR (RFC 4506): a count, and of each account its kind, as 004 numbers auth types, its id and its
 -- password, both strings. "Account stores still holding text entries are read without complaint" (02 No. 10).
-use Rattle.std.specs.Prelude.{ℕ, zero, suc, ◌+◌, Bool, true, false, List, [], ◌∷◌, eqb, leb, length, take, drop}
+use Rattle.std.specs.Prelude.{ℕ, zero, suc, ◌+◌, Bool, true, false, List, [], ◌∷◌, eqb, leb, length, take, drop, Option, Some, None}
 use Rattle.codes.specs.Codes.{text_auth, md5_auth, most_accounts, longest_password}
 use Rattle.xdr.specs.Choose.{choose}
 use Rattle.xdr.specs.Xdr.{word, same_bytes}
 use Rattle.xdr_opaque.specs.Opaque.{opaque_at}
 use Rattle.xdr_opaque.specs.declared.Opaque.{Opaque}
-use Rattle.xdr_opaque.specs.declared.Opaque.TheVariants.{At, Bad}
 use Rattle.md5_digest.specs.Login.{login_digest}
 
 pub record AccountEntry : Type 0 where
@@ -23,13 +22,13 @@ pub data AccountRead : Type 0 where
 unfoldable pub is_kind : ℕ → Bool
 is_kind kind = choose (eqb kind text_auth) true (eqb kind md5_auth)
 
-unfoldable pub with_password : List ℕ → ℕ → List ℕ → Opaque → AccountRead
-with_password b kind id (At start len next) = found (record { kind = kind; id = id; password = take len (drop start b) }) next
-with_password b kind id Bad = none
+unfoldable pub with_password : List ℕ → ℕ → List ℕ → Option Opaque → AccountRead
+with_password b kind id (Some o) = found (record { kind = kind; id = id; password = take o.len (drop o.start b) }) o.next
+with_password b kind id None = none
 
-unfoldable pub with_id : List ℕ → ℕ → Opaque → AccountRead
-with_id b kind (At start len next) = with_password b kind (take len (drop start b)) (opaque_at b next)
-with_id b kind Bad = none
+unfoldable pub with_id : List ℕ → ℕ → Option Opaque → AccountRead
+with_id b kind (Some o) = with_password b kind (take o.len (drop o.start b)) (opaque_at b o.next)
+with_id b kind None = none
 
 -- the account at an offset, and the offset behind it
 unfoldable pub account_at : List ℕ → ℕ → AccountRead

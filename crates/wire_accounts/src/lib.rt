@@ -9,7 +9,7 @@ ghost use Rattle.wire_accounts.specs.Place.{bytes_of, entry_of, no_account, Stre
 ghost use Rattle.wire_accounts.specs.Cases.{AccountCases};
 ghost use Rattle.wire_accounts.specs.Holds.{AccountsHold};
 
-use xdr_opaque::{Opaque, opaque_at};
+use xdr_opaque::opaque_at;
 
 // A part of the buffer.
 #[derive(Clone, Copy)]
@@ -53,15 +53,10 @@ pub fn account_at(accounts: &[u8], at: usize) -> AccountPlace
     requires { at ≤ length accounts.now }
     ensures { AccountAt accounts.now at result }
 {
-    let Opaque::At {
-        start: id,
-        len: size,
-        next: behind,
-    } = opaque_at(accounts, at + 4)
-    else {
+    let Some(id) = opaque_at(accounts, at + 4) else {
         return no_account();
     };
-    let Opaque::At { start, len, next } = opaque_at(accounts, behind) else {
+    let Some(password) = opaque_at(accounts, id.next) else {
         return no_account();
     };
     let kind = xdr::read_word(accounts, at);
@@ -71,11 +66,14 @@ pub fn account_at(accounts: &[u8], at: usize) -> AccountPlace
     AccountPlace {
         kind,
         id: Stretch {
-            start: id,
-            len: size,
+            start: id.start,
+            len: id.len,
         },
-        password: Stretch { start, len },
-        next,
+        password: Stretch {
+            start: password.start,
+            len: password.len,
+        },
+        next: password.next,
     }
 }
 

@@ -10,8 +10,8 @@ use borrow.Author.Tests.{leb-false, ne_eqb}
 use Rattle.codes.specs.Codes.{tcp_address}
 use Rattle.xdr.specs.Xdr as xdr
 use Rattle.xdr.proofs.Tests.{by_test}
+use Rattle.std.specs.Prelude.{Some, None}
 use Rattle.xdr_opaque.specs.Opaque as o
-use Rattle.xdr_opaque.specs.declared.Word.TheVariants as Word
 use Rattle.xdr_opaque.proofs.Fields.{From, word_is}
 use Rattle.xdr_opaque.proofs.Laws.{word_within, word_missing}
 use Rattle.wire_layouts.specs.AddressLists.{is_tcp}
@@ -30,10 +30,10 @@ module _ (b : List ℕ) (at : ℕ) where
       by_test (λ t. t ≡ eqb (xdr.word b at) tcp_address) (leb (at + 4) (length b)) (eqb (xdr.word b at) tcp_address) false (λ e. refl)
       (λ e. cut_short b at (leb-false _ _ e))
 
-  pub type_found : (v : ℕ) → Word.Value v ≡ o.word_at b at → eqb v tcp_address ≡ is_tcp b at
+  pub type_found : (v : ℕ) → Some v ≡ o.word_at b at → eqb v tcp_address ≡ is_tcp b at
   type_found v e = sym (type_judged ∙ ap (λ (w : ℕ). eqb w tcp_address) (sym (word_within b at v e).1))
 
-  pub type_missing : Word.Short ≡ o.word_at b at → false ≡ is_tcp b at
+  pub type_missing : None ≡ o.word_at b at → false ≡ is_tcp b at
   type_missing e = cut_short b at (word_missing b at e) ∙ sym type_judged
 
 -- of a body that was written

@@ -1,24 +1,22 @@
 -- A body that decodes to its end is what its fields are written as, so that it has no second spelling. Assumes nothing.
 use Prim.Native.Nat.{ℕ, zero, suc, ◌+◌, ◌-◌, ◌*◌, ◌/◌, ◌%◌, ◌^◌, ◌≤◌, ◌<◌}
-use mathlib.Core.Bool.{Bool, true, false}
 use mathlib.Core.Path.{◌≡◌, refl, sym, ap, ◌∙◌}
 use mathlib.Core.List.{List, [], ◌∷◌, ◌++◌, map, flat_map, append_assoc, append-nil}
 use native.Mathlib.Omega.{arith}
-use lib.ListN.{length, take, drop, get_or, replicate, length-take, length-drop, take-append-drop, drop_of_length-le}
+use lib.ListN.{length, take, drop, get_or, replicate, length-drop, take-append-drop, drop_of_length-le}
 use lib.Seq.{drop-cons, drop-drop, length-take-le}
 use lib.Dec.{eqb, leb}
 use borrow.Author.Tests.{leb-true, eqb-true}
-use Rattle.xdr.specs.Choose.{choose}
 use Rattle.codes.specs.Codes.{most_port, digest_length}
 use Rattle.xdr.specs.Xdr as xdr
 use Rattle.xdr.proofs.Tests.{by_test}
-use Rattle.xdr_opaque.specs.Opaque.{opaque_at, between, filled, all_zero}
+use Rattle.std.specs.Prelude.{Option, Some, None}
+use Rattle.xdr_opaque.specs.Opaque.{opaque_at, between}
 use Rattle.xdr_opaque.specs.Put.{opaque, fill}
 use Rattle.xdr_opaque.specs.declared.Opaque.{Opaque}
-use Rattle.xdr_opaque.specs.declared.Opaque.TheVariants as Opaque
 use Rattle.xdr_opaque.proofs.Laws.{Found, opaque_read, zero_is, filled_fill}
-use Rattle.wire_layouts.specs.Layout.{Part, word, hyper, text, port, digest, Field, one, many, lists, tag, never, Item, four, eight, bytes, Value, value, item_bytes, value_bytes, write_as}
-use Rattle.wire_layouts.specs.Layout.{Piece, piece, short, place, piece_of, part_at, Got, got, cut, prepend, and_part, and_got, parts_at, times_at, FieldGot, field_got, stop, bad}
+use Rattle.wire_layouts.specs.Layout.{Part, word, hyper, text, port, digest, Field, one, many, lists, tag, never, Item, value, item_bytes, write_as}
+use Rattle.wire_layouts.specs.Layout.{Piece, piece, short, piece_of, part_at, Got, got, cut, prepend, and_part, and_got, parts_at, times_at, FieldGot, field_got, stop, bad}
 use Rattle.wire_layouts.specs.Layout.{single, counted, list_at, items_of, element_at, field_at, Read, whole, before, broken, and_value, and_read, read_fields}
 use Rattle.wire_layouts.specs.Laws.{Bytes, content, contents, Spelled, FieldsOneSpelling}
 use Rattle.wire_layouts.specs.declared.Text.{Text}
@@ -72,20 +70,20 @@ hyper_spelled l h at k =
     let k₂ : at + 4 + 4 ≤ length l = omega arith in
     rw (e₁, e₂, append_assoc, ← f, ← word_spelled l h (at + 4) k₂) (word_spelled l h at k₁)
 
-text_spelled : (l : List ℕ) → Bytes l → (at s n x : ℕ) → Found l at s n x → drop at l ≡ opaque (take n (drop s l)) ++ drop x l
+text_spelled : (l : List ℕ) → Bytes l → (at : ℕ) (o : Opaque) → Found l at o → drop at l ≡ opaque (take o.len (drop o.start l)) ++ drop o.next l
 unfolding opaque
-text_spelled l h at s n x w =
-    let g = filled_fill n in
+text_spelled l h at o w =
+    let g = filled_fill o.len in
     let k : at + 4 ≤ length l = omega (arith, w.start, w.len, w.next, w.within) in
-    let m : length (take n (drop s l)) ≡ n = length-take-le n (drop s l) (simp length-drop (omega (arith, w.start, w.next, w.within))) in
-    let e : x - (s + n) ≡ fill n = omega (arith, w.start, w.next) in
-    let i : length (between (s + n) x l) ≡ fill n = length-take-le (x - (s + n)) (drop (s + n) l) (simp length-drop (omega (arith, w.start, w.next, w.within))) ∙ e in
-    let z : between (s + n) x l ≡ replicate (fill n) 0 = zero_is (between (s + n) x l) w.zero ∙ ap (λ (j : ℕ). replicate j 0) i in
-    let y : s + n + (x - (s + n)) ≡ x = omega (arith, w.start, w.next) in
-    let p₁ : drop at l ≡ xdr.be32 n ++ drop s l = rw (w.len, w.start) (word_spelled l h at k) in
-    let p₂ : drop s l ≡ take n (drop s l) ++ drop (s + n) l = split s n l in
-    let p₃ : drop (s + n) l ≡ replicate (fill n) 0 ++ drop x l = split (s + n) (x - (s + n)) l ∙ rw (y, z) in
-    p₁ ∙ ap (λ (r : List ℕ). xdr.be32 n ++ r) (p₂ ∙ ap (λ (r : List ℕ). take n (drop s l) ++ r) p₃) ∙ sym (rw (m) (simp append_assoc))
+    let m : length (take o.len (drop o.start l)) ≡ o.len = length-take-le o.len (drop o.start l) (simp length-drop (omega (arith, w.start, w.next, w.within))) in
+    let e : o.next - (o.start + o.len) ≡ fill o.len = omega (arith, w.start, w.next) in
+    let i : length (between (o.start + o.len) o.next l) ≡ fill o.len = length-take-le (o.next - (o.start + o.len)) (drop (o.start + o.len) l) (simp length-drop (omega (arith, w.start, w.next, w.within))) ∙ e in
+    let z : between (o.start + o.len) o.next l ≡ replicate (fill o.len) 0 = zero_is (between (o.start + o.len) o.next l) w.zero ∙ ap (λ (j : ℕ). replicate j 0) i in
+    let y : o.start + o.len + (o.next - (o.start + o.len)) ≡ o.next = omega (arith, w.start, w.next) in
+    let p₁ : drop at l ≡ xdr.be32 o.len ++ drop o.start l = rw (w.len, w.start) (word_spelled l h at k) in
+    let p₂ : drop o.start l ≡ take o.len (drop o.start l) ++ drop (o.start + o.len) l = split o.start o.len l in
+    let p₃ : drop (o.start + o.len) l ≡ replicate (fill o.len) 0 ++ drop o.next l = split (o.start + o.len) (o.next - (o.start + o.len)) l ∙ rw (y, z) in
+    p₁ ∙ ap (λ (r : List ℕ). xdr.be32 o.len ++ r) (p₂ ∙ ap (λ (r : List ℕ). take o.len (drop o.start l) ++ r) p₃) ∙ sym (rw (m) (simp append_assoc))
 
 -- ---- what a result of the reader says of the body: from `at` on stand the items as they are written, and then what follows
 module _ (b : List ℕ) where
@@ -116,10 +114,10 @@ module _ (b : List ℕ) where
   written_append (i ∷ is) js = ap (λ (r : List ℕ). item_bytes (content b i) ++ r) (written_append is js) ∙ sym (append_assoc (item_bytes (content b i)) (written is) (written js))
 
   module _ (h : Bytes b) where
-    found_spelled : (at : ℕ) (o : Opaque) → o ≡ opaque_at b at → PieceSpelled at (piece_of o)
+    found_spelled : (at : ℕ) (r : Option Opaque) → r ≡ opaque_at b at → PieceSpelled at (piece_of r)
     unfolding PieceSpelled piece_of
-    found_spelled at (Opaque.At s n x) e = text_spelled b h at s n x (opaque_read b at s n x e)
-    found_spelled at Opaque.Bad e = tt
+    found_spelled at (Some o) e = text_spelled b h at o (opaque_read b at o e)
+    found_spelled at None e = tt
 
     part_spelled : (p : Part) (at : ℕ) → PieceSpelled at (part_at p b at)
     unfolding PieceSpelled part_at

@@ -1,19 +1,18 @@
 -- The texts that a scan keeps lie within the body. Assumes nothing.
 use Prim.Native.Nat.{ℕ, zero, suc, ◌+◌, ◌≤◌}
 use mathlib.Core.Bool.{Bool, true, false}
-use mathlib.Core.Path.{◌≡◌, refl, ap, ◌∙◌}
+use mathlib.Core.Path.{◌≡◌, refl, ◌∙◌}
 use mathlib.Core.List.{List, [], ◌∷◌}
 use native.Mathlib.Omega.{arith}
 use lib.ListN.{length, get_or, set, replicate, length-set}
 use lib.Dec.{eqb, leb}
 use borrow.Author.Tests.{leb-true}
-use Rattle.xdr.specs.Choose.{choose}
 use Rattle.codes.specs.Codes.{most_port, digest_length}
 use Rattle.xdr.specs.Xdr as xdr
 use Rattle.xdr.proofs.Tests.{by_test}
+use Rattle.std.specs.Prelude.{Option, Some, None}
 use Rattle.xdr_opaque.specs.Opaque.{opaque_at}
 use Rattle.xdr_opaque.specs.declared.Opaque.{Opaque}
-use Rattle.xdr_opaque.specs.declared.Opaque.TheVariants as Opaque
 use Rattle.xdr_opaque.proofs.Laws.{opaque_within}
 use Rattle.wire_layouts.specs.Layout.{Part, word, hyper, text, port, digest, Field, one, many, lists, tag, never, Item, four, eight, bytes, fixed, Value, value, Piece, piece, short, piece_of, part_at}
 use Rattle.wire_layouts.specs.Layout.{Got, got, cut, parts_at, times_at, FieldGot, field_got, stop, bad, single, counted, list_at, element_at, field_at, Read, whole, before, broken, and_value, and_read, read_fields}
@@ -82,10 +81,10 @@ module _ (b : List ℕ) where
   puts_in i [] k h t = t
   puts_in i (v ∷ vs) k h t = puts_in (suc i) vs (put i v.first k) h.1 (put_in i v.first k h.0 t)
 
-  found_in : (at : ℕ) (r : Opaque) → r ≡ opaque_at b at → PieceIn (piece_of r)
+  found_in : (at : ℕ) (r : Option Opaque) → r ≡ opaque_at b at → PieceIn (piece_of r)
   unfolding PieceIn ItemIn piece_of
-  found_in at (Opaque.At s n x) e = let w = opaque_within b at s n x e in omega arith
-  found_in at Opaque.Bad e = tt
+  found_in at (Some o) e = let w = opaque_within b at o e in omega arith
+  found_in at None e = tt
 
   part_in : (p : Part) (at : ℕ) → PieceIn (part_at p b at)
   unfolding PieceIn ItemIn part_at

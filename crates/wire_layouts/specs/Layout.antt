@@ -1,5 +1,5 @@
 -- Layouts of bodies as data, the one reader of them, and the one writer (RFC 4506).
-use Rattle.std.specs.Prelude.{ℕ, zero, suc, ◌+◌, length, eqb, leb}
+use Rattle.std.specs.Prelude.{ℕ, zero, suc, ◌+◌, length, eqb, leb, Option, Some, None}
 use mathlib.Core.List.{List, [], ◌∷◌, ◌++◌, flat_map}
 use Rattle.codes.specs.Codes.{most_port, digest_length}
 use Rattle.xdr.specs.Choose.{choose}
@@ -7,7 +7,6 @@ use Rattle.xdr.specs.Xdr as xdr
 use Rattle.xdr_opaque.specs.Opaque.{opaque_at}
 use Rattle.xdr_opaque.specs.Put.{opaque}
 use Rattle.xdr_opaque.specs.declared.Opaque.{Opaque}
-use Rattle.xdr_opaque.specs.declared.Opaque.TheVariants as Opaque
 use Rattle.wire_layouts.specs.declared.Text.{Text}
 
 -- ---- what a layout is made of: a port is an unsigned short, which takes a whole word; a digest is 16 bytes with no length before them, which
@@ -65,9 +64,9 @@ pub data Piece : Type 0 where
 abbrev pub place : ℕ → ℕ → Text
 place s n = record { start = s; len = n }
 
-unfoldable pub piece_of : Opaque → Piece
-piece_of (Opaque.At s n x) = piece (bytes (place s n)) x
-piece_of Opaque.Bad = short
+unfoldable pub piece_of : Option Opaque → Piece
+piece_of (Some o) = piece (bytes (place o.start o.len)) o.next
+piece_of None = short
 
 unfoldable pub part_at : Part → List ℕ → ℕ → Piece
 part_at word b at = choose (leb (at + 4) (length b)) (piece (four (xdr.word b at)) (at + 4)) short

@@ -1,7 +1,7 @@
 -- How long what 0x404 gives can be: the pairs of a store that is laid out so, and the separator's pair. Assumes nothing.
 use Prim.Native.Nat.{ℕ, zero, suc, ◌+◌, ◌*◌, ◌≤◌}
 use mathlib.Core.Bool.{Bool, true, false}
-use mathlib.Core.Path.{◌≡◌, refl, sym, ap, ◌∙◌}
+use mathlib.Core.Path.{◌≡◌, refl, ap}
 use mathlib.Core.List.{List, [], ◌∷◌, ◌++◌}
 use native.Mathlib.Omega.{arith}
 use lib.Dec.{eqb, leb}
@@ -14,7 +14,7 @@ use Rattle.xdr.proofs.Tests.{by_test}
 use Rattle.xdr_opaque.specs.Put.{opaque}
 use Rattle.xdr_opaque.proofs.Laws.{length_opaque}
 use Rattle.wire_pairs.specs.Pairs.{Pair, pair, separator_name, separator, is_named, with_separator, pair_bytes}
-use Rattle.wire_pairs.specs.Store.{laid_from, is_laid, pair_at, kept_from, kept_pairs, environment_of}
+use Rattle.wire_pairs.specs.Store.{laid_from, is_laid, kept_from, kept_pairs, environment_of}
 
 -- both of two tests hold
 both : (a b : Bool) → choose a b false ≡ true → (a ≡ true) × (b ≡ true)

@@ -7,13 +7,14 @@ use native.Mathlib.Omega.{arith}
 use lib.Dec.{eqb, leb}
 use lib.ListN.{length, take, drop, length-append}
 use borrow.Author.Tests.{le-leb, lt-leb, leb-true, eq-eqb, ne_eqb}
+use Rattle.std.specs.Prelude.{Some, None}
 use Rattle.codes.specs.Codes.{most_listed, store_length}
 use Rattle.xdr.specs.Choose.{choose}
 use Rattle.xdr.specs.Xdr.{be32, be32s, word, overlay}
 use Rattle.xdr.proofs.Tests.{if_so}
 use Rattle.xdr.proofs.Laws.{more, overlay_none, length_be32, length_be32s}
 use Rattle.xdr_opaque.specs.Opaque.{opaque_at}
-use Rattle.xdr_opaque.specs.declared.Opaque.TheVariants.{At, Bad}
+use Rattle.xdr_opaque.specs.declared.Opaque.{Opaque}
 use Rattle.wire_pairs.specs.Pairs.{Pair, pair, text_in, behind, pairs_from, text_at, next_at}
 use Rattle.wire_pairs.specs.Store.{pair_words, pair_texts, store_bytes, storing, text_bytes, fits, laid_from, is_laid}
 
@@ -72,11 +73,11 @@ module _ (s : List ℕ) where
 -- ---- the pairs of a body
 -- the text that a reader found at an offset
 module _ (b : List ℕ) (at : ℕ) where
-  pub text_read : (s n x : ℕ) → At s n x ≡ opaque_at b at → (take n (drop s b) ≡ text_at b at) × (x ≡ next_at b at)
+  pub text_read : (o : Opaque) → Some o ≡ opaque_at b at → (take o.len (drop o.start b) ≡ text_at b at) × (o.next ≡ next_at b at)
   unfolding text_in behind
-  text_read s n x e = (rw (← e), rw (← e))
+  text_read o e = (rw (← e), rw (← e))
 
-  pub text_missing : Bad ≡ opaque_at b at → ([] ≡ text_at b at) × (at ≡ next_at b at)
+  pub text_missing : None ≡ opaque_at b at → ([] ≡ text_at b at) × (at ≡ next_at b at)
   unfolding text_in behind
   text_missing e = (rw (← e), rw (← e))
 

@@ -1,11 +1,10 @@
 -- Pairs of an environment (004: ndmp_pval, a name and a value): those of a start request's body, and those that a reply gives.
-use Rattle.std.specs.Prelude.{ℕ, zero, suc, ◌+◌, Bool, true, false, List, [], ◌∷◌, ◌++◌, take, drop}
+use Rattle.std.specs.Prelude.{ℕ, zero, suc, Bool, true, false, List, [], ◌∷◌, ◌++◌, take, drop, Option, Some, None}
 use Rattle.xdr.specs.Choose.{choose}
 use Rattle.xdr.specs.Xdr.{same_bytes}
 use Rattle.xdr_opaque.specs.Opaque.{opaque_at}
 use Rattle.xdr_opaque.specs.Put.{opaque}
 use Rattle.xdr_opaque.specs.declared.Opaque.{Opaque}
-use Rattle.xdr_opaque.specs.declared.Opaque.TheVariants.{At, Bad}
 
 pub record Pair : Type 0 where
   pub name : List ℕ
@@ -16,13 +15,13 @@ pair n v = record { name = n; value = v }
 
 -- ---- in a body
 -- the text that was found at an offset, and the offset behind it; where none was found, which is in no body that decodes, it is empty
-unfoldable pub text_in : List ℕ → Opaque → List ℕ
-text_in b (At start len next) = take len (drop start b)
-text_in b Bad = []
+unfoldable pub text_in : List ℕ → Option Opaque → List ℕ
+text_in b (Some o) = take o.len (drop o.start b)
+text_in b None = []
 
-unfoldable pub behind : ℕ → Opaque → ℕ
-behind at (At start len next) = next
-behind at Bad = at
+unfoldable pub behind : ℕ → Option Opaque → ℕ
+behind at (Some o) = o.next
+behind at None = at
 
 abbrev pub text_at : List ℕ → ℕ → List ℕ
 text_at b at = text_in b (opaque_at b at)

@@ -1,10 +1,9 @@
 -- What is sent is read back: a body's words and texts, a record's frame and header, and so every reply and every notice.
-use Rattle.std.specs.Prelude.{ℕ, ◌+◌, ◌*◌, ◌^◌, ◌≤◌, ◌<◌, true, ◌≡◌, List, [], ◌∷◌, length, take, drop, get_or}
+use Rattle.std.specs.Prelude.{ℕ, ◌+◌, ◌*◌, ◌^◌, ◌≤◌, ◌<◌, true, ◌≡◌, List, [], ◌∷◌, length, take, drop, get_or, Some}
 use Rattle.codes.specs.Codes.{largest_message}
 use Rattle.xdr.specs.Xdr.{word, be32s}
 use Rattle.xdr_opaque.specs.Put.{opaque}
 use Rattle.xdr_opaque.specs.Opaque.{opaque_at}
-use Rattle.xdr_opaque.specs.declared.Opaque.TheVariants.{At}
 use Rattle.wire_frame.specs.Frame.{well_framed, record_bytes}
 use Rattle.wire_replies.specs.declared.Reply.{Reply}
 use Rattle.wire_replies.specs.declared.Notice.{Notice}
@@ -26,7 +25,7 @@ WordsAt l at ws = (i : ℕ) → i < length ws → word l (at + 4 * i) ≡ get_or
 
 -- a text as the reader finds it at an offset, whole and with its end; and its bytes
 pub record TextAt (l : List ℕ) (at : ℕ) (t : List ℕ) (next : ℕ) : Type 0 where
-  pub found : At (at + 4) (length t) next ≡ opaque_at l at
+  pub found : Some (record { start = at + 4; len = length t; next = next }) ≡ opaque_at l at
   pub bytes : take (length t) (drop (at + 4) l) ≡ t
 
 -- texts that are found one after another, each where the one before it ends, and words after the last

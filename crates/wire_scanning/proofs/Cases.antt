@@ -1,24 +1,21 @@
 -- Which case of a field holds, by what the code found; and the scan, one field on. Assumes nothing.
 use Prim.Native.Nat.{ℕ, zero, suc, ◌+◌, ◌-◌, ◌≤◌, ◌<◌}
-use mathlib.Core.Bool.{Bool, true, false}
-use mathlib.Core.Path.{◌≡◌, refl, sym, ap, ◌∙◌}
-use mathlib.Core.List.{List, [], ◌∷◌, ◌++◌, map}
+use mathlib.Core.Bool.{true, false}
+use mathlib.Core.Path.{◌≡◌, refl, sym, ◌∙◌}
+use mathlib.Core.List.{List, [], ◌∷◌, map}
 use native.Mathlib.Omega.{arith}
 use native.Mathlib.Nat.{not-suc-le-zero}
 use native.Mathlib.Numerals.{add-one}
 use lib.ListN.{length, drop, get_or, drop_of_length-le}
 use lib.Seq.{drop-cons}
-use lib.Dec.{eqb, leb}
-use borrow.Author.Tests.{le-leb, lt-leb, leb-true, leb-false, eq-eqb, ne_eqb}
+use borrow.Author.Tests.{le-leb, lt-leb, eq-eqb, ne_eqb}
 use Rattle.codes.specs.Codes.{most_port, digest_length}
 use Rattle.xdr.specs.Choose.{choose}
 use Rattle.xdr.specs.Xdr as xdr
+use Rattle.std.specs.Prelude.{Some, None}
 use Rattle.xdr_opaque.specs.Opaque as o
-use Rattle.xdr_opaque.specs.declared.Word.TheVariants as Word
 use Rattle.xdr_opaque.specs.declared.Opaque.{Opaque}
-use Rattle.xdr_opaque.specs.declared.Opaque.TheVariants as Opaque
 use Rattle.wire_layouts.specs.declared.After.{After}
-use Rattle.wire_layouts.specs.declared.After.TheVariants as After
 use Rattle.xdr_opaque.proofs.Laws.{word_within, word_missing}
 use Rattle.wire_layouts.specs.Layout.{Part, word, hyper, text, port, digest, one, tag, never, Item, four, eight, bytes, fixed, Value, value, place, Piece, piece, short, piece_of}
 use Rattle.wire_layouts.specs.Layout.{part_at, Got, got, cut, prepend, and_part, and_got, parts_at, times_at, FieldGot, field_got, stop, bad, single, counted, list_at, items_of, element_at, field_at, Read, whole}
@@ -27,7 +24,6 @@ use Rattle.wire_layouts.specs.Scans.{field_of, part_of, past, forget, field_seen
 use Rattle.wire_layouts.specs.declared.Text.{Text}
 use Rattle.wire_layouts.specs.declared.Scan.{Scan}
 use Rattle.wire_layouts.specs.declared.Seen.{Seen}
-use Rattle.wire_layouts.specs.declared.Seen.TheVariants as Seen
 
 -- ---- the code passes over the elements of a list
 forget_prepend : (is : List (Item Text)) (g : Got) → forget (prepend is g) ≡ forget g
@@ -99,11 +95,11 @@ seen_cut n cut e = refl
 
 module _ (b : List ℕ) (at : ℕ) where
   -- ---- one field
-  pub sees_word : (v : ℕ) → Word.Value v ≡ o.word_at b at → Seen.Word v (at + 4) ≡ field_seen (field_at (one word) b at)
+  pub sees_word : (v : ℕ) → Some v ≡ o.word_at b at → Seen.Word v (at + 4) ≡ field_seen (field_at (one word) b at)
   unfolding field_seen field_at single part_at choose
   sees_word v e = let w = word_within b at v e in rw (le-leb (at + 4) (length b) w.0, w.1)
 
-  pub misses_word : Word.Short ≡ o.word_at b at → Seen.Bad ≡ field_seen (field_at (one word) b at)
+  pub misses_word : None ≡ o.word_at b at → Seen.Bad ≡ field_seen (field_at (one word) b at)
   unfolding field_seen field_at single part_at choose
   misses_word e = rw (lt-leb (at + 4) (length b) (word_missing b at e))
 
@@ -115,11 +111,11 @@ module _ (b : List ℕ) (at : ℕ) where
   unfolding field_seen field_at single part_at choose
   misses_hyper h = rw (lt-leb (at + 8) (length b) h)
 
-  pub sees_text : (s n x : ℕ) → Opaque.At s n x ≡ o.opaque_at b at → Seen.Place s n x ≡ field_seen (field_at (one text) b at)
+  pub sees_text : (p : Opaque) → Some p ≡ o.opaque_at b at → Seen.Place p.start p.len p.next ≡ field_seen (field_at (one text) b at)
   unfolding field_seen field_at single part_at piece_of
-  sees_text s n x e = rw (← e)
+  sees_text p e = rw (← e)
 
-  pub misses_text : Opaque.Bad ≡ o.opaque_at b at → Seen.Bad ≡ field_seen (field_at (one text) b at)
+  pub misses_text : None ≡ o.opaque_at b at → Seen.Bad ≡ field_seen (field_at (one text) b at)
   unfolding field_seen field_at single part_at piece_of
   misses_text e = rw (← e)
 
@@ -131,34 +127,34 @@ module _ (b : List ℕ) (at : ℕ) where
   unfolding field_seen field_at single part_at choose
   misses_digest h = rw (lt-leb (at + digest_length) (length b) h)
 
-  pub sees_tag : (k v : ℕ) → Word.Value v ≡ o.word_at b at → v ≡ k → Seen.Word v (at + 4) ≡ field_seen (field_at (tag k) b at)
+  pub sees_tag : (k v : ℕ) → Some v ≡ o.word_at b at → v ≡ k → Seen.Word v (at + 4) ≡ field_seen (field_at (tag k) b at)
   unfolding field_seen field_at choose
   sees_tag k v e h = let w = word_within b at v e in rw (le-leb (at + 4) (length b) w.0, ← w.1, eq-eqb v k h)
 
-  pub stops : (k v : ℕ) → Word.Value v ≡ o.word_at b at → (v ≡ k → ⊥) → Seen.Stop v ≡ field_seen (field_at (tag k) b at)
+  pub stops : (k v : ℕ) → Some v ≡ o.word_at b at → (v ≡ k → ⊥) → Seen.Stop v ≡ field_seen (field_at (tag k) b at)
   unfolding field_seen field_at choose
   stops k v e h = let w = word_within b at v e in rw (le-leb (at + 4) (length b) w.0, ← w.1, ne_eqb v k h)
 
-  pub misses_tag : (k : ℕ) → Word.Short ≡ o.word_at b at → Seen.Bad ≡ field_seen (field_at (tag k) b at)
+  pub misses_tag : (k : ℕ) → None ≡ o.word_at b at → Seen.Bad ≡ field_seen (field_at (tag k) b at)
   unfolding field_seen field_at choose
   misses_tag k e = rw (lt-leb (at + 4) (length b) (word_missing b at e))
 
   -- ---- a counted list
   module _ (most : ℕ) (element : ℕ → Got) where
-    pub misses_count : Word.Short ≡ o.word_at b at → Seen.Bad ≡ field_seen (list_at most element b at)
+    pub misses_count : None ≡ o.word_at b at → Seen.Bad ≡ field_seen (list_at most element b at)
     unfolding field_seen choose
     misses_count e = rw (lt-leb (at + 4) (length b) (word_missing b at e))
 
-    pub too_many : (n : ℕ) → Word.Value n ≡ o.word_at b at → most < n → Seen.Bad ≡ field_seen (list_at most element b at)
+    pub too_many : (n : ℕ) → Some n ≡ o.word_at b at → most < n → Seen.Bad ≡ field_seen (list_at most element b at)
     unfolding field_seen choose
     too_many n e h = let w = word_within b at n e in rw (le-leb (at + 4) (length b) w.0, ← w.1, lt-leb n most h)
 
-    pub misses_list : (n : ℕ) → Word.Value n ≡ o.word_at b at → n ≤ most
+    pub misses_list : (n : ℕ) → Some n ≡ o.word_at b at → n ≤ most
         → After.Short ≡ forget (times_at element n (at + 4)) → Seen.Bad ≡ field_seen (list_at most element b at)
     unfolding choose
     misses_list n e h k = let w = word_within b at n e in rw (le-leb (at + 4) (length b) w.0, ← w.1, le-leb n most h) (seen_cut n (times_at element n (at + 4)) k)
 
-    pub sees_list : (n x : ℕ) → Word.Value n ≡ o.word_at b at → n ≤ most → After.Next x ≡ forget (times_at element n (at + 4)) → Seen.Word n x ≡ field_seen (list_at most element b at)
+    pub sees_list : (n x : ℕ) → Some n ≡ o.word_at b at → n ≤ most → After.Next x ≡ forget (times_at element n (at + 4)) → Seen.Word n x ≡ field_seen (list_at most element b at)
     unfolding choose
     sees_list n x e h k = let w = word_within b at n e in rw (le-leb (at + 4) (length b) w.0, ← w.1, le-leb n most h) (seen_counted n (times_at element n (at + 4)) x k)
 
@@ -172,11 +168,11 @@ after_single short = refl
 
 -- a part that is passed over
 module _ (b : List ℕ) (at : ℕ) where
-  pub passes_word : (v : ℕ) → Word.Value v ≡ o.word_at b at → After.Next (at + 4) ≡ past (part_at word b at)
+  pub passes_word : (v : ℕ) → Some v ≡ o.word_at b at → After.Next (at + 4) ≡ past (part_at word b at)
   unfolding past part_at choose
   passes_word v e = rw (le-leb (at + 4) (length b) (word_within b at v e).0)
 
-  pub short_word : Word.Short ≡ o.word_at b at → After.Short ≡ past (part_at word b at)
+  pub short_word : None ≡ o.word_at b at → After.Short ≡ past (part_at word b at)
   unfolding past part_at choose
   short_word e = rw (lt-leb (at + 4) (length b) (word_missing b at e))
 
@@ -188,15 +184,15 @@ module _ (b : List ℕ) (at : ℕ) where
   unfolding past part_at choose
   short_hyper h = rw (lt-leb (at + 8) (length b) h)
 
-  pub passes_port : (v : ℕ) → Word.Value v ≡ o.word_at b at → v ≤ most_port → After.Next (at + 4) ≡ past (part_at port b at)
+  pub passes_port : (v : ℕ) → Some v ≡ o.word_at b at → v ≤ most_port → After.Next (at + 4) ≡ past (part_at port b at)
   unfolding past part_at choose
   passes_port v e h = let w = word_within b at v e in rw (le-leb (at + 4) (length b) w.0, ← w.1, le-leb v most_port h)
 
-  pub short_port : Word.Short ≡ o.word_at b at → After.Short ≡ past (part_at port b at)
+  pub short_port : None ≡ o.word_at b at → After.Short ≡ past (part_at port b at)
   unfolding past part_at choose
   short_port e = rw (lt-leb (at + 4) (length b) (word_missing b at e))
 
-  pub no_port : (v : ℕ) → Word.Value v ≡ o.word_at b at → most_port < v → After.Short ≡ past (part_at port b at)
+  pub no_port : (v : ℕ) → Some v ≡ o.word_at b at → most_port < v → After.Short ≡ past (part_at port b at)
   unfolding past part_at choose
   no_port v e h = let w = word_within b at v e in rw (le-leb (at + 4) (length b) w.0, ← w.1, lt-leb v most_port h)
 
@@ -206,11 +202,11 @@ module _ (b : List ℕ) (at : ℕ) where
   passes_single p = after_single (part_at p b at)
 
   module _ (c : ℕ) (w : c ≡ 119 → ⊥) (h : c ≡ 104 → ⊥) (p : c ≡ 115 → ⊥) (d : c ≡ 100 → ⊥) where
-    pub passes_text : (s n x : ℕ) → Opaque.At s n x ≡ o.opaque_at b at → After.Next x ≡ past (part_at (part_of c) b at)
+    pub passes_text : (o₁ : Opaque) → Some o₁ ≡ o.opaque_at b at → After.Next o₁.next ≡ past (part_at (part_of c) b at)
     unfolding past part_at piece_of
-    passes_text s n x e = rw (ne_eqb c 119 w, ne_eqb c 104 h, ne_eqb c 115 p, ne_eqb c 100 d, ← e)
+    passes_text o₁ e = rw (ne_eqb c 119 w, ne_eqb c 104 h, ne_eqb c 115 p, ne_eqb c 100 d, ← e)
 
-    pub short_text : Opaque.Bad ≡ o.opaque_at b at → After.Short ≡ past (part_at (part_of c) b at)
+    pub short_text : None ≡ o.opaque_at b at → After.Short ≡ past (part_at (part_of c) b at)
     unfolding past part_at piece_of
     short_text e = rw (ne_eqb c 119 w, ne_eqb c 104 h, ne_eqb c 115 p, ne_eqb c 100 d, ← e)
 

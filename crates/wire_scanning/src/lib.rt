@@ -7,7 +7,7 @@ ghost use Rattle.wire_layouts.specs.Scans.{empty_scan, scanned, field_of, part_o
 ghost use Rattle.wire_layouts.specs.AddressLists.{empty_addresses, count_seen, addresses_at, is_tcp, lendable};
 
 use wire_layouts::{Addresses, After, Scan, Seen};
-use xdr_opaque::{Opaque, Word, opaque_at, word_at};
+use xdr_opaque::{opaque_at, word_at};
 
 // Nothing kept yet, or a body that does not decode.
 fn nothing(ok: bool) -> Scan
@@ -25,7 +25,7 @@ fn nothing(ok: bool) -> Scan
 fn one_word(body: &[u8], at: usize) -> Seen
     ensures { result ≡ field_seen (field_at (one word) body.now at) }
 {
-    let Word::Value(v) = word_at(body, at) else {
+    let Some(v) = word_at(body, at) else {
         return Seen::Bad;
     };
     Seen::Word(v, at + 4)
@@ -46,10 +46,14 @@ fn one_hyper(body: &[u8], at: usize) -> Seen
 fn one_text(body: &[u8], at: usize) -> Seen
     ensures { result ≡ field_seen (field_at (one text) body.now at) }
 {
-    let Opaque::At { start, len, next } = opaque_at(body, at) else {
+    let Some(text) = opaque_at(body, at) else {
         return Seen::Bad;
     };
-    Seen::Place { start, len, next }
+    Seen::Place {
+        start: text.start,
+        len: text.len,
+        next: text.next,
+    }
 }
 
 // A digest has no length before it.
@@ -73,7 +77,7 @@ fn one_digest(body: &[u8], at: usize) -> Seen
 fn port_at(body: &[u8], at: usize) -> After
     ensures { result ≡ past (part_at port body.now at) }
 {
-    let Word::Value(v) = word_at(body, at) else {
+    let Some(v) = word_at(body, at) else {
         return After::Short;
     };
     if codes::MOST_PORT < v {
@@ -105,7 +109,7 @@ fn part_at(letter: u8, body: &[u8], at: usize) -> After
 {
     match letter {
         b'w' => {
-            let Word::Value(_) = word_at(body, at) else {
+            let Some(_) = word_at(body, at) else {
                 return After::Short;
             };
             After::Next(at + 4)
@@ -122,15 +126,10 @@ fn part_at(letter: u8, body: &[u8], at: usize) -> After
         b's' => port_at(body, at),
         b'd' => past_field(one_digest(body, at)),
         _ => {
-            let Opaque::At {
-                start: _,
-                len: _,
-                next,
-            } = opaque_at(body, at)
-            else {
+            let Some(text) = opaque_at(body, at) else {
                 return After::Short;
             };
-            After::Next(next)
+            After::Next(text.next)
         }
     }
 }
@@ -171,7 +170,7 @@ fn times_at(letters: &[u8], count: u32, body: &[u8], at: usize) -> After
 fn many_at(most: u32, letters: &[u8], body: &[u8], at: usize) -> Seen
     ensures { result ≡ field_seen (field_at (many most (map part_of letters.now)) body.now at) }
 {
-    let Word::Value(count) = word_at(body, at) else {
+    let Some(count) = word_at(body, at) else {
         return Seen::Bad;
     };
     if most < count {
@@ -213,7 +212,7 @@ fn skip_addresses(count: u32, body: &[u8], at: usize) -> After
 fn address_list(body: &[u8], at: usize) -> Seen
     ensures { result ≡ field_seen (field_at addresses body.now at) }
 {
-    let Word::Value(count) = word_at(body, at) else {
+    let Some(count) = word_at(body, at) else {
         return Seen::Bad;
     };
     if codes::MOST_ADDRESSES < count {
@@ -228,7 +227,7 @@ fn address_list(body: &[u8], at: usize) -> Seen
 fn tagged(body: &[u8], at: usize, k: u32) -> Seen
     ensures { result ≡ field_seen (field_at (tag k) body.now at) }
 {
-    let Word::Value(v) = word_at(body, at) else {
+    let Some(v) = word_at(body, at) else {
         return Seen::Bad;
     };
     if v != k {
@@ -356,7 +355,7 @@ pub fn addresses_at(body: &[u8], at: usize) -> Addresses
 pub fn is_tcp(body: &[u8], at: usize) -> bool
     ensures { result ≡ is_tcp body.now at }
 {
-    let Word::Value(v) = word_at(body, at) else {
+    let Some(v) = word_at(body, at) else {
         return false;
     };
     v == codes::TCP_ADDRESS

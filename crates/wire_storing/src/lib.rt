@@ -59,26 +59,15 @@ pub fn is_laid(store: &[u8]) -> bool
     pairs_laid(store, count)
 }
 
-// Where a text of a body stands: its bytes start at start and are len long; next is past its fill.
-#[derive(Clone, Copy)]
-struct Place {
-    start: usize,
-    len: usize,
-    next: usize,
-}
-
 // The text at an offset; an empty one where there is none.
-fn text_at(body: &[u8], at: usize) -> Place
-    ensures { TextAt body.now at result.start result.len result.next }
+fn text_at(body: &[u8], at: usize) -> Opaque
+    ensures { TextAt body.now at result }
 {
-    let Opaque::At { start, len, next } = opaque_at(body, at) else {
-        return Place {
-            start: 0,
-            len: 0,
-            next: at,
-        };
-    };
-    Place { start, len, next }
+    opaque_at(body, at).unwrap_or(Opaque {
+        start: 0,
+        len: 0,
+        next: at,
+    })
 }
 
 // Whether so many pairs of a body fit in a store.
@@ -136,7 +125,7 @@ fn keep_words(store: &mut [u8], body: &[u8], start: usize, count: u32)
 }
 
 // Writes a text of a body at an offset of the store.
-fn keep_text(store: &mut [u8], to: usize, body: &[u8], text: Place)
+fn keep_text(store: &mut [u8], to: usize, body: &[u8], text: Opaque)
     requires { (text.start + text.len ≤ length body.now) × (to + text.len ≤ length store.old) }
     ensures { store.new ≡ overlay to (take text.len (drop text.start body.now)) store.old }
 {

@@ -1,57 +1,54 @@
 -- Which case of each definition of specs/Opaque.antt holds, by plain facts on numbers and on what the parts give; and one write
 -- after another. Assumes nothing.
-use Prim.Native.Nat.{ℕ, zero, suc, ◌+◌, ◌-◌, ◌≤◌, ◌<◌}
+use Prim.Native.Nat.{ℕ, zero, suc, ◌+◌, ◌≤◌, ◌<◌}
 use mathlib.Core.Bool.{Bool, true, false}
-use mathlib.Core.Path.{◌≡◌, refl, sym, ◌∙◌}
+use mathlib.Core.Path.{◌≡◌, refl, sym}
 use mathlib.Core.List.{List, [], ◌∷◌, ◌++◌}
 use native.Mathlib.Omega.{arith}
-use native.Mathlib.Numerals.{add-one}
 use lib.Dec.{eqb, leb}
-use lib.ListN.{length, drop, get_or, replicate, length-append, length-replicate, drop_of_length-le}
-use lib.Seq.{drop-cons}
-use borrow.Author.Tests.{le-leb, lt-leb, leb-true, leb-false, eq-eqb, ne_eqb, eqb-true}
+use lib.ListN.{length, replicate, length-append, length-replicate}
+use borrow.Author.Tests.{le-leb, lt-leb, leb-true, leb-false, eqb-true}
+use Rattle.std.specs.Prelude.{Some, None, ◌&&◌}
+use Rattle.std.specs.List.{list_all}
 use Rattle.xdr.specs.Choose.{choose}
 use Rattle.xdr.specs.Xdr.{be32, word, overlay}
 use Rattle.xdr.proofs.Laws.{more, length_be32}
 use Rattle.xdr_opaque.specs.Opaque.{word_at, all_zero, between, filled, opaque_at}
 use Rattle.xdr_opaque.specs.Put.{Put, fill, opaque}
-use Rattle.xdr_opaque.specs.declared.Opaque.TheVariants.{At, Bad}
-use Rattle.xdr_opaque.specs.declared.Word.TheVariants as Word
+use Rattle.xdr_opaque.specs.declared.Opaque.{Opaque}
 
--- what a choice that gave opaque data says
-record Chosen (a b d : Bool) (s n x s' n' x' : ℕ) : Type 0 where
+-- what a choice that gave something says
+record Chosen (a b d : Bool) (o o' : Opaque) : Type 0 where
   first : a ≡ true
   test : b ≡ true
   zero : d ≡ true
-  start : s ≡ s'
-  len : n ≡ n'
-  next : x ≡ x'
+  same : o ≡ o'
 
-chosen : (a b d : Bool) (s n x s' n' x' : ℕ) → At s n x ≡ choose a (choose b (choose d (At s' n' x') Bad) Bad) Bad → Chosen a b d s n x s' n' x'
+chosen : (a b d : Bool) (o o' : Opaque) → Some o ≡ choose a (choose b (choose d (Some o') None) None) None → Chosen a b d o o'
 unfolding choose
-chosen true true true s n x s' n' x' e = record { first = refl; test = refl; zero = refl; start = cc; len = cc; next = cc }
-chosen true true false s n x s' n' x' e = let z : ◌≡◌ {A = ℕ} 0 1 = cc in absurd (omega arith)
-chosen true false d s n x s' n' x' e = let z : ◌≡◌ {A = ℕ} 0 1 = cc in absurd (omega arith)
-chosen false b d s n x s' n' x' e = let z : ◌≡◌ {A = ℕ} 0 1 = cc in absurd (omega arith)
+chosen true true true o o' e = record { first = refl; test = refl; zero = refl; same = cc }
+chosen true true false o o' e = cc
+chosen true false d o o' e = cc
+chosen false b d o o' e = cc
 
 -- what a choice that gave a word says
-word_chosen : (a : Bool) (v v' : ℕ) → Word.Value v ≡ choose a (Word.Value v') Word.Short → (a ≡ true) × (v ≡ v')
+word_chosen : (a : Bool) (v v' : ℕ) → Some v ≡ choose a (Some v') None → (a ≡ true) × (v ≡ v')
 unfolding choose
 word_chosen true v v' e = (refl, cc)
-word_chosen false v v' e = let z : ◌≡◌ {A = ℕ} 0 1 = cc in absurd (omega arith)
+word_chosen false v v' e = cc
 
-none_chosen : (a : Bool) (v : ℕ) → Word.Short ≡ choose a (Word.Value v) Word.Short → a ≡ false
+none_chosen : (a : Bool) (v : ℕ) → None ≡ choose a (Some v) None → a ≡ false
 unfolding choose
-none_chosen true v e = let z : ◌≡◌ {A = ℕ} 0 1 = cc in absurd (omega arith)
+none_chosen true v e = cc
 none_chosen false v e = refl
 
 -- opaque data that was found at an offset: its length word, its end within the list, and its fill
-pub record Found (l : List ℕ) (at s n x : ℕ) : Type 0 where
-  pub start : s ≡ at + 4
-  pub len : n ≡ word l at
-  pub next : x ≡ at + 4 + filled n
-  pub within : x ≤ length l
-  pub zero : all_zero (between (s + n) x l) ≡ true
+pub record Found (l : List ℕ) (at : ℕ) (o : Opaque) : Type 0 where
+  pub start : o.start ≡ at + 4
+  pub len : o.len ≡ word l at
+  pub next : o.next ≡ at + 4 + filled o.len
+  pub within : o.next ≤ length l
+  pub zero : all_zero (between (o.start + o.len) o.next l) ≡ true
 
 both : (a b : Bool) → choose a b false ≡ true → (a ≡ true) × (b ≡ true)
 unfolding choose
@@ -59,18 +56,10 @@ both true b e = (refl, e)
 both false b e = let z : ◌≡◌ {A = ℕ} 0 1 = cc in absurd (omega arith)
 
 -- ---- bytes that are all zero
-module _ (l : List ℕ) (i : ℕ) {z : Bool} (e : z ≡ all_zero (drop i l)) where
-  pub zero_more : i < length l → get_or l i 0 ≡ 0 → z ≡ all_zero (drop (i + 1) l)
-  unfolding all_zero choose
-  zero_more h k = let d : all_zero (drop i l) ≡ all_zero (drop (i + 1) l) = rw (add-one, drop-cons l i 0 h, eq-eqb (get_or l i 0) 0 k) in e ∙ d
-
-  pub zero_not : i < length l → (get_or l i 0 ≡ 0 → ⊥) → false ≡ z
-  unfolding all_zero choose
-  zero_not h k = let d : all_zero (drop i l) ≡ false = rw (drop-cons l i 0 h, ne_eqb (get_or l i 0) 0 k) in sym (e ∙ d)
-
-  pub zero_none : length l ≤ i → true ≡ z
-  unfolding all_zero
-  zero_none h = let d : all_zero (drop i l) ≡ true = rw (drop_of_length-le l h) in sym (e ∙ d)
+pub zero_all : (xs : List ℕ) → list_all (λ x. eqb x 0) xs ≡ all_zero xs
+unfolding all_zero choose
+zero_all [] = refl
+zero_all (x ∷ xs) = elim (eqb x 0) as (λ b. (b && list_all (λ y. eqb y 0) xs) ≡ choose b (all_zero xs) false) [ true ↦ zero_all xs | false ↦ refl ]
 
 pub zero_replicate : (n : ℕ) → all_zero (replicate n 0) ≡ true
 unfolding all_zero choose
@@ -91,63 +80,60 @@ zero_is (x ∷ xs) e =
 
 module _ (l : List ℕ) (at : ℕ) where
   -- a word that may be missing
-  pub word_short : length l < at + 4 → Word.Short ≡ word_at l at
+  pub word_short : length l < at + 4 → None ≡ word_at l at
   unfolding word_at choose
   word_short h = rw (lt-leb (at + 4) (length l) h)
 
-  pub word_there : (v : ℕ) → at + 4 ≤ length l → v ≡ word l at → Word.Value v ≡ word_at l at
+  pub word_there : (v : ℕ) → at + 4 ≤ length l → v ≡ word l at → Some v ≡ word_at l at
   unfolding word_at choose
   word_there v h e = rw (le-leb (at + 4) (length l) h, e)
 
   -- where a word was found, it is within the list
-  pub word_within : (v : ℕ) → Word.Value v ≡ word_at l at → (at + 4 ≤ length l) × (v ≡ word l at)
+  pub word_within : (v : ℕ) → Some v ≡ word_at l at → (at + 4 ≤ length l) × (v ≡ word l at)
   unfolding word_at
   word_within v e = let w = word_chosen (leb (at + 4) (length l)) v (word l at) e in (leb-true _ _ w.0, w.1)
 
-  pub word_missing : Word.Short ≡ word_at l at → length l < at + 4
+  pub word_missing : None ≡ word_at l at → length l < at + 4
   unfolding word_at
   word_missing e = leb-false _ _ (none_chosen (leb (at + 4) (length l)) (word l at) e)
 
   -- opaque data
-  pub opaque_short : length l < at + 4 → Bad ≡ opaque_at l at
+  pub opaque_short : None ≡ word_at l at → None ≡ opaque_at l at
   unfolding opaque_at choose
-  opaque_short h = rw (lt-leb (at + 4) (length l) h)
+  opaque_short e = rw (lt-leb (at + 4) (length l) (word_missing e))
 
-  pub opaque_cut : (n : ℕ) → n ≡ word l at → at + 4 ≤ length l → length l < at + 4 + filled n → Bad ≡ opaque_at l at
+  pub opaque_cut : (n : ℕ) → Some n ≡ word_at l at → length l < at + 4 + filled n → None ≡ opaque_at l at
   unfolding opaque_at choose
-  opaque_cut n e h k = rw (le-leb (at + 4) (length l) h, ← e, lt-leb (at + 4 + filled n) (length l) k)
+  opaque_cut n e k =
+      let w = word_within n e in
+      rw (le-leb (at + 4) (length l) w.0, ← w.1, lt-leb (at + 4 + filled n) (length l) k)
 
   -- the fill that n bytes at an offset have
-  pub opaque_rubbish : (n : ℕ) → n ≡ word l at → at + 4 + filled n ≤ length l → all_zero (between (at + 4 + n) (at + 4 + filled n) l) ≡ false → Bad ≡ opaque_at l at
+  pub opaque_rubbish : (n : ℕ) → Some n ≡ word_at l at → at + 4 + filled n ≤ length l → all_zero (between (at + 4 + n) (at + 4 + filled n) l) ≡ false → None ≡ opaque_at l at
   unfolding opaque_at choose
   opaque_rubbish n e k z =
-      let h : at + 4 ≤ length l = omega arith in
-      rw (le-leb (at + 4) (length l) h, ← e, le-leb (at + 4 + filled n) (length l) k, z)
+      let w = word_within n e in
+      rw (le-leb (at + 4) (length l) w.0, ← w.1, le-leb (at + 4 + filled n) (length l) k, z)
 
-  pub opaque_whole : (n : ℕ) → n ≡ word l at → at + 4 + filled n ≤ length l → all_zero (between (at + 4 + n) (at + 4 + filled n) l) ≡ true → At
-      (at + 4) n (at + 4 + filled n) ≡ opaque_at l at
+  pub opaque_whole : (n : ℕ) → Some n ≡ word_at l at → at + 4 + filled n ≤ length l → all_zero (between (at + 4 + n) (at + 4 + filled n) l) ≡ true → Some
+      (record { start = at + 4; len = n; next = at + 4 + filled n }) ≡ opaque_at l at
   unfolding opaque_at choose
   opaque_whole n e k z =
-      let h : at + 4 ≤ length l = omega arith in
-      rw (le-leb (at + 4) (length l) h, ← e, le-leb (at + 4 + filled n) (length l) k, z)
+      let w = word_within n e in
+      rw (le-leb (at + 4) (length l) w.0, ← w.1, le-leb (at + 4 + filled n) (length l) k, z)
 
   -- where opaque data was found: its length word, its end, and its fill
-  opaque_choice : (s n x : ℕ) → At s n x ≡ opaque_at l at
-      → Chosen (leb (at + 4) (length l)) (leb (at + 4 + filled (word l at)) (length l)) (all_zero (between (at + 4 + word l at) (at + 4 + filled (word l at)) l)) s n x
-      (at + 4) (word l at) (at + 4 + filled (word l at))
+  pub opaque_read : (o : Opaque) → Some o ≡ opaque_at l at → Found l at o
   unfolding opaque_at
-  opaque_choice s n x e = chosen _ _ _ s n x (at + 4) (word l at) (at + 4 + filled (word l at)) e
-
-  pub opaque_read : (s n x : ℕ) → At s n x ≡ opaque_at l at → Found l at s n x
-  opaque_read s n x e =
-      let w = opaque_choice s n x e in
+  opaque_read o e =
+      let w = chosen _ _ _ o _ e in
       let k : at + 4 + filled (word l at) ≤ length l = leb-true _ _ w.test in
-      record { start = w.start; len = w.len; next = omega (arith, w.len, w.next); within = omega (arith, w.next); zero = rw (w.next, w.start, w.len) w.zero }
+      rw w.same (record { start = refl; len = refl; next = refl; within = k; zero = w.zero })
 
   -- where opaque data was found, its bytes and its fill are within the list
-  pub opaque_within : (s n x : ℕ) → At s n x ≡ opaque_at l at → (s + n ≤ x) × (x ≤ length l)
-  opaque_within s n x e =
-      let w = opaque_read s n x e in
+  pub opaque_within : (o : Opaque) → Some o ≡ opaque_at l at → (o.start + o.len ≤ o.next) × (o.next ≤ length l)
+  opaque_within o e =
+      let w = opaque_read o e in
       (omega (arith, w.start, w.next), w.within)
 
 -- a write, and a write where it ends, are one write

@@ -6,13 +6,13 @@ use mathlib.Core.List.{List, ◌++◌, append_assoc}
 use native.Mathlib.Omega.{arith}
 use lib.ListN.{length, take, drop, replicate, length-append, length-replicate}
 use lib.Seq.{drop-append_seam, drop-append-add, drop_at, take-append_seam, take_at, drop-drop}
+use Rattle.std.specs.Prelude.{Some}
 use Rattle.xdr.specs.Xdr.{be32, word}
 use Rattle.xdr.proofs.Laws.{length_be32, word_be32, word_drop}
 use Rattle.xdr_opaque.specs.Opaque.{all_zero, between, filled, opaque_at}
 use Rattle.xdr_opaque.specs.Put.{fill, opaque}
 use Rattle.xdr_opaque.specs.RoundTrip.{OpaqueRoundTrip}
-use Rattle.xdr_opaque.specs.declared.Opaque.TheVariants.{At}
-use Rattle.xdr_opaque.proofs.Laws.{opaque_whole, length_opaque_filled, filled_fill, zero_replicate}
+use Rattle.xdr_opaque.proofs.Laws.{word_there, opaque_whole, length_opaque_filled, filled_fill, zero_replicate}
 
 module _ (p s q : List ℕ) where
   -- what stands after the length word
@@ -51,10 +51,12 @@ module _ (p s q : List ℕ) where
   zeroes : all_zero (between (length p + 4 + length s) (length p + 4 + filled (length s)) (p ++ (opaque s ++ q))) ≡ true
   zeroes = rw filling (zero_replicate (fill (length s)))
 
-  found : length s < 2 ^ 32 → At (length p + 4) (length s) (length p + length (opaque s)) ≡ opaque_at (p ++ (opaque s ++ q)) (length p)
+  found : length s < 2 ^ 32 → Some (record { start = length p + 4; len = length s; next = length p + length (opaque s) }) ≡ opaque_at (p ++ (opaque s ++ q)) (length p)
   found h =
       let e : length p + length (opaque s) ≡ length p + 4 + filled (length s) = omega (arith, length_opaque_filled s) in
-      rw e (opaque_whole (p ++ (opaque s ++ q)) (length p) (length s) (length_back h) within zeroes)
+      let w : length p + 4 ≤ length (p ++ (opaque s ++ q)) = omega (arith, within) in
+      let v = word_there (p ++ (opaque s ++ q)) (length p) (length s) w (length_back h) in
+      rw e (opaque_whole (p ++ (opaque s ++ q)) (length p) (length s) v within zeroes)
 
   bytes : take (length s) (drop (length p + 4) (p ++ (opaque s ++ q))) ≡ s
   unfolding tail

@@ -7,78 +7,50 @@ ghost use Rattle.xdr_opaque.specs.Opaque.{word_at, all_zero, opaque_at};
 ghost use Rattle.xdr_opaque.specs.Put.{Put, opaque};
 ghost use Rattle.xdr_opaque.specs.RoundTrip.{OpaqueRoundTrip};
 
-// A word, or that the slice ends before it does.
-#[derive(Clone, Copy)]
-pub enum Word {
-    Value(u32),
-    Short,
-}
-
-// Opaque data or a string: its bytes start at start and are len long; next is past the fill.
-#[derive(Clone, Copy)]
-pub enum Opaque {
-    At {
-        start: usize,
-        len: usize,
-        next: usize,
-    },
-    Bad,
+// Opaque data or a string in a slice: its bytes start at start and are len long; next is past the fill.
+#[derive(Clone, Copy, Debug, PartialEq, Eq)]
+pub struct Opaque {
+    pub start: usize,
+    pub len: usize,
+    pub next: usize,
 }
 
 // The word at an offset, where there is one.
-pub fn word_at(s: &[u8], at: usize) -> Word
+pub fn word_at(s: &[u8], at: usize) -> Option<u32>
     ensures { result ≡ word_at s.now at }
 {
-    if s.len() < 4 {
-        return Word::Short;
-    }
     // at + 4 could wrap, so 4 is taken from the length
-    if s.len() - 4 < at {
-        return Word::Short;
+    let last = s.len().checked_sub(4)?;
+    if last < at {
+        return None;
     }
-    Word::Value(xdr::read_word(s, at))
+    Some(xdr::read_word(s, at))
 }
 
 // Every byte is zero.
 pub fn all_zero(s: &[u8]) -> bool
     ensures { result ≡ all_zero s.now }
 {
-    let mut i = 0;
-    while i < s.len() {
-        if s[i] != 0 {
-            return false;
-        }
-        i += 1;
-    }
-    true
+    s.iter().all(|b| *b == 0)
 }
 
 // The opaque data or the string at an offset.
-pub fn opaque_at(s: &[u8], at: usize) -> Opaque
+#[tactic(auto, using(crate::proofs::Laws::word_within))]
+pub fn opaque_at(s: &[u8], at: usize) -> Option<Opaque>
     ensures { result ≡ opaque_at s.now at }
 {
-    if s.len() < 4 {
-        return Opaque::Bad;
-    }
-    if s.len() - 4 < at {
-        return Opaque::Bad;
-    }
-    let n = xdr::read_word(s, at) as usize;
+    let len = word_at(s, at)? as usize;
     let start = at + 4;
-    let full = (n + 3) / 4 * 4;
+    let full = (len + 3) / 4 * 4;
     if s.len() - start < full {
-        return Opaque::Bad;
+        return None;
     }
-    let end = start + n;
+    let end = start + len;
     let next = start + full;
     if !all_zero(&s[end..next]) {
-        return Opaque::Bad;
+        return None;
     }
-    Opaque::At {
-        start,
-        len: n,
-        next,
-    }
+    Some(Opaque { start, len, next })
 }
 
 // Writes words at an offset; returns the offset after them.
@@ -97,6 +69,15 @@ pub fn put_zero_words(out: &mut [u8], at: usize, n: usize) -> usize
 {
     xdr::zero_fill(out, at, 4 * n);
     at + 4 * n
+}
+
+// Writes bytes as they are, with no length and no fill, at an offset; returns the offset after them.
+pub fn put_bytes(out: &mut [u8], at: usize, s: &[u8]) -> usize
+    requires { at + length s.now ≤ length out.old }
+    ensures { Put at s.now out.old result out.new }
+{
+    xdr::copy_bytes(out, at, s);
+    at + s.len()
 }
 
 // Writes s as opaque data or a string at an offset; returns the offset after its fill.

@@ -11,13 +11,13 @@ returns-in_default c = no_id _ _ _ c.no_account.ensures (sym c.in_default.is ∙
 
 pub returns-in_default-opaque_at : goal.returns-in_default-opaque_at
 returns-in_default-opaque_at c = let o = c in
-    no_password _ _ _ c.no_account-in_default-opaque_at.ensures _ _ _
-    (sym c.in-At.is ∙ o.opaque_at.ensures)
+    no_password _ _ _ c.no_account-in_default-opaque_at.ensures _
+    (sym c.in-Some.is ∙ o.opaque_at.ensures)
     (sym c.in_default-opaque_at.is ∙ c.opaque_at-2.ensures)
 
 pub read_word-kind-requires : goal.read_word-kind-requires
 read_word-kind-requires c = let i = c in
-    kind_there _ _ _ _ _ (sym i.in-At.is ∙ i.opaque_at.ensures)
+    kind_there _ _ _ (sym i.in-Some.is ∙ i.opaque_at.ensures)
 
 pub returns-then-not-is_kind : goal.returns-then-not-is_kind
 returns-then-not-is_kind c = no_kind _ _ _ c.no_account-then-not-is_kind.ensures _ c.read_word-kind.ensures
@@ -26,8 +26,8 @@ returns-then-not-is_kind c = no_kind _ _ _ c.no_account-then-not-is_kind.ensures
 pub returns : goal.returns
 returns c = let k = c in
     let i = k in
-    account_there _ _ _ _ _ _ _ _ _
+    account_there _ _ _ _ _
     c.read_word-kind.ensures
     (asked c.is_kind.ensures (not-false _ (ap not c.if-not-is_kind.false)))
-    (sym i.in-At.is ∙ i.opaque_at.ensures)
-    (sym k.in-At-opaque_at.is ∙ k.opaque_at-2.ensures)
+    (sym i.in-Some.is ∙ i.opaque_at.ensures)
+    (sym k.in-Some-opaque_at.is ∙ k.opaque_at-2.ensures)

@@ -1,8 +1,6 @@
-use mathlib.Core.Logic.{⊎_elim}
 use native.Mathlib.Omega.{arith}
 use borrow.Author.Tests.{not-false}
 use Rattle.xdr.proofs.Tests.{asked}
-use Rattle.wire_accounts.specs.Accounts.{md5_matches}
 use Rattle.wire_accounts.proofs.Laws.{shut, counted, going_first, going_hit, going_miss, going_end}
 use mathlib.Core.Path.{ap}
 use mathlib.Core.Bool.{not}

@@ -11,18 +11,18 @@ returns-in_default c = misses_count _ _ _ _ (sym c.in_default.is ∙ c.word_at.e
 
 pub returns-then-count-gt-MOST_ADDRESSES : goal.returns-then-count-gt-MOST_ADDRESSES
 unfolding field_at
-returns-then-count-gt-MOST_ADDRESSES c = too_many _ _ _ _ _ (sym c.in-Value.is ∙ c.word_at.ensures) (omega arith)
+returns-then-count-gt-MOST_ADDRESSES c = too_many _ _ _ _ _ (sym c.in-Some.is ∙ c.word_at.ensures) (omega arith)
 
 pub overflow_add-at : goal.overflow_add-at
-overflow_add-at c = omega (arith, (word_within _ _ _ (sym c.in-Value.is ∙ c.word_at.ensures)).0)
+overflow_add-at c = omega (arith, (word_within _ _ _ (sym c.in-Some.is ∙ c.word_at.ensures)).0)
 
 pub returns-in_default-skip_addresses : goal.returns-in_default-skip_addresses
 unfolding field_at
-returns-in_default-skip_addresses c = misses_list _ _ _ _ _ (sym c.in-Value.is ∙ c.word_at.ensures)
+returns-in_default-skip_addresses c = misses_list _ _ _ _ _ (sym c.in-Some.is ∙ c.word_at.ensures)
     (omega arith) (sym c.in_default-skip_addresses.is ∙ c.skip_addresses.ensures)
 
 pub returns : goal.returns
 unfolding field_at
-returns c = sees_list _ _ _ _ _ _ (sym c.in-Value.is
+returns c = sees_list _ _ _ _ _ _ (sym c.in-Some.is
     ∙ c.word_at.ensures) (omega arith)
     (sym c.in-Next.is ∙ c.skip_addresses.ensures)

@@ -6,4 +6,4 @@ pub returns-in_default : goal.returns-in_default
 returns-in_default c = type_missing _ _ (sym c.in_default.is ∙ c.word_at.ensures)
 
 pub returns : goal.returns
-returns c = type_found _ _ _ (sym c.in-Value.is ∙ c.word_at.ensures)
+returns c = type_found _ _ _ (sym c.in-Some.is ∙ c.word_at.ensures)

@@ -6,4 +6,4 @@ pub returns-in_default : goal.returns-in_default
 returns-in_default c = misses_text _ _ (sym c.in_default.is ∙ c.opaque_at.ensures)
 
 pub returns : goal.returns
-returns c = sees_text _ _ _ _ _ (sym c.in-At.is ∙ c.opaque_at.ensures)
+returns c = sees_text _ _ _ (sym c.in-Some.is ∙ c.opaque_at.ensures)

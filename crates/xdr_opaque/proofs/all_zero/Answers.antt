@@ -1,18 +1,10 @@
-use Prim.Native.Nat.{◌-◌}
-use mathlib.Core.Path.{refl}
-use native.Mathlib.Omega.{arith}
-use borrow.Author.Rules.{rules}
-use Rattle.xdr_opaque.proofs.Laws.{zero_more, zero_not, zero_none}
+use lib.Dec.{eqb}
+use Rattle.std.proofs.Common.{◌∙◌, rules, tests}
+use Rattle.std.proofs.lemmas.Iterator.{YieldsList-from_slice}
+use Rattle.std.proofs.lemmas.Iterator.Search.{all_from_yields_List}
+use Rattle.xdr_opaque.proofs.Laws.{zero_all}
 use Rattle.xdr_opaque.proofs.all_zero.Goals as goal
 
-pub loop-i-init : goal.loop-i-init
-loop-i-init c = (search rules, refl)
-
-pub returns-then-s-i-ne0 : goal.returns-then-s-i-ne0
-returns-then-s-i-ne0 c = zero_not c.args.s.now c.loop-i.i c.loop-i.invariant.1 (omega arith) c.if-s-i-ne0.true
-
-pub loop-i-preserved : goal.loop-i-preserved
-loop-i-preserved c = (search rules, zero_more c.args.s.now c.loop-i.i c.loop-i.invariant.1 (omega arith) c.if-s-i-ne0.false)
-
 pub returns : goal.returns
-returns c = zero_none c.args.s.now c.loop-i.i c.loop-i.invariant.1 (omega arith)
+returns c =
+    all_from_yields_List (λ x. eqb x 0) _ _ _ c.all.ensures.ran (YieldsList-from_slice c.args.s.now cc) (λ x b q k. search (rules, tests)) ∙ zero_all c.args.s.now
