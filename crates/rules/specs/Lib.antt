@@ -1,4 +1,5 @@
 pub mod Judge
+pub mod Served
 pub mod Addresses
 pub mod DataService
 pub mod MoverService

@@ -9,7 +9,9 @@ ghost use Rattle.rules.specs.Leaving.{CallsLeave};
 ghost use Rattle.rules.specs.Alike.{SpacesAlike};
 ghost use Rattle.rules.specs.RmtHolds.{RmtHolds};
 
+use codes::NdmpError;
 use rules_parts::{Data, Mover};
+use wire_replies::Reply;
 
 // What comes before any call: it stops with a code and nothing done, or goes on.
 #[derive(Clone, Copy)]
@@ -17,6 +19,16 @@ pub enum Guard {
     Stop(u32),
     Go,
 }
+
+// An accepted request: its reply, and the part of the session after it.
+#[derive(Clone, Copy)]
+pub struct Accepted<T> {
+    pub reply: Reply,
+    pub next: T,
+}
+
+// What a service answers: the error of a refusal, or what it accepted.
+pub type Served<T> = Result<Accepted<T>, NdmpError>;
 
 // Both ends after a joint request, and why each halted in it, or 0.
 #[repr(C)]

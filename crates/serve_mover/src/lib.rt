@@ -3,20 +3,16 @@
 
 ghost use Rattle.std.specs.Prelude.{◌≡◌};
 ghost use Rattle.rules.specs.MoverService.{record_number, mover_state, mover_listen, mover_continue, mover_stop, set_window, mover_read, set_size, mover_step};
-ghost use Rattle.serve_mover.specs.Done.{outcome_of};
+ghost use Rattle.rules.specs.Served.{outcome_of};
 
+use codes::NdmpError;
+use rules::{Accepted, Served};
 use rules_parts::types::{Mover, Tape};
 use wire_replies::{MoverView, Reply};
 use wire_requests::MoverRequest;
 
-// A refusal, or a reply and the mover after it.
-#[derive(Clone, Copy)]
-pub enum MoverDone {
-    Refuse(u32),
-    Accept(Reply, Mover),
-}
-
 // The record number that is told.
+#[tactic(auto, unfolding(xdr::specs::Choose::choose, rules::specs::MoverService::record_number))]
 fn record_number(moved: u64, size: u32) -> u32
     ensures { result ≡ record_number moved size }
 {
@@ -26,7 +22,8 @@ fn record_number(moved: u64, size: u32) -> u32
     (moved / size as u64 % 4294967296) as u32
 }
 
-fn get_state(m: Mover) -> MoverDone
+#[tactic(auto, unfolding(xdr::specs::Choose::choose, rules::specs::Judge::judge, rules::specs::MoverService::mover_state))]
+fn get_state(m: Mover) -> Served<Mover>
     ensures { outcome_of result ≡ mover_state m }
 {
     let view = MoverView {
@@ -43,116 +40,125 @@ fn get_state(m: Mover) -> MoverDone
         offset: m.offset,
         length: m.length,
     };
-    MoverDone::Accept(Reply::MoverState(view), m)
+    Ok(Accepted {
+        reply: Reply::MoverState(view),
+        next: m,
+    })
 }
 
-fn listen(m: Mover, t: Tape, mode: u32, address: u32, list: &[u8]) -> MoverDone
+#[tactic(auto, unfolding(xdr::specs::Choose::choose, rules::specs::Judge::judge, rules::specs::MoverService::mover_listen))]
+fn listen(m: Mover, t: Tape, mode: u32, address: u32, list: &[u8]) -> Served<Mover>
     ensures { outcome_of result ≡ mover_listen m t mode address list.now }
 {
     let wrong = serve_address::is_listen_wrong(address, list);
-    let e = serve_tests::join_error(m, t, mode, wrong);
-    if e != 0 {
-        return MoverDone::Refuse(e);
-    }
+    serve_tests::judge_join(m, t, mode, wrong)?;
     let reply = serve_address::listening(address);
     let next = m.listens(mode, address);
-    MoverDone::Accept(reply, next)
+    Ok(Accepted { reply, next })
 }
 
-fn go_on(m: Mover, t: Tape) -> MoverDone
+#[tactic(auto, unfolding(xdr::specs::Choose::choose, rules::specs::Judge::judge, rules::specs::MoverService::mover_continue))]
+fn go_on(m: Mover, t: Tape) -> Served<Mover>
     ensures { outcome_of result ≡ mover_continue m t }
 {
     if !t.opened {
-        return MoverDone::Refuse(codes::NOT_OPEN);
+        return Err(NdmpError::NotOpen);
     }
     if m.state != Mover::PAUSED {
-        return MoverDone::Refuse(codes::ILLEGAL_STATE);
+        return Err(NdmpError::IllegalState);
     }
     if Mover::is_unwritable(m.mode, t.writable) {
-        return MoverDone::Refuse(codes::PERMISSION_DENIED);
+        return Err(NdmpError::PermissionDenied);
     }
     if m.length == 0 {
-        return MoverDone::Refuse(codes::PRECONDITION);
+        return Err(NdmpError::Precondition);
     }
     let next = m.runs(m.mode, m.address, t.position);
-    MoverDone::Accept(Reply::Plain, next)
+    Ok(Accepted {
+        reply: Reply::Plain,
+        next,
+    })
 }
 
-fn stop(m: Mover) -> MoverDone
+#[tactic(auto, unfolding(xdr::specs::Choose::choose, rules::specs::Judge::judge, rules::specs::MoverService::mover_stop))]
+fn stop(m: Mover) -> Served<Mover>
     ensures { outcome_of result ≡ mover_stop m }
 {
     if m.state != Mover::HALTED {
-        return MoverDone::Refuse(codes::ILLEGAL_STATE);
+        return Err(NdmpError::IllegalState);
     }
     let next = m.rests();
-    MoverDone::Accept(Reply::Plain, next)
+    Ok(Accepted {
+        reply: Reply::Plain,
+        next,
+    })
 }
 
-fn set_window(m: Mover, offset: u64, length: u64) -> MoverDone
+#[tactic(auto, unfolding(xdr::specs::Choose::choose, rules::specs::Judge::judge, rules::specs::MoverService::set_window))]
+fn set_window(m: Mover, offset: u64, length: u64) -> Served<Mover>
     ensures { outcome_of result ≡ set_window m offset length }
 {
     if serve_tests::is_busy(m.state) {
-        return MoverDone::Refuse(codes::ILLEGAL_STATE);
+        return Err(NdmpError::IllegalState);
     }
     if m.size == 0 {
-        return MoverDone::Refuse(codes::PRECONDITION);
+        return Err(NdmpError::Precondition);
     }
-    if length == 0 {
-        return MoverDone::Refuse(codes::ILLEGAL_ARGUMENTS);
+    if length == 0 || offset % m.size as u64 != 0 {
+        return Err(NdmpError::IllegalArguments);
     }
-    if offset % m.size as u64 != 0 {
-        return MoverDone::Refuse(codes::ILLEGAL_ARGUMENTS);
-    }
-    if Mover::is_length_wrong(m.size, offset, length) {
-        return MoverDone::Refuse(codes::ILLEGAL_ARGUMENTS);
-    }
-    if serve_tests::is_elsewhere(m.state, m.mode, m.moved, offset) {
-        return MoverDone::Refuse(codes::ILLEGAL_ARGUMENTS);
+    if Mover::is_length_wrong(m.size, offset, length)
+        || serve_tests::is_elsewhere(m.state, m.mode, m.moved, offset)
+    {
+        return Err(NdmpError::IllegalArguments);
     }
     let next = m.windowed(offset, length);
-    MoverDone::Accept(Reply::Plain, next)
+    Ok(Accepted {
+        reply: Reply::Plain,
+        next,
+    })
 }
 
-fn mover_read(m: Mover, offset: u64, length: u64) -> MoverDone
+#[tactic(auto, unfolding(xdr::specs::Choose::choose, rules::specs::Judge::judge, rules::specs::MoverService::mover_read))]
+fn mover_read(m: Mover, offset: u64, length: u64) -> Served<Mover>
     ensures { outcome_of result ≡ mover_read m offset length }
 {
-    if m.state != Mover::ACTIVE {
-        return MoverDone::Refuse(codes::ILLEGAL_STATE);
+    if m.state != Mover::ACTIVE || m.mode != Mover::FROM_TAPE {
+        return Err(NdmpError::IllegalState);
     }
-    if m.mode != Mover::FROM_TAPE {
-        return MoverDone::Refuse(codes::ILLEGAL_STATE);
-    }
-    if length == 0 {
-        return MoverDone::Refuse(codes::ILLEGAL_ARGUMENTS);
-    }
-    if Mover::is_past_top(offset, length) {
-        return MoverDone::Refuse(codes::ILLEGAL_ARGUMENTS);
+    if length == 0 || Mover::is_past_top(offset, length) {
+        return Err(NdmpError::IllegalArguments);
     }
     if m.left != 0 {
-        return MoverDone::Refuse(codes::READ_IN_PROGRESS);
+        return Err(NdmpError::ReadInProgress);
     }
     let next = m.seeks(offset, length);
-    MoverDone::Accept(Reply::Plain, next)
+    Ok(Accepted {
+        reply: Reply::Plain,
+        next,
+    })
 }
 
-fn set_record_size(m: Mover, size: u32) -> MoverDone
+#[tactic(auto, unfolding(xdr::specs::Choose::choose, rules::specs::Judge::judge, rules::specs::MoverService::set_size))]
+fn set_record_size(m: Mover, size: u32) -> Served<Mover>
     ensures { outcome_of result ≡ set_size m size }
 {
     if m.state != Mover::IDLE {
-        return MoverDone::Refuse(codes::ILLEGAL_STATE);
+        return Err(NdmpError::IllegalState);
     }
-    if size == 0 {
-        return MoverDone::Refuse(codes::ILLEGAL_ARGUMENTS);
-    }
-    if Mover::LARGEST_SIZE < size {
-        return MoverDone::Refuse(codes::ILLEGAL_ARGUMENTS);
+    if size == 0 || Mover::LARGEST_SIZE < size {
+        return Err(NdmpError::IllegalArguments);
     }
     let next = m.sized(size);
-    MoverDone::Accept(Reply::Plain, next)
+    Ok(Accepted {
+        reply: Reply::Plain,
+        next,
+    })
 }
 
 // A request of the mover, and the list that a listen by TCP is lent.
-pub fn serve(m: Mover, t: Tape, q: MoverRequest, list: &[u8]) -> MoverDone
+#[tactic(auto, unfolding(rules::specs::MoverService::mover_step))]
+pub fn serve(m: Mover, t: Tape, q: MoverRequest, list: &[u8]) -> Served<Mover>
     ensures { outcome_of result ≡ mover_step m t q list.now }
 {
     match q {

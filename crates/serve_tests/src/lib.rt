@@ -3,69 +3,55 @@
 
 ghost use Rattle.std.specs.Prelude.{◌≡◌};
 ghost use Rattle.rules.specs.Judge.{first};
+ghost use Rattle.rules.specs.Served.{told};
 ghost use Rattle.rules.specs.MoverService.{offset_wrong, join_tests, busy, elsewhere};
 
+use codes::NdmpError;
 use rules_parts::types::{Mover, Tape};
 
 // Whether a mode begins at 0, and the window does not.
+#[tactic(auto, unfolding(xdr::specs::Choose::choose, rules::specs::MoverService::offset_wrong))]
 pub fn is_offset_wrong(mode: u32, offset: u64) -> bool
     ensures { result ≡ offset_wrong mode offset }
 {
-    if mode == Mover::TO_TAPE {
-        return offset != 0;
-    }
-    false
+    mode == Mover::TO_TAPE && offset != 0
 }
 
-// What listen and connect both ask of the mover, with whether the address is wrong: the number of the first test that applies, or 0.
-pub fn join_error(m: Mover, t: Tape, mode: u32, wrong: bool) -> u32
-    ensures { result ≡ first (join_tests m t mode wrong) }
+// What listen and connect both ask of the mover, with whether the address is wrong: the error of the first test that applies.
+#[tactic(auto, unfolding(xdr::specs::Choose::choose, rules::specs::Judge::first))]
+pub fn judge_join(m: Mover, t: Tape, mode: u32, wrong: bool) -> Result<(), NdmpError>
+    ensures { told result ≡ first (join_tests m t mode wrong) }
 {
     if !t.opened {
-        return codes::NOT_OPEN;
+        return Err(NdmpError::NotOpen);
     }
     if m.state != Mover::IDLE {
-        return codes::ILLEGAL_STATE;
+        return Err(NdmpError::IllegalState);
     }
     if Mover::is_unwritable(mode, t.writable) {
-        return codes::PERMISSION_DENIED;
+        return Err(NdmpError::PermissionDenied);
     }
-    if m.size == 0 {
-        return codes::PRECONDITION;
+    if m.size == 0 || m.length == 0 || is_offset_wrong(mode, m.offset) {
+        return Err(NdmpError::Precondition);
     }
-    if m.length == 0 {
-        return codes::PRECONDITION;
+    if wrong || Mover::FROM_TAPE < mode {
+        return Err(NdmpError::IllegalArguments);
     }
-    if is_offset_wrong(mode, m.offset) {
-        return codes::PRECONDITION;
-    }
-    if wrong {
-        return codes::ILLEGAL_ARGUMENTS;
-    }
-    if Mover::FROM_TAPE < mode {
-        return codes::ILLEGAL_ARGUMENTS;
-    }
-    0
+    Ok(())
 }
 
 // Whether it is neither IDLE nor PAUSED.
+#[tactic(auto, unfolding(xdr::specs::Choose::choose, rules::specs::MoverService::busy))]
 pub fn is_busy(state: u32) -> bool
     ensures { result ≡ busy state }
 {
-    if state == Mover::IDLE {
-        return false;
-    }
-    state != Mover::PAUSED
+    state != Mover::IDLE && state != Mover::PAUSED
 }
 
 // Whether a window would leave a gap in what is written.
+#[tactic(auto, unfolding(xdr::specs::Choose::choose, rules::specs::MoverService::elsewhere))]
 pub fn is_elsewhere(state: u32, mode: u32, moved: u64, offset: u64) -> bool
     ensures { result ≡ elsewhere state mode moved offset }
 {
-    if state == Mover::PAUSED {
-        if mode == Mover::TO_TAPE {
-            return offset != moved;
-        }
-    }
-    false
+    state == Mover::PAUSED && mode == Mover::TO_TAPE && offset != moved
 }

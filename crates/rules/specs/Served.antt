@@ -1,0 +1,15 @@
+-- What the code of a service hands back, as the definitions have it.
+use Rattle.std.specs.Prelude.{ℕ, Result, Ok, Err}
+use Rattle.codes.specs.Errors.{number_of}
+use Rattle.codes.specs.declared.NdmpError.{NdmpError}
+use Rattle.rules.specs.Judge.{Outcome, refuse, accept}
+use Rattle.rules.specs.declared.Accepted.{Accepted}
+
+-- the number of a refusal, or 0
+abbrev pub told : {A : Type 0} → Result A NdmpError → ℕ
+told (Ok x) = 0
+told (Err e) = number_of e
+
+abbrev pub outcome_of : {A : Type 0} → Result (Accepted A) NdmpError → Outcome A
+outcome_of (Err e) = refuse (number_of e)
+outcome_of (Ok a) = accept a.reply a.next
