@@ -13,15 +13,18 @@ use Rattle.xdr.proofs.Laws.{length_be32s}
 use Rattle.xdr.proofs.Tests.{no, all_get, and_l, and_r, by_test}
 use Rattle.wire_frame.specs.Frame.{frame_tests, well_framed, Well, framed, record_bytes}
 use Rattle.wire_frame.specs.Messages.{Line, is, look, table, row_of}
-use Rattle.wire_frame.specs.declared.Framed.{Framed}
-use Rattle.wire_frame.specs.declared.Framed.TheVariants.{Broken, NotRequest, Request}
+use Rattle.std.specs.declared.result.Result.{Result}
+use Rattle.std.specs.declared.result.Result.TheVariants.{Ok, Err}
+use Rattle.wire_frame.specs.declared.Frame.{Frame}
+use Rattle.wire_frame.specs.declared.Unframed.{Unframed}
+use Rattle.wire_frame.specs.declared.Unframed.TheVariants.{Broken, NotRequest}
 use Rattle.wire_frame.specs.declared.Row.{Row}
 use Rattle.wire_frame.specs.declared.Message.TheVariants.{Unknown}
 
-chosen : (a : Bool) (x : Framed) (s m : ℕ) → choose a x Broken ≡ Request s m → a ≡ true
+chosen : (a : Bool) (x : Result Frame Unframed) (f : Frame) → choose a x (Err Broken) ≡ Ok f → a ≡ true
 unfolding choose
-chosen true x s m e = refl
-chosen false x s m e = let z : ◌≡◌ {A = ℕ} 0 1 = cc in absurd (omega arith)
+chosen true x f e = refl
+chosen false x f e = let z : ◌≡◌ {A = ℕ} 0 1 = cc in absurd (omega arith)
 
 module _ (l : List ℕ) where
   pub well : Well l → true ≡ well_framed l
@@ -34,22 +37,22 @@ module _ (l : List ℕ) where
       let g : (k : ℕ) → get_or (frame_tests l) k true ≡ true = all_get (frame_tests l) h in
       record { long = leb-true _ _ (g 0); low = leb-true _ _ (g 1); high = leb-true _ _ (g 2); size = eqb-true _ _ (g 3) }
 
-  pub broken : (Well l → ⊥) → Broken ≡ framed l
+  pub broken : (Well l → ⊥) → Err Broken ≡ framed l
   unfolding framed choose
   broken h = rw (← no (well_framed l) (λ e. h (is_well e)))
 
-  pub no_request : Well l → (word l 12 ≡ 0 → ⊥) → NotRequest ≡ framed l
+  pub no_request : Well l → (word l 12 ≡ 0 → ⊥) → Err NotRequest ≡ framed l
   unfolding framed choose
   no_request w h = rw (← well w, ne_eqb (word l 12) 0 h)
 
-  pub request : (s m : ℕ) → Well l → word l 12 ≡ 0 → s ≡ word l 4 → m ≡ word l 16 → Request s m ≡ framed l
+  pub request : (s m : ℕ) → Well l → word l 12 ≡ 0 → s ≡ word l 4 → m ≡ word l 16 → Ok (record { sequence = s; message = m }) ≡ framed l
   unfolding framed choose
   request s m w h p q = rw (← well w, eq-eqb (word l 12) 0 h, p, q)
 
   -- a request's record has its whole header
-  pub request_well : (s m : ℕ) → Request s m ≡ framed l → Well l
+  pub request_well : (f : Frame) → Ok f ≡ framed l → Well l
   unfolding framed
-  request_well s m e = is_well (chosen (well_framed l) _ s m (sym e))
+  request_well f e = is_well (chosen (well_framed l) _ f (sym e))
 
 -- ---- the last arm of a match on a table's numbers: none of them
 abbrev pub Rest : Type 0 → List Line → ℕ → Type 0

@@ -1,10 +1,11 @@
 -- A record on the wire (paper 01; RFC 5531's record mark): the mark, six header words, and the body.
-use Rattle.std.specs.Prelude.{ℕ, ◌+◌, ◌-◌, ◌≤◌, Bool, true, false, ◌≡◌, List, [], ◌∷◌, ◌++◌, length, drop, leb, eqb}
+use Rattle.std.specs.Prelude.{ℕ, ◌+◌, ◌-◌, ◌≤◌, Bool, true, false, ◌≡◌, List, [], ◌∷◌, ◌++◌, length, drop, leb, eqb, Result, Ok, Err}
 use Rattle.codes.specs.Codes.{largest_message}
 use Rattle.xdr.specs.Choose.{choose, all_of}
 use Rattle.xdr.specs.Xdr.{word, be32s}
-use Rattle.wire_frame.specs.declared.Framed.{Framed}
-use Rattle.wire_frame.specs.declared.Framed.TheVariants.{Broken, NotRequest, Request}
+use Rattle.wire_frame.specs.declared.Frame.{Frame}
+use Rattle.wire_frame.specs.declared.Unframed.{Unframed}
+use Rattle.wire_frame.specs.declared.Unframed.TheVariants.{Broken, NotRequest}
 
 -- "The mark (top bit set, 31 bits of length) .. Length, without the mark, 24 to 36,864. A record that breaks this, or whose length
 -- plus 4 isn't the lent input's, closes the session". The mark is a word: with the top bit set it is 2^31 plus the length.
@@ -41,8 +42,9 @@ abbrev pub body_of : List ℕ → List ℕ
 body_of l = drop 28 l
 
 -- "Type other than 0: ignored"; "Request sequence numbers are echoed, not judged"
-unfoldable pub framed : List ℕ → Framed
-framed l = choose (well_framed l) (choose (eqb (kind_of l) 0) (Request (sequence_of l) (message_word l)) NotRequest) Broken
+unfoldable pub framed : List ℕ → Result Frame Unframed
+framed l =
+    choose (well_framed l) (choose (eqb (kind_of l) 0) (Ok (record { sequence = sequence_of l; message = message_word l })) (Err NotRequest)) (Err Broken)
 
 -- a record that is sent: the mark, the header and the body
 unfoldable pub record_bytes : ℕ → ℕ → ℕ → ℕ → ℕ → ℕ → List ℕ → List ℕ

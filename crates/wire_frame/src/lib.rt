@@ -5,21 +5,21 @@ ghost use Rattle.std.specs.Prelude.{◌≡◌};
 ghost use Rattle.wire_frame.specs.Frame.{framed};
 ghost use Rattle.wire_frame.specs.Messages.{row_of};
 
-#[derive(Clone, Copy)]
+#[derive(Clone, Copy, Debug, PartialEq, Eq)]
 pub enum ConnectKind {
     Open,
     Auth,
     Close,
 }
 
-#[derive(Clone, Copy)]
+#[derive(Clone, Copy, Debug, PartialEq, Eq)]
 pub enum ConfigKind {
     ConnectionType,
     AuthAttributes,
     ServerInfo,
 }
 
-#[derive(Clone, Copy)]
+#[derive(Clone, Copy, Debug, PartialEq, Eq)]
 pub enum ScsiKind {
     Open,
     Close,
@@ -28,7 +28,7 @@ pub enum ScsiKind {
     Cdb,
 }
 
-#[derive(Clone, Copy)]
+#[derive(Clone, Copy, Debug, PartialEq, Eq)]
 pub enum TapeKind {
     Open,
     Close,
@@ -38,7 +38,7 @@ pub enum TapeKind {
     Read,
 }
 
-#[derive(Clone, Copy)]
+#[derive(Clone, Copy, Debug, PartialEq, Eq)]
 pub enum DataKind {
     State,
     Backup,
@@ -48,7 +48,7 @@ pub enum DataKind {
     Listen,
 }
 
-#[derive(Clone, Copy)]
+#[derive(Clone, Copy, Debug, PartialEq, Eq)]
 pub enum MoverKind {
     State,
     Listen,
@@ -59,7 +59,7 @@ pub enum MoverKind {
     Size,
 }
 
-#[derive(Clone, Copy)]
+#[derive(Clone, Copy, Debug, PartialEq, Eq)]
 pub enum JointKind {
     DataAbort,
     DataConnect,
@@ -69,7 +69,7 @@ pub enum JointKind {
 }
 
 // A message by its interface. The joint ones can read or change both the data and the mover end.
-#[derive(Clone, Copy)]
+#[derive(Clone, Copy, Debug, PartialEq, Eq)]
 pub enum Message {
     Connect(ConnectKind),
     Config(ConfigKind),
@@ -82,45 +82,51 @@ pub enum Message {
 }
 
 // A message, and the zero words before and after the number in the body of its refusal.
-#[derive(Clone, Copy)]
+#[derive(Clone, Copy, Debug, PartialEq, Eq)]
 pub struct Row {
     pub kind: Message,
     pub before: u32,
     pub after: u32,
 }
 
-// What a record is: broken, of another type than a request, or a request with its sequence and message number.
-#[derive(Clone, Copy)]
-pub enum Framed {
+// A record that is a request: its sequence number, and the number of its message.
+#[derive(Clone, Copy, Debug, PartialEq, Eq)]
+pub struct Frame {
+    pub sequence: u32,
+    pub message: u32,
+}
+
+// Why a record is no request: its frame is broken, or it is of another type.
+#[derive(Clone, Copy, Debug, PartialEq, Eq)]
+pub enum Unframed {
     Broken,
     NotRequest,
-    Request { sequence: u32, message: u32 },
 }
 
 // Reads the mark and the header of any bytes.
-pub fn read_frame(input: &[u8]) -> Framed
+pub fn read_frame(input: &[u8]) -> Result<Frame, Unframed>
     ensures { result ≡ framed input.now }
 {
     if input.len() < 28 {
-        return Framed::Broken;
+        return Err(Unframed::Broken);
     }
     let mark = xdr::read_word(input, 0) as usize;
     if mark < 0x8000_0000 + 24 {
-        return Framed::Broken;
+        return Err(Unframed::Broken);
     }
     if 0x8000_0000 + codes::LARGEST_MESSAGE < mark {
-        return Framed::Broken;
+        return Err(Unframed::Broken);
     }
     if mark - 0x8000_0000 + 4 != input.len() {
-        return Framed::Broken;
+        return Err(Unframed::Broken);
     }
     if xdr::read_word(input, 12) != 0 {
-        return Framed::NotRequest;
+        return Err(Unframed::NotRequest);
     }
-    Framed::Request {
+    Ok(Frame {
         sequence: xdr::read_word(input, 4),
         message: xdr::read_word(input, 16),
-    }
+    })
 }
 
 // A line of the table.
