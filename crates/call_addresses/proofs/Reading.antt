@@ -21,8 +21,10 @@ use Rattle.wire_frame.specs.declared.DataKind.TheVariants as DataKind
 use Rattle.wire_frame.specs.declared.MoverKind.TheVariants as MoverKind
 use Rattle.wire_frame.specs.declared.JointKind.TheVariants as JointKind
 use Rattle.wire_frame.specs.declared.Message.{Message}
-use Rattle.wire_frame.specs.declared.Message.TheVariants as Message
-use Rattle.wire_frame.specs.declared.Framed.{Framed}
+use Rattle.std.specs.declared.result.Result.{Result}
+use Rattle.std.specs.declared.result.Result.TheVariants.{Err}
+use Rattle.wire_frame.specs.declared.Frame.{Frame}
+use Rattle.wire_frame.specs.declared.Unframed.{Unframed}
 use Rattle.wire_frame.specs.declared.Row.{Row}
 use Rattle.wire_layouts.specs.Layout.{word, Field, one, Item, four, eight, bytes, fixed, value, part_at, Got, got, cut, FieldGot, field_got, stop, bad}
 use Rattle.wire_layouts.specs.Layout.{single, counted, field_at, Read, whole, before, broken, and_value, and_read, read_fields}
@@ -46,9 +48,14 @@ pub by_number : (number : ℕ) (b : List ℕ) {row : Row} {q : Request} {a : Add
     → a ≡ of_request (decoded (message_of number) b) b
 by_number number b e d h = h ∙ ap (λ (q : Request). of_request q b) (d ∙ ap (λ (row : Row). decoded row.kind b) e)
 
-pub by_frame : (r : List ℕ) {f : Framed} {a : Addresses} → f ≡ framed r → a ≡ of_frame f (body_of r) → a ≡ addresses_in r
+pub by_frame : (r : List ℕ) {f : Result Frame Unframed} {a : Addresses} → f ≡ framed r → a ≡ of_frame f (body_of r) → a ≡ addresses_in r
 unfolding addresses_in
-by_frame r e h = h ∙ ap (λ (f : Framed). of_frame f (body_of r)) e
+by_frame r e h = h ∙ ap (λ (f : Result Frame Unframed). of_frame f (body_of r)) e
+
+pub none_by_frame : (r : List ℕ) (e : Unframed) → Err e ≡ framed r → empty_addresses 0 ≡ addresses_in r
+unfolding of_frame
+none_by_frame r Unframed.Broken e = by_frame r e refl
+none_by_frame r Unframed.NotRequest e = by_frame r e refl
 
 -- ---- a record that is a request, and one that is none
 asked : (r : List ℕ) → well_framed r ≡ true → kind_of r ≡ 0 → addresses_in r ≡ of_request (request_in r) (body_of r)
@@ -62,7 +69,7 @@ not_framed r w = rw w
 unless_asked : (r : List ℕ) → (kind_of r ≡ 0 → of_request (request_in r) (body_of r) ≡ empty_addresses 0) → addresses_in r ≡ empty_addresses 0
 unfolding addresses_in of_frame framed
 unless_asked r h =
-    let P : Framed → Type 0 = λ f. of_frame f (body_of r) ≡ empty_addresses 0 in
+    let P : Result Frame Unframed → Type 0 = λ f. of_frame f (body_of r) ≡ empty_addresses 0 in
     by_test P (well_framed r) _ _ (λ w. by_test P (eqb (kind_of r) 0) _ _ (λ k. h (eqb-true _ _ k)) (λ k. refl)) (λ w. refl)
 
 pub no_request : (r : List ℕ) → (kind_of r ≡ 0 → ⊥) → addresses_in r ≡ empty_addresses 0

@@ -1,22 +1,21 @@
 -- "The host makes the connection: a TCP connect is lent made or failed (our reader gives the host its list)": the addresses of a record that is a
 -- connect by TCP, and none of any other. It judges no state and no login.
-use Rattle.std.specs.Prelude.{ℕ, true, false, ◌≡◌, List, [], ◌∷◌, ◌++◌, eqb, replicate}
+use Rattle.std.specs.Prelude.{ℕ, true, false, ◌≡◌, List, [], ◌∷◌, ◌++◌, eqb, replicate, Result, Ok, Err}
 use Rattle.codes.specs.Codes.{tcp_address}
 use Rattle.xdr.specs.Choose.{choose}
 use Rattle.wire_frame.specs.Frame.{well_framed, kind_of, message_word, body_of, framed}
 use Rattle.wire_frame.specs.Messages.{message_of}
-use Rattle.wire_frame.specs.declared.Framed.{Framed}
-use Rattle.wire_frame.specs.declared.Framed.TheVariants as Framed
+use Rattle.wire_frame.specs.declared.Frame.{Frame}
+use Rattle.wire_frame.specs.declared.Unframed.{Unframed}
+use Rattle.wire_frame.specs.declared.Unframed.TheVariants.{Broken, NotRequest}
 use Rattle.wire_frame.specs.declared.JointKind.TheVariants as JointKind
 use Rattle.wire_frame.specs.declared.Message.{Message}
-use Rattle.wire_frame.specs.declared.Message.TheVariants as Message
 use Rattle.wire_layouts.specs.Layout.{Item, four, Value, value, whole, read_fields}
 use Rattle.wire_layouts.specs.AddressLists.{empty_addresses, addresses_at, Given}
 use Rattle.wire_layouts.specs.declared.Text.{Text}
 use Rattle.wire_layouts.specs.declared.Addresses.{Addresses}
 use Rattle.wire_requests.specs.Bodies.{layout_of, decoded}
 use Rattle.wire_requests.specs.declared.JointRequest.{JointRequest}
-use Rattle.wire_requests.specs.declared.JointRequest.TheVariants as JointRequest
 use Rattle.wire_requests.specs.declared.Request.{Request}
 use Rattle.wire_requests.specs.declared.Request.TheVariants.{Connect, Config, Scsi, Tape, Data, Mover, Joint, Unknown, Bad}
 use Rattle.call_addresses.specs.Samples.{connect_two, listen_tcp}
@@ -45,10 +44,10 @@ of_request Unknown b = empty_addresses 0
 of_request Bad b = empty_addresses 0
 
 -- by what the record was found to be
-unfoldable pub of_frame : Framed → List ℕ → Addresses
-of_frame Framed.Broken b = empty_addresses 0
-of_frame Framed.NotRequest b = empty_addresses 0
-of_frame (Framed.Request sequence message) b = of_request (decoded (message_of message) b) b
+unfoldable pub of_frame : Result Frame Unframed → List ℕ → Addresses
+of_frame (Err Broken) b = empty_addresses 0
+of_frame (Err NotRequest) b = empty_addresses 0
+of_frame (Ok f) b = of_request (decoded (message_of f.message) b) b
 
 unfoldable pub addresses_in : List ℕ → Addresses
 addresses_in r = of_frame (framed r) (body_of r)

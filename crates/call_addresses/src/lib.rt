@@ -7,7 +7,6 @@ ghost use Rattle.wire_layouts.specs.AddressLists.{empty_addresses};
 ghost use Rattle.wire_requests.specs.Bodies.{decoded};
 ghost use Rattle.call_addresses.specs.Reading.{by_type, of_joint, of_request, addresses_in, ReaderHolds};
 
-use wire_frame::Framed;
 use wire_layouts::Addresses;
 use wire_requests::{JointRequest, Request};
 
@@ -68,12 +67,8 @@ pub fn read_addresses(input: &[u8]) -> Addresses
     ensures { result ≡ addresses_in input.now }
 {
     match wire_frame::read_frame(input) {
-        Framed::Broken => nothing(),
-        Framed::NotRequest => nothing(),
-        Framed::Request {
-            sequence: _,
-            message,
-        } => of_request(message, &input[28..]),
+        Ok(frame) => of_request(frame.message, &input[28..]),
+        Err(_) => nothing(),
     }
 }
 

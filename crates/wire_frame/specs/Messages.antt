@@ -1,6 +1,6 @@
 -- "What the vault handles", 0x404 of 02 No. 3 and 0x103 of 02 No. 2: the message numbers of NDMP version 4 (004,
 -- Appendix C) that are requests here, by interface.
-use Rattle.std.specs.Prelude.{ℕ, Bool, List, [], ◌∷◌, eqb}
+use Rattle.std.specs.Prelude.{ℕ, List, [], ◌∷◌, eqb}
 use Rattle.xdr.specs.Choose.{choose}
 use Rattle.wire_frame.specs.declared.ConnectKind.TheVariants as ConnectKind
 use Rattle.wire_frame.specs.declared.ConfigKind.TheVariants as ConfigKind

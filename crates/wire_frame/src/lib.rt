@@ -1,7 +1,7 @@
 // A record on the wire: its frame, and which message its number is.
 #![tactic(auto)]
 
-ghost use Rattle.std.specs.Prelude.{◌≡◌};
+ghost use Rattle.std.specs.Prelude.{◌≡◌, ◌≤◌, length, IfOk};
 ghost use Rattle.wire_frame.specs.Frame.{framed};
 ghost use Rattle.wire_frame.specs.Messages.{row_of};
 
@@ -103,9 +103,11 @@ pub enum Unframed {
     NotRequest,
 }
 
-// Reads the mark and the header of any bytes.
+// Reads the mark and the header of any bytes. A request's record has its whole header.
+#[tactic(auto, unfolding(xdr::specs::Choose::choose, xdr::specs::Choose::all_of, crate::specs::Frame::well_framed, crate::specs::Frame::framed))]
 pub fn read_frame(input: &[u8]) -> Result<Frame, Unframed>
-    ensures { result ≡ framed input.now }
+    ensures read { result ≡ framed input.now }
+    ensures whole { IfOk result (λ _. 28 ≤ length input.now) }
 {
     if input.len() < 28 {
         return Err(Unframed::Broken);
@@ -141,6 +143,7 @@ fn line(kind: Message, before: u32, after: u32) -> Row
 }
 
 // The row of a message number.
+#[tactic(auto, unfolding(xdr::specs::Choose::choose, crate::specs::Messages::look, crate::specs::Messages::row_of))]
 pub fn row_of(number: u32) -> Row
     ensures { result ≡ row_of number }
 {
