@@ -35,7 +35,7 @@ use serve_data::DataDone;
 use serve_joint::JointDone;
 use serve_mover::MoverDone;
 use serve_tape::TapeDone;
-use wire_frame::Framed;
+use wire_frame::Unframed;
 use wire_replies::Reply;
 use wire_requests::{
     ConnectRequest, DataRequest, JointRequest, MoverRequest, Request, ScsiRequest, TapeRequest,
@@ -385,16 +385,13 @@ pub fn request(
         return call_sending::quiet(code, s);
     }
     match wire_frame::read_frame(input) {
-        Framed::Broken => call_sending::shut(s),
-        Framed::NotRequest => call_sending::quiet(0, s),
-        Framed::Request {
-            sequence: _,
-            message,
-        } => {
+        Ok(frame) => {
             framed_call(
-                s, message, accounts, challenge, addresses, made, image, variables, input, time,
-                out,
+                s, frame.message, accounts, challenge, addresses, made, image, variables, input,
+                time, out,
             )
         }
+        Err(Unframed::Broken) => call_sending::shut(s),
+        Err(Unframed::NotRequest) => call_sending::quiet(0, s),
     }
 }

@@ -12,7 +12,7 @@ use hex_text::Decoded;
 use line::{put, put_number};
 use std::io;
 use std::io::Write;
-use wire_frame::Framed;
+use wire_frame::Unframed;
 use wire_requests::Request;
 
 const LARGEST_INPUT: usize = 1_048_576;
@@ -36,16 +36,14 @@ fn show_request(out: &mut impl Write, number: u32, body: &[u8]) -> io::Result<()
 }
 
 // Any bytes: a request has its sequence number in front.
-#[tactic(auto, using(wire_frame::proofs::Laws::request_well))]
 fn show(out: &mut impl Write, record: &[u8]) -> io::Result<()> {
-    let f = wire_frame::read_frame(record);
-    match f {
-        Framed::Broken => put(out, b"broken")?,
-        Framed::NotRequest => put(out, b"not a request")?,
-        Framed::Request { sequence, message } => {
-            put_number(out, b"", sequence as u64)?;
-            show_request(out, message, &record[28..])?;
+    match wire_frame::read_frame(record) {
+        Ok(frame) => {
+            put_number(out, b"", u64::from(frame.sequence))?;
+            show_request(out, frame.message, &record[28..])?;
         }
+        Err(Unframed::Broken) => put(out, b"broken")?,
+        Err(Unframed::NotRequest) => put(out, b"not a request")?,
     }
     put(out, b"\n")
 }

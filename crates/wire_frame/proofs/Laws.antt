@@ -4,13 +4,13 @@ use mathlib.Core.Path.{◌≡◌, refl}
 use mathlib.Core.Bool.{Bool, true, ◌&&◌}
 use mathlib.Core.List.{List, [], ◌∷◌}
 use native.Mathlib.Omega.{arith}
-use lib.ListN.{length, get_or, length-append}
+use lib.ListN.{length, length-append}
 use lib.Dec.{leb, eqb}
-use borrow.Author.Tests.{le-leb, eq-eqb, leb-true, eqb-true}
+use borrow.Author.Tests.{le-leb, eq-eqb, leb-true}
 use Rattle.xdr.specs.Choose.{all_of}
 use Rattle.xdr.proofs.Laws.{length_be32s}
-use Rattle.xdr.proofs.Tests.{all_get, and_l, and_r, by_test}
-use Rattle.wire_frame.specs.Frame.{frame_tests, well_framed, Well, record_bytes}
+use Rattle.xdr.proofs.Tests.{and_l, and_r, by_test}
+use Rattle.wire_frame.specs.Frame.{well_framed, Well, record_bytes}
 use Rattle.wire_frame.specs.Messages.{Line, is, look, table, row_of}
 use Rattle.wire_frame.specs.declared.Row.{Row}
 
@@ -18,12 +18,6 @@ module _ (l : List ℕ) where
   pub well : Well l → true ≡ well_framed l
   unfolding well_framed all_of
   well w = simp (le-leb _ _ w.long, le-leb _ _ w.low, le-leb _ _ w.high, eq-eqb _ _ w.size)
-
-  pub is_well : well_framed l ≡ true → Well l
-  unfolding well_framed
-  is_well h =
-      let g : (k : ℕ) → get_or (frame_tests l) k true ≡ true = all_get (frame_tests l) h in
-      record { long = leb-true _ _ (g 0); low = leb-true _ _ (g 1); high = leb-true _ _ (g 2); size = eqb-true _ _ (g 3) }
 
 -- ---- the zero words of a refusal: a test of every line, computed once for the table
 abbrev all_small : List Line → Bool

@@ -1,7 +1,6 @@
 use native.Mathlib.Omega.{arith}
 use mathlib.Core.Path.{sym, ◌∙◌}
 use Rattle.rules.specs.Answer.{held, requested}
-use Rattle.wire_frame.proofs.Laws.{request_well}
 use Rattle.rules.proofs.Guarding.{guard_goes}
 use Rattle.call_sending.proofs.Calling.{call_if, call_else}
 use Rattle.call_request.specs.Call.{lent}
@@ -24,15 +23,15 @@ framed_call-requires c = let c8 = c in
     let a = c16.args in
     let k = held a.s a.image.now a.variables.now in
     let l = lent a.accounts.now a.challenge.now a.addresses.now a.made a.time a.out.now in
-    let f = sym c.in-Request.is ∙
-    c.read_frame.ensures in
+    let f = sym c.in-Ok.is ∙
+    c.read_frame.ensures.read in
     let g = guard_goes _ _ (sym c.in_default.is ∙
     c8.guard-guard.ensures) in
     let there = room_there k l (room_is k l c8.room_of-room.ensures) g.roomy in
-    (record { long = (request_well _ _ _ f).long; room = omega (arith, there.0) }, (frame_request _ _ _ f).2, there.1)
+    (record { long = omega (arith, c.in-Ok.ensures.whole); room = omega (arith, there.0) }, (frame_request _ _ f).2, there.1)
 
-pub returns-in-Broken : goal.returns-in-Broken
-returns-in-Broken c = let c8 = c in
+pub returns-in-Err-Broken : goal.returns-in-Err-Broken
+returns-in-Err-Broken c = let c8 = c in
     let a = c8.args in
     let k = held a.s a.image.now a.variables.now in
     let l = lent a.accounts.now a.challenge.now a.addresses.now a.made a.time a.out.now in
@@ -40,31 +39,31 @@ returns-in-Broken c = let c8 = c in
     c.room_of-room.ensures)
     (sym c.in_default.is ∙
     c.guard-guard.ensures)
-    (call_else _ (frame_broken _ (sym c.in-Broken.is ∙
-    c.read_frame.ensures)) (c.shut.ensures _ _ _))
+    (call_else _ (frame_broken _ (rw c.in-Err-Broken.field-0-is at (sym c.in-Err-Broken.is ∙
+    c.read_frame.ensures.read))) (c.shut.ensures _ _ _))
 
-pub returns-in-NotRequest : goal.returns-in-NotRequest
+pub returns-in-Err-NotRequest : goal.returns-in-Err-NotRequest
 unfolding requested
-returns-in-NotRequest c = let c8 = c in
+returns-in-Err-NotRequest c = let c8 = c in
     let a = c8.args in
     let k = held a.s a.image.now a.variables.now in
     let l = lent a.accounts.now a.challenge.now a.addresses.now a.made a.time a.out.now in
-    let f = frame_other _ (sym c.in-NotRequest.is ∙ c.read_frame.ensures) in
+    let f = frame_other _ (rw c.in-Err-NotRequest.field-0-is at (sym c.in-Err-NotRequest.is ∙ c.read_frame.ensures.read)) in
     call_goes k l a.input.now _ (room_is k l
     c.room_of-room.ensures)
     (sym c.in_default.is ∙
     c.guard-guard.ensures)
-    (call_if _ f.0 (call_if _ f.1 (c.quiet-in-NotRequest.ensures _ _ _)))
+    (call_if _ f.0 (call_if _ f.1 (c.quiet-in-Err-NotRequest.ensures _ _ _)))
 
-pub returns-in-Request : goal.returns-in-Request
+pub returns-in-Ok : goal.returns-in-Ok
 unfolding requested
-returns-in-Request c = let c8 = c in
+returns-in-Ok c = let c8 = c in
     let c16 = c8 in
     let a = c16.args in
     let k = held a.s a.image.now a.variables.now in
     let l = lent a.accounts.now a.challenge.now a.addresses.now a.made a.time a.out.now in
-    let f = frame_request _ _ _ (sym c8.in-Request.is ∙
-    c8.read_frame.ensures) in
+    let f = frame_request _ _ (sym c8.in-Ok.is ∙
+    c8.read_frame.ensures.read) in
     call_goes k l a.input.now _ (room_is k l c16.room_of-room.ensures)
     (sym c8.in_default.is ∙ c16.guard-guard.ensures)
     (call_if _ f.0 (call_else _ f.1 c.framed_call.ensures))
