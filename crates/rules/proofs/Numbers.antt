@@ -16,9 +16,8 @@ use Rattle.tape_spacing.proofs.Laws.{spaced_error}
 use Rattle.tape_writing.specs.Writing.{room_for}
 use Rattle.tape_ops.specs.declared.Wrote.{Wrote}
 use Rattle.tape_ops.specs.declared.Part.{Part}
-use Rattle.tape_ops.specs.declared.Standing.{Standing}
 use Rattle.tape_ops.specs.Step.{Step, keeping}
-use Rattle.tape_ops.specs.Operations.{write_step, read_part, entry_part, mark_step, rewinds, mtio_step, standing_at}
+use Rattle.tape_ops.specs.Operations.{write_step, read_part, entry_part, mark_step, rewinds, mtio_step, Standing, standing_at}
 use Rattle.tape_ops.specs.Promises.{Refused}
 use Rattle.wire_requests.specs.Within.{bytes_at}
 use Rattle.wire_requests.specs.declared.ConnectRequest.{ConnectRequest}

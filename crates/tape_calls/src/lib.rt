@@ -2,10 +2,13 @@
 // there is an answer.
 #![tactic(auto)]
 
-ghost use Rattle.std.specs.Prelude.{◌≡◌};
-ghost use Rattle.tape_calls.specs.Entries.{entry_told};
+ghost use Rattle.std.specs.Prelude.{◌≡◌, MatchResult};
+ghost use Rattle.codes.specs.Errors.{number_of};
+ghost use Rattle.tape_ops.specs.Operations.{read_part};
+ghost use Rattle.tape_calls.specs.Entries.{entry, entry_told};
 ghost use Rattle.tape_calls.specs.Handing.{Handed};
 
+use codes::NdmpError;
 use tape_ops::Part;
 
 // An entry of a cartridge: of a record its length, of a mark 0; and where it starts in the body. The error is 0, 13 past the last entry, or 15.
@@ -17,31 +20,48 @@ pub struct Entry {
     pub start: usize,
 }
 
+impl Entry {
+    // What C gets for a refusal.
+    fn refused(error: NdmpError) -> Entry
+        ensures { result ≡ entry (number_of error) 0 0 }
+    {
+        Entry {
+            error: error.number(),
+            len: 0,
+            start: 0,
+        }
+    }
+}
+
+// Entry i, or why there is none to tell.
+fn find_entry(image: &[u8], i: usize) -> Result<Entry, NdmpError>
+    ensures { MatchResult result (λ x. x ≡ entry_told image.now i) (λ e. entry (number_of e) 0 0 ≡ entry_told image.now i) }
+{
+    if !tape_sound::sound(image) {
+        return Err(NdmpError::BadFile);
+    }
+    if tape_image::count(image) <= i {
+        return Err(NdmpError::AtEnd);
+    }
+    Ok(Entry {
+        error: 0,
+        len: tape_image::entry_len(image, i),
+        start: tape_image::entry_start(image, i),
+    })
+}
+
 // Entry i of a sound image.
 pub fn entry_at(image: &[u8], i: usize) -> Entry
     ensures { result ≡ entry_told image.now i }
 {
-    if !tape_sound::sound(image) {
-        return Entry {
-            error: codes::BAD_FILE,
-            len: 0,
-            start: 0,
-        };
-    }
-    if tape_image::count(image) <= i {
-        return Entry {
-            error: codes::AT_END,
-            len: 0,
-            start: 0,
-        };
-    }
-    let len = tape_image::entry_len(image, i);
-    let start = tape_image::entry_start(image, i);
-    Entry {
-        error: 0,
-        len,
-        start,
-    }
+    find_entry(image, i).unwrap_or_else(|error| Entry::refused(error))
+}
+
+// What C gets of a read, by its place in the image.
+fn read_part(image: &[u8], position: usize, times: u32) -> Part
+    ensures { result ≡ read_part image.now position times }
+{
+    tape_ops::read(image, position, times).unwrap_or_else(|error| Part::refused(position, error))
 }
 
 // Reads the record at a position, up to a number of bytes, to the front of out. Where out is too short for them nothing is
@@ -49,7 +69,7 @@ pub fn entry_at(image: &[u8], i: usize) -> Entry
 pub fn read_to(image: &[u8], position: usize, times: u32, out: &mut [u8]) -> Part
     ensures { Handed image.now position times out.old result out.new }
 {
-    let part = tape_ops::read(image, position, times);
+    let part = read_part(image, position, times);
     let start = part.start;
     let len = part.len;
     if out.len() < len {

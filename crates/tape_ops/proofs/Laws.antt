@@ -5,22 +5,24 @@ use mathlib.Core.List.{List}
 use mathlib.Core.Path.{◌≡◌, refl, sym, ap, ◌∙◌}
 use lib.ListN.{length}
 use lib.Dec.{ltb, eqb}
-use borrow.Author.Tests.{eq-eqb, ne_eqb, lt-ltb, le-ltb}
+use borrow.Author.Tests.{eq-eqb, ne_eqb, lt-ltb, le-ltb, ltb-true, ltb-false}
+use native.Mathlib.Omega.{arith}
+use Rattle.std.specs.Prelude.{min}
+use Rattle.xdr.proofs.Tests.{by_test}
 use Rattle.xdr.specs.Choose.{choose, least}
 use Rattle.tape_image.specs.Image.{capacity, count, entry_len, entry_start, body_at, faulty}
 use Rattle.tape_spacing.specs.Spacing.{ended}
-use Rattle.tape_image.specs.Sound.{Placed}
 use Rattle.tape_image.specs.declared.Place.{Place}
 use Rattle.tape_image.specs.Place.{marks_before, records_since, place_at}
-use Rattle.tape_image.proofs.Laws.{placed}
 use Rattle.tape_writing.specs.Writing.{room_for, written, with_marks, fill_to, FilledWrite}
 use Rattle.tape_writing.proofs.Laws.{fill_whole}
 use Rattle.tape_ops.specs.Step.{Step, Told, keeping}
 use Rattle.tape_ops.specs.Operations.{wrote, part, standing, mark_step, entry_part}
 
--- a position that was asked about and is no fault
-pub no_fault_here : (l : List ℕ) (p : ℕ) (r : Bool) → r ≡ faulty l p → r ≡ false → Placed l p
-no_fault_here l p r e h = placed l p (sym e ∙ h)
+-- the lesser of two numbers, as std has it
+pub least_min : (a b : ℕ) → least a b ≡ min b a
+unfolding least
+least_min a b = by_test (λ (k : ℕ). k ≡ min b a) (ltb a b) a b (λ h. let z : a < b = ltb-true a b h in grind arith) (λ h. let z : b ≤ a = ltb-false a b h in grind arith)
 
 -- the end of a write: there was room, or not
 module _ (l : List ℕ) (p : ℕ) (b : List ℕ) (r : Bool) (l' : List ℕ) (w : FilledWrite l p b (length b) r l') where

@@ -1,3 +1,4 @@
 pub mod Step
 pub mod Operations
 pub mod Promises
+pub mod Answers

@@ -10,7 +10,6 @@ use Rattle.tape_spacing.specs.Spacing.{ended, spacing}
 use Rattle.tape_writing.specs.Writing.{room_for, written, with_marks}
 use Rattle.tape_ops.specs.declared.Wrote.{Wrote}
 use Rattle.tape_ops.specs.declared.Part.{Part}
-use Rattle.tape_ops.specs.declared.Standing.{Standing}
 use Rattle.tape_ops.specs.Step.{Step, keeping}
 
 abbrev pub wrote : ℕ → ℕ → ℕ → Wrote
@@ -64,6 +63,12 @@ mtio_step l op p times =
     (choose (eqb op write_marks) (mark_step l p times)
     (choose (rewinds op) (keeping l (ended 0 0 0))
     (keeping l (spacing l op p times)))))
+
+-- what get state gives: the error, the file and the block number
+pub record Standing : Type 0 where
+  pub error : ℕ
+  pub file : ℕ
+  pub block : ℕ
 
 abbrev pub standing : ℕ → ℕ → ℕ → Standing
 standing e f b = record { error = e; file = f; block = b }

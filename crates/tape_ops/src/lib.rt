@@ -1,16 +1,22 @@
 // The tape operations on a cartridge image, for any image and any position: what a session calls. An unsound image or a position
-// above the number of entries is an answer, 7.
+// above the number of entries is refused, as are arguments out of range; a mark and an end are outcomes of the tape.
 #![tactic(auto)]
 
-ghost use Rattle.std.specs.Prelude.{◌≡◌};
+ghost use Rattle.std.specs.Prelude.{◌≡◌, ◌<◌, ◌≤◌, true, false, length, MatchResult};
+ghost use Rattle.codes.specs.Codes.{longest_record};
+ghost use Rattle.codes.specs.declared.NdmpError.TheVariants as NdmpError;
+ghost use Rattle.tape_image.specs.Image.{faulty};
 ghost use Rattle.tape_image.specs.Sound.{Placed};
 ghost use Rattle.tape_ops.specs.Step.{Told};
-ghost use Rattle.tape_ops.specs.Operations.{write_step, read_part, mark_step, rewinds, mtio_step, entry_part, standing_at};
+ghost use Rattle.tape_ops.specs.Operations.{part, mark_step, rewinds, entry_part};
+ghost use Rattle.tape_ops.specs.Answers.{refused_write, refused_read, WriteGave, ReadGave, MtioGave, StateGave};
 ghost use Rattle.tape_ops.specs.Promises.{TapePromises};
 
+use codes::NdmpError;
+use tape_image::Place;
 use tape_spacing::Spaced;
 
-// What a write gives: the error, the bytes written and the next position.
+// What a write gives: the error, the bytes written and the next position. The error is a number, here and below, as C's structs have it.
 #[repr(C)]
 #[derive(Clone, Copy)]
 pub struct Wrote {
@@ -29,53 +35,86 @@ pub struct Part {
     pub len: usize,
 }
 
-// What get state gives: the error, the file and the block number.
-#[repr(C)]
-#[derive(Clone, Copy)]
-pub struct Standing {
-    pub error: u32,
-    pub file: u32,
-    pub block: u32,
+impl Wrote {
+    // What C gets for a refusal at a position.
+    pub fn refused(position: usize, error: NdmpError) -> Wrote
+        ensures { result ≡ refused_write position error }
+    {
+        Wrote {
+            error: error.number(),
+            count: 0,
+            position,
+        }
+    }
+}
+
+impl Part {
+    // What C gets for a refusal at a position.
+    pub fn refused(position: usize, error: NdmpError) -> Part
+        ensures { result ≡ refused_read position error }
+    {
+        Part::without_bytes(error.number(), position)
+    }
+
+    // A number and a position alone.
+    fn without_bytes(error: u32, position: usize) -> Part
+        ensures { result ≡ part error position 0 0 }
+    {
+        Part {
+            error,
+            position,
+            start: 0,
+            len: 0,
+        }
+    }
+}
+
+// Refuses more bytes than a record may have.
+fn check_length(n: usize) -> Result<(), NdmpError>
+    ensures { MatchResult result (λ _. n ≤ longest_record) (λ e. (e ≡ NdmpError.IllegalArguments) × (longest_record < n)) }
+{
+    if codes::LONGEST_RECORD < n {
+        return Err(NdmpError::IllegalArguments);
+    }
+    Ok(())
+}
+
+// Refuses an unsound image, and a position above its number of entries.
+fn check_position(image: &[u8], position: usize) -> Result<(), NdmpError>
+    ensures { MatchResult result (λ _. (faulty image.now position ≡ false) × Placed image.now position) (λ e. (e ≡ NdmpError.IoError) × (faulty image.now position ≡ true)) }
+{
+    if tape_sound::is_faulty(image, position) {
+        return Err(NdmpError::IoError);
+    }
+    Ok(())
 }
 
 // Writes a record at a position.
-pub fn write(image: &mut [u8], position: usize, bytes: &[u8]) -> Wrote
-    ensures { Told (write_step image.old position bytes.now) result image.new }
+pub fn write(image: &mut [u8], position: usize, bytes: &[u8]) -> Result<Wrote, NdmpError>
+    ensures { WriteGave image.old position bytes.now result image.new }
 {
     let n = bytes.len();
-    if codes::LONGEST_RECORD < n {
-        return Wrote {
-            error: codes::ILLEGAL_ARGUMENTS,
-            count: 0,
-            position,
-        };
-    }
-    if tape_sound::is_faulty(image, position) {
-        return Wrote {
-            error: codes::IO_ERROR,
-            count: 0,
-            position,
-        };
-    }
+    check_length(n)?;
+    check_position(image, position)?;
     if n == 0 {
-        return Wrote {
+        return Ok(Wrote {
             error: 0,
             count: 0,
             position,
-        };
+        });
     }
-    if tape_writing::write_filled(image, position, bytes, n) {
-        return Wrote {
-            error: 0,
-            count: n as u32,
-            position: position + 1,
-        };
+    if !tape_writing::write_filled(image, position, bytes, n) {
+        return Ok(Wrote {
+            error: codes::AT_END,
+            count: 0,
+            position,
+        });
     }
-    Wrote {
-        error: codes::AT_END,
-        count: 0,
-        position,
-    }
+    Ok(Wrote {
+        error: 0,
+        count: n as u32,
+        position: position + 1,
+    })
 }
 
 // What stands at a position that is not above the number of entries.
@@ -84,59 +123,30 @@ fn entry_part(image: &[u8], position: usize, times: u32) -> Part
     ensures { result ≡ entry_part image.now position times }
 {
     if position == tape_image::count(image) {
-        return Part {
-            error: codes::AT_END,
-            position,
-            start: 0,
-            len: 0,
-        };
+        return Part::without_bytes(codes::AT_END, position);
     }
     let len = tape_image::entry_len(image, position);
     if len == 0 {
-        return Part {
-            error: codes::AT_MARK,
-            position: position + 1,
-            start: 0,
-            len: 0,
-        };
+        return Part::without_bytes(codes::AT_MARK, position + 1);
     }
     Part {
         error: 0,
         position: position + 1,
         start: tape_image::body_at(image) + tape_image::entry_start(image, position),
-        len: xdr::lesser_len(times as usize, len),
+        len: len.min(times as usize),
     }
 }
 
 // Reads the record at a position, up to a number of bytes.
-pub fn read(image: &[u8], position: usize, times: u32) -> Part
-    ensures { result ≡ read_part image.now position times }
+pub fn read(image: &[u8], position: usize, times: u32) -> Result<Part, NdmpError>
+    ensures { ReadGave image.now position times result }
 {
-    if codes::LONGEST_RECORD < times as usize {
-        return Part {
-            error: codes::ILLEGAL_ARGUMENTS,
-            position,
-            start: 0,
-            len: 0,
-        };
-    }
-    if tape_sound::is_faulty(image, position) {
-        return Part {
-            error: codes::IO_ERROR,
-            position,
-            start: 0,
-            len: 0,
-        };
-    }
+    check_length(times as usize)?;
+    check_position(image, position)?;
     if times == 0 {
-        return Part {
-            error: 0,
-            position,
-            start: 0,
-            len: 0,
-        };
+        return Ok(Part::without_bytes(0, position));
     }
-    entry_part(image, position, times)
+    Ok(entry_part(image, position, times))
 }
 
 // Writes marks at a position: all of them, or none where they do not fit.
@@ -164,60 +174,36 @@ fn marks(image: &mut [u8], position: usize, times: u32) -> Spaced
 fn rewinds(op: u32) -> bool
     ensures { result ≡ rewinds op }
 {
-    if op == codes::REWIND_TAPE {
-        return true;
-    }
-    op == codes::OFF_LINE
+    op == codes::REWIND_TAPE || op == codes::OFF_LINE
 }
 
 // MTIO: 0 FSF, 1 BSF, 2 FSR, 3 BSR, 4 REW, 5 write marks, 6 off, which rewinds here; its caller closes the device.
-pub fn mtio(image: &mut [u8], op: u32, position: usize, times: u32) -> Spaced
-    ensures { Told (mtio_step image.old op position times) result image.new }
+pub fn mtio(image: &mut [u8], op: u32, position: usize, times: u32) -> Result<Spaced, NdmpError>
+    ensures { MtioGave image.old op position times result image.new }
 {
     if codes::OFF_LINE < op {
-        return Spaced {
-            error: codes::ILLEGAL_ARGUMENTS,
-            position,
-            residue: 0,
-        };
+        return Err(NdmpError::IllegalArguments);
     }
-    if tape_sound::is_faulty(image, position) {
-        return Spaced {
-            error: codes::IO_ERROR,
-            position,
-            residue: 0,
-        };
-    }
+    check_position(image, position)?;
     if op == codes::WRITE_MARKS {
-        return marks(image, position, times);
+        return Ok(marks(image, position, times));
     }
     if rewinds(op) {
-        return Spaced {
+        return Ok(Spaced {
             error: 0,
             position: 0,
             residue: 0,
-        };
+        });
     }
-    tape_walking::space(image, op, position, times)
+    Ok(tape_walking::space(image, op, position, times))
 }
 
 // The file and the block number of a position.
-pub fn state(image: &[u8], position: usize) -> Standing
-    ensures { result ≡ standing_at image.now position }
+pub fn state(image: &[u8], position: usize) -> Result<Place, NdmpError>
+    ensures { StateGave image.now position result }
 {
-    if tape_sound::is_faulty(image, position) {
-        return Standing {
-            error: codes::IO_ERROR,
-            file: 0,
-            block: 0,
-        };
-    }
-    let place = tape_walking::place_of(image, position);
-    Standing {
-        error: 0,
-        file: place.file,
-        block: place.block,
-    }
+    check_position(image, position)?;
+    Ok(tape_walking::place_of(image, position))
 }
 
 // No work: its contract is the promises on the operations, so that the crate is proved only with them.

@@ -1,35 +1,26 @@
-use Rattle.xdr.proofs.Tests.{asked, ltb_no, eqb_yes}
-use Rattle.tape_ops.proofs.Telling.{told_if, told_else}
-use Rattle.tape_ops.specs.Operations.{mtio_step}
-use Rattle.tape_ops.proofs.Telling.{telling}
-use Rattle.tape_ops.proofs.Laws.{no_fault_here}
+use Rattle.std.proofs.lemmas.Result.{err_from_is_err_and}
+use native.Mathlib.Omega.{arith}
+use Rattle.tape_ops.proofs.Answering.{mtio_other, mtio_fault, mtio_marks, mtio_rewinds, mtio_spaces}
 use Rattle.tape_ops.proofs.mtio.Goals as goal
 
 -- Each return is the test of `mtio_step` that applies there; marks and spacing run where there is no fault.
 pub returns-then-op-gt-OFF_LINE : goal.returns-then-op-gt-OFF_LINE
-unfolding mtio_step
-returns-then-op-gt-OFF_LINE c = search telling depth 10
+returns-then-op-gt-OFF_LINE c = mtio_other _ _ _ _ c.if-op-gt-OFF_LINE.true
 
-pub returns-then-is_faulty : goal.returns-then-is_faulty
-unfolding mtio_step
-returns-then-is_faulty c = search telling depth 10
-
-pub marks-requires : goal.marks-requires
-marks-requires c = no_fault_here _ _ _ c.is_faulty.ensures c.if-is_faulty.false
+pub returns-in_err-check_position : goal.returns-in_err-check_position
+returns-in_err-check_position c =
+    let p = err_from_is_err_and c.from_residual.result c.from_residual.ensures.1 in
+    let h = c.in_err-check_position.ensures in
+    rw (p.1, p.2) (mtio_fault _ _ _ _ _ c.if-op-gt-OFF_LINE.false h.0 h.1)
 
 pub returns-then-op-eq-WRITE_MARKS : goal.returns-then-op-eq-WRITE_MARKS
-unfolding mtio_step
-returns-then-op-eq-WRITE_MARKS c = let d = c in
-    told_else _ (ltb_no d.if-op-gt-OFF_LINE.false)
-    (told_else _ (asked d.is_faulty.ensures d.if-is_faulty.false) (told_if _ (eqb_yes d.if-op-eq-WRITE_MARKS.true) c.marks.ensures))
+returns-then-op-eq-WRITE_MARKS c =
+    mtio_marks _ _ c.in_ok-check_position.ensures.0 _ _ c.if-op-gt-OFF_LINE.false c.if-op-eq-WRITE_MARKS.true _ _ c.marks.ensures
 
 pub returns-then-rewinds : goal.returns-then-rewinds
-unfolding mtio_step
-returns-then-rewinds c = search telling depth 12
-
-pub space-requires : goal.space-requires
-space-requires c = no_fault_here _ _ _ c.is_faulty.ensures c.if-is_faulty.false
+returns-then-rewinds c =
+    mtio_rewinds _ _ c.in_ok-check_position.ensures.0 _ _ c.if-op-gt-OFF_LINE.false c.if-op-eq-WRITE_MARKS.false (grind arith)
 
 pub returns : goal.returns
-unfolding mtio_step
-returns c = search telling depth 14
+returns c =
+    mtio_spaces _ _ c.in_ok-check_position.ensures.0 _ _ c.if-op-gt-OFF_LINE.false c.if-op-eq-WRITE_MARKS.false (grind arith) _ c.space.ensures

@@ -1,17 +1,13 @@
-use Rattle.tape_ops.proofs.Laws.{standing_is}
-use Rattle.xdr.proofs.Tests.{asked, pick_else}
-use Rattle.xdr.proofs.Tests.{picking}
-use Rattle.tape_ops.specs.Operations.{standing_at}
-use Rattle.tape_ops.proofs.Laws.{no_fault_here}
+use Rattle.std.proofs.lemmas.Result.{err_from_is_err_and}
+use native.Mathlib.Omega.{arith}
+use Rattle.tape_ops.proofs.Answering.{state_fault, state_told}
 use Rattle.tape_ops.proofs.state.Goals as goal
 
-pub returns-then-is_faulty : goal.returns-then-is_faulty
-unfolding standing_at
-returns-then-is_faulty c = search picking depth 10
-
-pub place_of-place-requires : goal.place_of-place-requires
-place_of-place-requires c = no_fault_here _ _ _ c.is_faulty.ensures c.if-is_faulty.false
+pub returns-in_err-check_position : goal.returns-in_err-check_position
+returns-in_err-check_position c =
+    let p = err_from_is_err_and c.from_residual.result c.from_residual.ensures.1 in
+    let h = c.in_err-check_position.ensures in
+    rw (p.1, p.2) (state_fault _ _ _ h.0 h.1)
 
 pub returns : goal.returns
-unfolding standing_at
-returns c = pick_else _ (asked c.is_faulty.ensures c.if-is_faulty.false) (standing_is _ _ _ c.place_of-place.ensures)
+returns c = state_told _ _ c.in_ok-check_position.ensures.0 _ c.place_of.ensures

@@ -1,38 +1,28 @@
-use Rattle.xdr.proofs.Tests.{asked, ltb_no, eqb_no}
-use Rattle.tape_ops.proofs.Telling.{told_else}
+use Rattle.std.proofs.lemmas.Result.{err_from_is_err_and}
 use native.Mathlib.Omega.{arith}
-use Rattle.tape_ops.specs.Operations.{write_step}
-use Rattle.tape_ops.proofs.Telling.{telling}
-use Rattle.tape_ops.proofs.Laws.{no_fault_here, told_room, told_full}
+use Rattle.tape_ops.proofs.Answering.{write_long, write_fault, write_nothing, write_full, write_done}
 use Rattle.tape_ops.proofs.write.Goals as goal
 
 -- Each return is the test of `write_step` that applies there, the last two by whether there was room.
-pub returns-then-n-gt-LONGEST_RECORD : goal.returns-then-n-gt-LONGEST_RECORD
-unfolding write_step
-returns-then-n-gt-LONGEST_RECORD c = search telling depth 10
+pub returns-in_err-check_length : goal.returns-in_err-check_length
+returns-in_err-check_length c =
+    let p = err_from_is_err_and c.from_residual.result c.from_residual.ensures.1 in
+    let h = c.in_err-check_length.ensures in
+    rw (p.1, p.2) (write_long _ _ _ _ h.0 h.1)
 
-pub returns-then-is_faulty : goal.returns-then-is_faulty
-unfolding write_step
-returns-then-is_faulty c = search telling depth 10
+pub returns-in_err-check_position : goal.returns-in_err-check_position
+returns-in_err-check_position c =
+    let p = err_from_is_err_and c.from_residual-in_err-check_position.result c.from_residual-in_err-check_position.ensures.1 in
+    let h = c.in_err-check_position.ensures in
+    rw (p.1, p.2) (write_fault _ _ _ _ c.in_ok-check_length.ensures h.0 h.1)
 
 pub returns-then-n-eq0 : goal.returns-then-n-eq0
-unfolding write_step
-returns-then-n-eq0 c = search telling depth 10
+returns-then-n-eq0 c = write_nothing _ _ c.in_ok-check_position.ensures.0 _ c.in_ok-check_length.ensures c.if-n-eq0.true
 
-pub write_filled-requires : goal.write_filled-requires
-write_filled-requires c = (no_fault_here _ _ _ c.is_faulty.ensures c.if-is_faulty.false, omega arith, omega arith)
-
-pub overflow_add-result : goal.overflow_add-result
-overflow_add-result c = let f = no_fault_here _ _ _ c.is_faulty.ensures c.if-is_faulty.false in omega arith
-
-pub returns-then-write_filled : goal.returns-then-write_filled
-unfolding write_step
-returns-then-write_filled c = let d = c in
-    told_else _ (ltb_no d.if-n-gt-LONGEST_RECORD.false) (told_else _ (asked d.is_faulty.ensures d.if-is_faulty.false)
-    (told_else _ (eqb_no d.if-n-eq0.false) (told_room _ _ _ _ _ c.write_filled.ensures c.if-write_filled.true)))
+pub returns-then-not-write_filled : goal.returns-then-not-write_filled
+returns-then-not-write_filled c =
+    write_full _ _ c.in_ok-check_position.ensures.0 _ c.in_ok-check_length.ensures c.if-n-eq0.false _ _ c.write_filled.ensures (grind arith)
 
 pub returns : goal.returns
-unfolding write_step
-returns c = let d = c in
-    told_else _ (ltb_no d.if-n-gt-LONGEST_RECORD.false) (told_else _ (asked d.is_faulty.ensures d.if-is_faulty.false)
-    (told_else _ (eqb_no d.if-n-eq0.false) (told_full _ _ _ _ _ c.write_filled.ensures c.if-write_filled.false)))
+returns c =
+    write_done _ _ c.in_ok-check_position.ensures.0 _ c.in_ok-check_length.ensures c.if-n-eq0.false _ _ c.write_filled.ensures (grind arith)
