@@ -28,3 +28,12 @@ pub passed_by : {A : Type 0} (ts us : List Test) (o : Outcome A) {r : Outcome A}
     → r ≡ judge (ts ++ us) o
 unfolding choose
 passed_by ts us o n h t = rw (judge_first ts us o n, ← h) t
+
+-- a test that a request has of its own, behind those
+pub last_applies : {A : Type 0} {b : Bool} {e : ℕ} (o : Outcome A) → b ≡ true → refuse e ≡ judge (test b e ∷ []) o
+unfolding judge choose
+last_applies o h = rw h
+
+pub last_passed : {A : Type 0} {b : Bool} (e : ℕ) {r o : Outcome A} → b ≡ false → r ≡ o → r ≡ judge (test b e ∷ []) o
+unfolding judge choose
+last_passed e h t = rw h t

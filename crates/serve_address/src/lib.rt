@@ -22,21 +22,25 @@ pub fn is_connect_wrong(address: u32, count: u32) -> bool
 }
 
 // What an accepted listen answers.
+#[tactic(auto, unfolding(xdr::specs::Choose::choose, rules::specs::Addresses::listening))]
 pub fn listening(address: u32) -> Reply
     ensures { result ≡ listening address }
 {
     if address == codes::TCP_ADDRESS {
-        return Reply::ListeningTcp;
+        Reply::ListeningTcp
+    } else {
+        Reply::Listening
     }
-    Reply::Listening
 }
 
 // Whether a connect meets nobody: by TCP the host did not make the connection, by LOCAL the other end does not wait for it.
+#[tactic(auto, unfolding(xdr::specs::Choose::choose, rules::specs::Addresses::unmet))]
 pub fn is_unmet(address: u32, awaited: bool, made: bool) -> bool
     ensures { result ≡ unmet address awaited made }
 {
     if address == codes::TCP_ADDRESS {
-        return !made;
+        !made
+    } else {
+        !awaited
     }
-    !awaited
 }

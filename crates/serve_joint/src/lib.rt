@@ -1,36 +1,41 @@
 // The joint requests: those that read or change both ends.
 #![tactic(auto)]
 
-ghost use Rattle.std.specs.Prelude.{◌≡◌, eqb};
-ghost use Rattle.codes.specs.Codes.{tcp_address};
+ghost use Rattle.std.specs.Prelude.{◌≡◌, false, [], ◌∷◌, eqb};
+ghost use Rattle.codes.specs.Codes.{local_address, tcp_address, illegal_state};
 ghost use Rattle.xdr.specs.Choose.{choose};
 ghost use Rattle.rules_parts.specs.Names.{data_connect_error};
 ghost use Rattle.rules_parts.specs.Parts.{mover_partnered};
-ghost use Rattle.rules.specs.Joint.{joined, source_joined, mover_joins, halted, mover_alone, data_awaits, mover_awaits, data_connect, mover_connect, at_rest, data_aborted, data_abort, mover_abort, mover_close, joint_step};
-ghost use Rattle.serve_joint.specs.Done.{outcome_of};
+ghost use Rattle.rules.specs.Judge.{test, accept, judge};
+ghost use Rattle.wire_replies.specs.declared.Reply.TheVariants.{Plain};
+ghost use Rattle.rules.specs.Joint.{joined, source_joined, mover_joins, halted, mover_alone, data_connect, mover_connect, at_rest, data_aborted, joint_step};
+ghost use Rattle.rules.specs.Served.{outcome_of};
 
-use rules::Ends;
+use codes::NdmpError;
+use rules::{Accepted, Ends, Served};
 use rules_parts::types::{Data, Mover, Tape};
 use wire_replies::Reply;
 use wire_requests::JointRequest;
 
-// A refusal, or a reply and both ends after it.
-#[derive(Clone, Copy)]
-pub enum JointDone {
-    Refuse(u32),
-    Accept(Reply, Ends),
+// Both ends where neither halts.
+fn go_on(source: Data, mover: Mover) -> Ends
+    ensures { result ≡ record { source = source; mover = mover; dwhy = 0; mwhy = 0 } }
+{
+    Ends {
+        source,
+        mover,
+        dwhy: 0,
+        mwhy: 0,
+    }
 }
 
 // Both ends joined, with the tape at a position.
 fn join(d: Data, m: Mover, mode: u32, position: usize) -> Ends
     ensures { result ≡ joined d m mode position }
 {
-    Ends {
-        source: d.goes(Data::CONNECTED, codes::LOCAL_ADDRESS),
-        mover: m.runs(mode, codes::LOCAL_ADDRESS, position),
-        dwhy: 0,
-        mwhy: 0,
-    }
+    let source = d.goes(Data::CONNECTED, codes::LOCAL_ADDRESS);
+    let mover = m.runs(mode, codes::LOCAL_ADDRESS, position);
+    go_on(source, mover)
 }
 
 // Both ends halted, each for its reason.
@@ -45,75 +50,62 @@ fn halt(dwhy: u32, mwhy: u32, d: Data, m: Mover) -> Ends
     }
 }
 
-// Whether data waits for a connect by LOCAL.
-fn is_data_awaiting(d: Data) -> bool
-    ensures { result ≡ data_awaits d }
+// Whether an end waits for a connect by LOCAL, by that end's number of LISTEN.
+#[tactic(auto, unfolding(xdr::specs::Choose::choose))]
+fn is_awaiting(address: u32, state: u32, listening: u32) -> bool
+    ensures { result ≡ choose (eqb address local_address) (eqb state listening) false }
 {
-    if d.address == codes::LOCAL_ADDRESS {
-        return d.state == Data::LISTEN;
-    }
-    false
-}
-
-// Whether the mover waits for a connect by LOCAL.
-fn is_mover_awaiting(m: Mover) -> bool
-    ensures { result ≡ mover_awaits m }
-{
-    if m.address == codes::LOCAL_ADDRESS {
-        return m.state == Mover::LISTEN;
-    }
-    false
+    address == codes::LOCAL_ADDRESS && state == listening
 }
 
 // Data joined: by TCP alone, by LOCAL with the mover.
+#[tactic(auto, unfolding(xdr::specs::Choose::choose))]
 fn data_connected(d: Data, m: Mover, address: u32, position: usize) -> Ends
     ensures { result ≡ choose (eqb address tcp_address) (source_joined d m) (joined d m m.mode position) }
 {
     if address == codes::TCP_ADDRESS {
-        return Ends {
-            source: d.goes(Data::CONNECTED, codes::TCP_ADDRESS),
-            mover: m,
-            dwhy: 0,
-            mwhy: 0,
-        };
+        let source = d.goes(Data::CONNECTED, codes::TCP_ADDRESS);
+        go_on(source, m)
+    } else {
+        join(d, m, m.mode, position)
     }
-    join(d, m, m.mode, position)
 }
 
-fn data_connect(d: Data, m: Mover, t: Tape, address: u32, count: u32, made: bool) -> JointDone
+#[tactic(auto, unfolding(xdr::specs::Choose::choose, rules::specs::Judge::judge, rules::specs::Joint::data_connect, rules::specs::Joint::mover_awaits))]
+fn data_connect(d: Data, m: Mover, t: Tape, address: u32, count: u32, made: bool) -> Served<Ends>
     ensures { outcome_of result ≡ data_connect d m t address count made }
 {
-    let wrong = serve_address::is_connect_wrong(address, count);
-    let awaited = is_mover_awaiting(m);
-    let unmet = serve_address::is_unmet(address, awaited, made);
     if d.state != Data::IDLE {
-        return JointDone::Refuse(codes::ILLEGAL_STATE);
+        return Err(NdmpError::IllegalState);
     }
-    if wrong {
-        return JointDone::Refuse(codes::ILLEGAL_ARGUMENTS);
+    if serve_address::is_connect_wrong(address, count) {
+        return Err(NdmpError::IllegalArguments);
     }
-    if unmet {
-        return JointDone::Refuse(codes::OTHER_NOT_LISTENING);
+    let awaited = is_awaiting(m.address, m.state, Mover::LISTEN);
+    if serve_address::is_unmet(address, awaited, made) {
+        return Err(NdmpError::OtherNotListening);
     }
     let next = data_connected(d, m, address, t.position);
-    JointDone::Accept(Reply::Plain, next)
+    Ok(Accepted {
+        reply: Reply::Plain,
+        next,
+    })
 }
 
 // The mover joined: by TCP alone, by LOCAL with data.
+#[tactic(auto, unfolding(xdr::specs::Choose::choose))]
 fn mover_connected(d: Data, m: Mover, mode: u32, address: u32, position: usize) -> Ends
     ensures { result ≡ choose (eqb address tcp_address) (mover_joins d m mode position) (joined d m mode position) }
 {
     if address == codes::TCP_ADDRESS {
-        return Ends {
-            source: d,
-            mover: m.runs(mode, codes::TCP_ADDRESS, position),
-            dwhy: 0,
-            mwhy: 0,
-        };
+        let mover = m.runs(mode, codes::TCP_ADDRESS, position);
+        go_on(d, mover)
+    } else {
+        join(d, m, mode, position)
     }
-    join(d, m, mode, position)
 }
 
+#[tactic(auto, unfolding(xdr::specs::Choose::choose, rules::specs::Judge::judge, rules::specs::Joint::mover_connect, rules::specs::Joint::data_awaits))]
 fn mover_connect(
     d: Data,
     m: Mover,
@@ -122,33 +114,32 @@ fn mover_connect(
     address: u32,
     count: u32,
     made: bool,
-) -> JointDone
+) -> Served<Ends>
     ensures { outcome_of result ≡ mover_connect d m t mode address count made }
 {
     let wrong = serve_address::is_connect_wrong(address, count);
-    let e = serve_tests::join_error(m, t, mode, wrong);
-    if e != 0 {
-        return JointDone::Refuse(e);
-    }
-    let awaited = is_data_awaiting(d);
+    serve_tests::judge_join(m, t, mode, wrong)?;
+    let awaited = is_awaiting(d.address, d.state, Data::LISTEN);
     if serve_address::is_unmet(address, awaited, made) {
-        return JointDone::Refuse(codes::OTHER_NOT_LISTENING);
+        return Err(NdmpError::OtherNotListening);
     }
     let next = mover_connected(d, m, mode, address, t.position);
-    JointDone::Accept(Reply::Plain, next)
+    Ok(Accepted {
+        reply: Reply::Plain,
+        next,
+    })
 }
 
 // Whether an end is IDLE or HALTED, by the numbers of that end.
+#[tactic(auto, unfolding(xdr::specs::Choose::choose, rules::specs::Joint::at_rest))]
 fn is_at_rest(state: u32, idle: u32, halted: u32) -> bool
     ensures { result ≡ at_rest state idle halted }
 {
-    if state == idle {
-        return true;
-    }
-    state == halted
+    state == idle || state == halted
 }
 
 // Data aborted, and the mover with it where they are joined with each other.
+#[tactic(auto, unfolding(xdr::specs::Choose::choose, rules::specs::Joint::data_aborted))]
 fn data_aborted(d: Data, m: Mover) -> Ends
     ensures { result ≡ data_aborted d m }
 {
@@ -163,17 +154,8 @@ fn data_aborted(d: Data, m: Mover) -> Ends
     }
 }
 
-fn data_abort(d: Data, m: Mover) -> JointDone
-    ensures { outcome_of result ≡ data_abort d m }
-{
-    if is_at_rest(d.state, Data::IDLE, Data::HALTED) {
-        return JointDone::Refuse(codes::ILLEGAL_STATE);
-    }
-    let next = data_aborted(d, m);
-    JointDone::Accept(Reply::Plain, next)
-}
-
 // The mover halted for a reason, and data with it where they are joined with each other.
+#[tactic(auto, unfolding(xdr::specs::Choose::choose))]
 fn mover_halted(why: u32, d: Data, m: Mover) -> Ends
     ensures { result ≡ choose (mover_partnered m) (halted data_connect_error why d m) (mover_alone why d m) }
 {
@@ -188,35 +170,41 @@ fn mover_halted(why: u32, d: Data, m: Mover) -> Ends
     }
 }
 
-fn mover_abort(d: Data, m: Mover) -> JointDone
-    ensures { outcome_of result ≡ mover_abort d m }
+// An abort or a close, which the state of its end may forbid.
+#[tactic(auto, unfolding(xdr::specs::Choose::choose, rules::specs::Judge::judge))]
+fn halt_unless(forbidden: bool, next: Ends) -> Served<Ends>
+    ensures { outcome_of result ≡ judge (test forbidden illegal_state ∷ []) (accept Plain next) }
 {
-    if is_at_rest(m.state, Mover::IDLE, Mover::HALTED) {
-        return JointDone::Refuse(codes::ILLEGAL_STATE);
+    if forbidden {
+        return Err(NdmpError::IllegalState);
     }
-    let next = mover_halted(Mover::ABORTED, d, m);
-    JointDone::Accept(Reply::Plain, next)
-}
-
-fn mover_close(d: Data, m: Mover) -> JointDone
-    ensures { outcome_of result ≡ mover_close d m }
-{
-    if m.state != Mover::PAUSED {
-        return JointDone::Refuse(codes::ILLEGAL_STATE);
-    }
-    let next = mover_halted(Mover::CONNECT_CLOSED, d, m);
-    JointDone::Accept(Reply::Plain, next)
+    Ok(Accepted {
+        reply: Reply::Plain,
+        next,
+    })
 }
 
 // A joint request, and whether the connection of a connect by TCP was made.
-pub fn serve(d: Data, m: Mover, t: Tape, q: JointRequest, made: bool) -> JointDone
+#[tactic(auto, unfolding(rules::specs::Joint::joint_step, rules::specs::Joint::data_abort, rules::specs::Joint::mover_abort, rules::specs::Joint::mover_aborted, rules::specs::Joint::mover_close, rules::specs::Joint::mover_closed))]
+pub fn serve(d: Data, m: Mover, t: Tape, q: JointRequest, made: bool) -> Served<Ends>
     ensures { outcome_of result ≡ joint_step d m t q made }
 {
     match q {
-        JointRequest::DataAbort => data_abort(d, m),
+        JointRequest::DataAbort => {
+            let resting = is_at_rest(d.state, Data::IDLE, Data::HALTED);
+            halt_unless(resting, data_aborted(d, m))
+        }
         JointRequest::DataConnect(address, count) => data_connect(d, m, t, address, count, made),
-        JointRequest::MoverAbort => mover_abort(d, m),
-        JointRequest::MoverClose => mover_close(d, m),
+        JointRequest::MoverAbort => {
+            let resting = is_at_rest(m.state, Mover::IDLE, Mover::HALTED);
+            halt_unless(resting, mover_halted(Mover::ABORTED, d, m))
+        }
+        JointRequest::MoverClose => {
+            halt_unless(
+                m.state != Mover::PAUSED,
+                mover_halted(Mover::CONNECT_CLOSED, d, m),
+            )
+        }
         JointRequest::MoverConnect(mode, address, count) => {
             mover_connect(d, m, t, mode, address, count, made)
         }
