@@ -1,12 +1,14 @@
 -- Laws of the definitions of MD5.
 -- Assumes nothing.
-use Rattle.std.proofs.Common.{◌≡◌, ℕ, zero, suc, ◌+◌, ◌-◌, ◌*◌, ◌/◌, ◌%◌, ◌<◌, ◌≤◌, Bool, ltb, List, [], ◌∷◌, ◌++◌, length, get_or, take, drop, set, replicate, sym, refl, ap, ◌∙◌, ⊎_elim, append_assoc, add-zero, suc-mul, add_comm, suc-add, zero-add, arith, ltb→lt, length-append, length-drop, length-take-le, drop-drop, take_at, drop_at}
+use Rattle.std.proofs.Common.{◌≡◌, ℕ, zero, suc, ◌+◌, ◌-◌, ◌*◌, ◌/◌, ◌%◌, ◌<◌, ◌≤◌, Bool, ltb, List, [], ◌∷◌, ◌++◌, length, get_or, take, drop, set, replicate, sym, refl, ap, ◌∙◌, ⊎_elim, append_assoc, add-zero, suc-add, zero-add, arith, ltb→lt, length-append, length-drop, drop-drop, take_at, drop_at}
+use Rattle.std.specs.Int.{w32, w64, rotate_left, to_le_bytes}
 use lib.ListN.{length-replicate, replicate-append-replicate}
-use lib.Seq.{take-append-le, drop-append-le, take-append-add}
+use lib.Seq.{get_or-take, get_or-drop, take-append-le, drop-append-le, take-append-add}
+use native.Mathlib.Nat.{div-div-eq-div-mul, mul_comm}
 use Rattle.xdr.specs.Xdr.{overlay}
 use Rattle.xdr.proofs.Laws.{store_next, more, length_overlay, overlay_whole}
 use Rattle.md5_digest.specs.Md5.{plus, rotated, auxiliary_of, index_of, table, le_word}
-use Rattle.md5_digest.specs.Md5.{shifts, shift_of, Shift, Amounts, OfRound, stepped, operations, compressed, processed, initial, md5_registers, md5}
+use Rattle.md5_digest.specs.Md5.{shifts, shift_of, stepped, operations, compressed, processed, initial, md5_registers, md5}
 use Rattle.md5_digest.specs.Md5.{le32, zeros, bits, padding, Padded, PaddedEnd}
 use Rattle.md5_digest.specs.declared.Registers.{Registers}
 use Rattle.md5_digest.proofs.Table.{at}
@@ -23,21 +25,33 @@ shift_some i h = ltb→lt 0 (get_or shifts i 0) (at above shifts tt i h)
 pub shift_small : (i : ℕ) → i < 16 → get_or shifts i 0 < 32
 shift_small i h = ltb→lt (get_or shifts i 0) 32 (at below shifts tt i h)
 
--- the amount of an operation, by its round
-pub shift_there : (round i : ℕ) (l : List ℕ) → OfRound round i → Amounts l → Shift i (get_or l (round * 4 + i % 4) 0)
+-- an operation's amount, among those of its round, and what the library's rotation gives by it
+pub amount_there : (round i : ℕ) (l : List ℕ) → 16 * round ≤ i → i < 16 * round + 16 → round < 4 → l ≡ take 4 (drop (round * 4) shifts)
+    → get_or l (i % 4) 0 ≡ shift_of i
 unfolding shift_of
-shift_there round i l o a =
-    let h : i / 16 * 4 + i % 4 < 16 = omega (arith, o.one) in
-    rw (a.are, o.is) (record { is = refl; some = shift_some _ h; small = shift_small _ h })
+amount_there round i l a b r e =
+    let h : i % 4 < 4 = omega arith in
+    let k : i / 16 ≡ round = omega arith in
+    rw (e, get_or-take 4 (drop (round * 4) shifts) (i % 4) 0 h, get_or-drop (round * 4) shifts (i % 4) 0, k)
+
+pub turned : (i x : ℕ) → i < 64 → rotate_left w32 x (shift_of i) ≡ rotated (shift_of i) x
+unfolding shift_of rotated
+turned i x h =
+    let k : i / 16 * 4 + i % 4 < 16 = omega arith in
+    let s : ℕ = get_or shifts (i / 16 * 4 + i % 4) 0 in
+    let some : 0 < s = shift_some (i / 16 * 4 + i % 4) k in
+    let small : s < 32 = shift_small (i / 16 * 4 + i % 4) k in
+    let a : s % 32 ≡ s = omega arith in
+    let b : (32 - s) % 32 ≡ 32 - s = omega arith in
+    rw (a, b)
 
 -- an operation, from what its parts give
-pub stepped_is : (round i k f w n u v y z b : ℕ) (x t : List ℕ) (q : Registers) → OfRound round i → t ≡ table
-    → f ≡ auxiliary_of round q.b q.c q.d → k ≡ index_of round i → w ≡ le_word x (4 * k) → n ≡ shift_of i
-    → u ≡ plus q.a f → v ≡ plus w (get_or t i 0) → y ≡ plus u v → z ≡ rotated n y → b ≡ plus q.b z
-    → record { a = q.d; b = b; c = q.b; d = q.c } ≡ stepped i x q
+pub stepped_is : (round i k f w y : ℕ) (x : List ℕ) (q : Registers) → round ≡ i / 16
+    → f ≡ auxiliary_of round q.b q.c q.d → k ≡ index_of round i → w ≡ le_word x (4 * k)
+    → y ≡ rotated (shift_of i) (plus (plus q.a f) (plus w (get_or table i 0)))
+    → record { a = q.d; b = plus q.b y; c = q.b; d = q.c } ≡ stepped i x q
 unfolding stepped
-stepped_is round i k f w n u v y z b x t q o et ef ek ew en eu ev ey ez eb =
-    rw (eb, ez, ey, ev, eu, en, ew, ek, ef, et, o.is)
+stepped_is round i k f w y x q o ef ek ew ey = rw (ey, ew, ek, ef, o)
 
 -- one operation more of those that are left
 pub operations_next : (n i : ℕ) (x : List ℕ) (q r : Registers) → i < n → r ≡ stepped i x q
@@ -73,16 +87,17 @@ processed_suc : (n : ℕ) (l : List ℕ) (q : Registers)
 unfolding processed
 processed_suc n l q = refl
 
-pub processed_next : (left k : ℕ) (m : List ℕ) (q r : Registers) → 0 < left → r ≡ compressed (take 64 (drop k m)) q
-    → processed left (drop k m) q ≡ processed (left - 1) (drop (k + 64) m) r
-processed_next left k m q r h e =
-    let s : left ≡ suc (left - 1) = omega arith in
-    ap (λ (n : ℕ). processed n (drop k m) q) s ∙ processed_suc (left - 1) (drop k m) q ∙ rw (drop-drop, e)
+pub processed_next : (n k : ℕ) (m : List ℕ) (q r : Registers) → k < n → r ≡ compressed (take 64 (drop (64 * k) m)) q
+    → processed (n - k) (drop (64 * k) m) q ≡ processed (n - (k + 1)) (drop (64 * (k + 1)) m) r
+processed_next n k m q r h e =
+    let s : n - k ≡ suc (n - (k + 1)) = omega arith in
+    let d : 64 * k + 64 ≡ 64 * (k + 1) = omega arith in
+    ap (λ (j : ℕ). processed j (drop (64 * k) m) q) s ∙ processed_suc (n - (k + 1)) (drop (64 * k) m) q ∙ rw (drop-drop, d, e)
 
-pub processed_none : (left : ℕ) (l : List ℕ) (q : Registers) → left ≤ 0 → q ≡ processed left l q
+pub processed_done : (n k : ℕ) (l : List ℕ) (q : Registers) → n ≤ k → q ≡ processed (n - k) l q
 unfolding processed
-processed_none left l q h =
-    let s : left ≡ 0 = omega arith in
+processed_done n k l q h =
+    let s : n - k ≡ 0 = omega arith in
     rw s
 
 -- blocks of a message, and then those of what is left of it with more behind
@@ -156,11 +171,15 @@ length_padding : (n : ℕ) → length (padding n) ≡ 9 + zeros n
 unfolding padding le32
 length_padding n = simp (length-append, length-replicate) (omega arith)
 
-low_bits : (n : ℕ) → n % 536870912 * 8 ≡ bits n % 4294967296
-low_bits n = omega arith
-
-high_bits : (n : ℕ) → n / 536870912 % 4294967296 ≡ bits n / 4294967296
-high_bits n = omega arith
+-- the library's bytes of the length in bits, as its two words
+two_words : (v : ℕ) → to_le_bytes w64 v ≡ le32 (v % 4294967296) ++ le32 (v / 4294967296)
+unfolding le32
+two_words v =
+    let a : v % 4294967296 / 16777216 % 256 ≡ v / 16777216 % 256 = omega arith in
+    let b : v % 4294967296 / 65536 % 256 ≡ v / 65536 % 256 = omega arith in
+    let d : v % 4294967296 / 256 % 256 ≡ v / 256 % 256 = omega arith in
+    let e : v % 4294967296 % 256 ≡ v % 256 = omega arith in
+    rw (div-div-eq-div-mul v 4294967296 256, div-div-eq-div-mul v 4294967296 65536, div-div-eq-div-mul v 4294967296 16777216, a, b, d, e)
 
 gap : (n k e : ℕ) → k ≡ n % 64 → e ≡ k + (9 + zeros k) → (e - 8) - (k + 1) ≡ zeros n
 gap n k e h i = omega arith
@@ -172,14 +191,13 @@ end_is rest n e h i =
     sym (length-append rest (padding n) ∙ rw (length_padding n, ← s, i))
 
 -- the writes of `pad`, one after the other
-module _ (rest l₀ l₁ l₂ l₃ : List ℕ) (n e lo hi : ℕ) where
+module _ (rest l₀ l₁ l₂ : List ℕ) (n e : ℕ) where
   pub pad_told : length rest ≡ n % 64 → l₀ ≡ none 128 → l₁ ≡ overlay 0 rest l₀ → PaddedEnd (length rest) e
-      → l₂ ≡ overlay (e - 8) (le32 lo) (set l₁ (length rest) 128) → l₃ ≡ overlay (e - 4) (le32 hi) l₂
-      → lo ≡ n % 536870912 * 8 → hi ≡ n / 536870912 % 4294967296 → Padded rest n e l₃
+      → l₂ ≡ overlay (e - 8) (to_le_bytes w64 (n * 8 % 18446744073709551616)) (set l₁ (length rest) 128) → Padded rest n e l₂
   unfolding padding
-  pad_told few blank copied ends low high lo-is hi-is =
+  pad_told few blank copied ends counted =
       let a : List ℕ = rest ++ (128 ∷ []) in
-      let w : List ℕ = le32 lo ++ le32 hi in
+      let w : List ℕ = to_le_bytes w64 (bits n) in
       let most : e ≤ 128 = ⊎_elim (λ h. omega arith) (λ h. omega arith) ends.blocks in
       let copied' : l₁ ≡ overlay 0 rest (none 128) = copied ∙ ap (overlay 0 rest) blank in
       let long₀ : length (none 128) ≡ 128 = length-replicate {A = ℕ} 128 0 in
@@ -188,23 +206,20 @@ module _ (rest l₀ l₁ l₂ l₃ : List ℕ) (n e lo hi : ℕ) where
       let marked : set l₁ (length rest) 128 ≡ overlay 0 a (none 128) =
       store_next 0 (length rest) 128 rest (none 128) l₁ copied' (zero-add (length rest)) (omega (arith, ends.room)) in
       let long-a : length a ≡ length rest + 1 = length-append rest (128 ∷ []) in
-      let long-w : length w ≡ 8 = simp (length-append, length_le32) in
-      let seam : (e - 8) + length (le32 lo) ≡ e - 4 = omega (arith, ends.room, length_le32 lo) in
-      let told : l₃ ≡ overlay (e - 8) w (overlay 0 a (none 128)) =
-      more (e - 8) (e - 4) (le32 lo) (le32 hi) (overlay 0 a (none 128)) l₂ l₃ (low ∙ ap (overlay (e - 8) (le32 lo)) marked) high seam in
+      let told : l₂ ≡ overlay (e - 8) w (overlay 0 a (none 128)) =
+      counted ∙ ap (λ (k : ℕ). overlay (e - 8) (to_le_bytes w64 (k % 18446744073709551616)) (set l₁ (length rest) 128)) (mul_comm n 8)
+      ∙ ap (overlay (e - 8) w) marked in
       let long-x : length (overlay 0 a (none 128)) ≡ 128 = length_overlay 0 a (none 128) (omega (arith, ends.room)) ∙ long₀ in
       let k : (e - 8) - length a ≡ zeros n = ap (λ (x : ℕ). (e - 8) - x) long-a ∙ gap n (length rest) e few ends.is in
-      let p : lo ≡ bits n % 4294967296 = lo-is ∙ low_bits n in
-      let q : hi ≡ bits n / 4294967296 = hi-is ∙ high_bits n in
       record {
         end = end_is rest n e few ends.is;
         whole = ⊎_elim (λ h. omega arith) (λ h. omega arith) ends.blocks;
         most = most;
         long = ap length told ∙ length_overlay (e - 8) w (overlay 0 a (none 128)) (omega (arith, ends.room)) ∙ long-x;
         bytes =
-            padded_front (e - 8) e a w l₃ told (omega (arith, ends.room)) (omega (arith, ends.room)) most
+            padded_front (e - 8) e a w l₂ told (omega (arith, ends.room)) (omega (arith, ends.room)) most
             ∙ append_assoc rest (128 ∷ []) (none ((e - 8) - length a) ++ w)
-            ∙ rw (k, p, q);
+            ∙ rw (k, two_words (bits n));
       }
 
 -- ---- the whole digest

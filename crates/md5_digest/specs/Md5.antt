@@ -43,11 +43,6 @@ shifts = 7 ∷ 12 ∷ 17 ∷ 22 ∷ 5 ∷ 9 ∷ 14 ∷ 20 ∷ 4 ∷ 11 ∷ 16 �
 unfoldable pub shift_of : ℕ → ℕ
 shift_of i = slice_index shifts (i / 16 * 4 + i % 4)
 
-pub record Shift (i r : ℕ) : Type 0 where
-  pub is : r ≡ shift_of i
-  pub some : 0 < r
-  pub small : r < 32
-
 -- the table T (3.4): entry i is the integer part of 2^32 times the absolute value of the sine of i radians. RFC 1321 counts i
 -- from 1, the list from 0.
 abbrev pub table : List ℕ
@@ -61,20 +56,12 @@ table =
     ∷ 0xf429_2244 ∷ 0x432a_ff97 ∷ 0xab94_23a7 ∷ 0xfc93_a039 ∷ 0x655b_59c3 ∷ 0x8f0c_cc92 ∷ 0xffef_f47d ∷ 0x8584_5dd1
     ∷ 0x6fa8_7e4f ∷ 0xfe2c_e6e0 ∷ 0xa301_4314 ∷ 0x4e08_11a1 ∷ 0xf753_7e82 ∷ 0xbd3a_f235 ∷ 0x2ad7_d2bb ∷ 0xeb86_d391 ∷ []
 
--- operation i is one of a round
-pub record OfRound (round i : ℕ) : Type 0 where
-  pub is : round ≡ i / 16
-  pub one : i < 64
-
--- a list that is the amounts
-pub record Amounts (l : List ℕ) : Type 0 where
-  pub are : l ≡ shifts
-
--- what an operation is lent: a whole block, and the two tables
-pub record Lent (x t s : List ℕ) : Type 0 where
-  pub whole : 64 ≤ length x
-  pub constants : t ≡ table
-  pub amounts : Amounts s
+-- what a round has of its own: four amounts, the auxiliary function and the order of the words, each by what a call of it may give
+pub record OfRound (round : ℕ) (amounts : List ℕ) (Mixes : ℕ → ℕ → ℕ → ℕ → Type 0) (Orders : ℕ → ℕ → Type 0) : Type 0 where
+  pub one : round < 4
+  pub rotates : amounts ≡ take 4 (drop (round * 4) shifts)
+  pub mixes : (x y z r : ℕ) → Mixes x y z r → r ≡ auxiliary_of round x y z
+  pub orders : (i r : ℕ) → i < 64 → Orders i r → Index round i r
 
 -- the word that four bytes are, the low byte first (2)
 unfoldable pub le_word : List ℕ → ℕ → ℕ

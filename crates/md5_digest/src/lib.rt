@@ -5,12 +5,10 @@
 ghost use Rattle.std.specs.Prelude.{◌≡◌, ℕ, ◌+◌, ◌-◌, ◌*◌, ◌%◌, ◌<◌, ◌≤◌, length};
 ghost use Rattle.codes.specs.Codes.{longest_password};
 ghost use Rattle.xdr.specs.Xdr.{overlay};
-ghost use Rattle.md5_digest.specs.Md5.{rotated, auxiliary_of, Index, Shift, Amounts, OfRound, Lent, le_word, stepped, operations, compressed, processed};
+ghost use Rattle.md5_digest.specs.Md5.{OfRound, le_word, operations, compressed, processed};
 ghost use Rattle.md5_digest.specs.Md5.{le32, PaddedEnd, Blank, Padded, PaddingHolds, md5_registers, md5};
 ghost use Rattle.md5_digest.specs.Login.{login_string, login_digest, LoginBlank};
 ghost use Rattle.md5_digest.specs.Cases.{Md5Cases, LoginCases};
-
-use std::num::wrapping_add_u32;
 
 // The table T[1 .. 64] of section 3.4.
 const TABLE: [u32; 64] = [
@@ -80,9 +78,6 @@ const TABLE: [u32; 64] = [
     0xeb86_d391,
 ];
 
-// How far an operation rotates its sum: four amounts a round.
-const SHIFTS: [u32; 16] = [7, 12, 17, 22, 5, 9, 14, 20, 4, 11, 16, 23, 6, 10, 15, 21];
-
 // The registers A, B, C and D of section 3.3.
 #[derive(Clone, Copy)]
 pub struct Registers {
@@ -92,129 +87,85 @@ pub struct Registers {
     pub d: u32,
 }
 
-// x rotated left by s bits. The remainder, which is s, lets the compiler see that this is one rotation.
-fn rotate_left(s: u32, x: u32) -> u32
-    requires { (0 < s) × (s < 32) }
-    ensures { result ≡ rotated s x }
-{
-    let n = s % 32;
-    (x << n) | (x >> (32 - n))
-}
-
-// The auxiliary functions F, G, H and I, by round.
-fn auxiliary(round: usize, x: u32, y: u32, z: u32) -> u32
-    ensures { result ≡ auxiliary_of round x y z }
-{
-    if round == 0 {
-        return (x & y) | (!x & z);
-    }
-    if round == 1 {
-        return (x & z) | (y & !z);
-    }
-    if round == 2 {
-        return (x ^ y) ^ z;
-    }
-    y ^ (x | !z)
-}
-
-// Which word of the block operation i takes.
-fn index_of(round: usize, i: usize) -> usize
-    requires { i < 64 }
-    ensures { Index round i result }
-{
-    if round == 0 {
-        return i % 16;
-    }
-    if round == 1 {
-        return (5 * i + 1) % 16;
-    }
-    if round == 2 {
-        return (3 * i + 5) % 16;
-    }
-    7 * i % 16
-}
-
-fn wide(x: u8) -> u32
-    ensures { (result ≡ x) × (result < 256) }
-{
-    x as u32
-}
-
 // The word at an offset, its low byte first.
 fn read_le(s: &[u8], at: usize) -> u32
     requires { at + 4 ≤ length s.now }
     ensures { result ≡ le_word s.now at }
 {
-    wide(s[at]) + wide(s[at + 1]) * 256 + wide(s[at + 2]) * 65536 + wide(s[at + 3]) * 16777216
+    u32::from_le_bytes([s[at], s[at + 1], s[at + 2], s[at + 3]])
 }
 
-// How far operation i rotates.
-fn shift_of(round: usize, i: usize, shifts: &[u32; 16]) -> u32
-    requires { OfRound round i × Amounts shifts.now }
-    ensures { Shift i result }
-{
-    shifts[round * 4 + i % 4]
-}
-
-// Operation i of the 64. The tables are lent, for a constant would be laid out anew by each operation; and the round is given, so
-// that with each of the four the compiler drops the choice by round.
-fn step(
+// The 16 operations of a round, by what the round has of its own: how far each rotates its sum, again with every four, its auxiliary
+// function, and which word of the block operation i takes.
+fn one_round<M: Fn(u32, u32, u32) -> u32, W: Fn(usize) -> usize>(
     round: usize,
-    i: usize,
+    shifts: [u32; 4],
+    mix: M,
+    word: W,
     block: &[u8],
-    table: &[u32; 64],
-    shifts: &[u32; 16],
-    q: Registers,
-) -> Registers
-    requires { OfRound round i × Lent block.now table.now shifts.now }
-    ensures { result ≡ stepped i block.now q }
-{
-    let f = auxiliary(round, q.b, q.c, q.d);
-    let k = index_of(round, i);
-    let x = read_le(block, 4 * k);
-    let s = shift_of(round, i, shifts);
-    let first = wrapping_add_u32(wrapping_add_u32(q.a, f), wrapping_add_u32(x, table[i]));
-    let rotated = rotate_left(s, first);
-    Registers {
-        a: q.d,
-        b: wrapping_add_u32(q.b, rotated),
-        c: q.b,
-        d: q.c,
-    }
-}
-
-// The 16 operations of a round.
-fn one_round(
-    round: usize,
-    block: &[u8],
-    table: &[u32; 64],
-    shifts: &[u32; 16],
     start: Registers,
 ) -> Registers
-    requires { (round < 4) × Lent block.now table.now shifts.now }
-    ensures { result ≡ operations 16 (round * 16) block.now start }
+    requires mixes { M.IsAlwaysCallable mix }
+    requires orders { (i : ℕ) → i < 64 → W.pre word i }
+    requires own { OfRound round shifts (M.post mix) (W.post word) }
+    requires whole { 64 ≤ length block.now }
+    ensures { result ≡ operations 16 (16 * round) block.now start }
 {
     let mut q = start;
-    let mut i = round * 16;
-    let end = i + 16;
-    while i < end {
-        q = step(round, i, block, table, shifts, q);
-        i += 1;
+    for i in 16 * round..16 * round + 16 {
+        let mixed = mix(q.b, q.c, q.d);
+        let given = read_le(block, 4 * word(i));
+        let sum = q
+            .a
+            .wrapping_add(mixed)
+            .wrapping_add(given.wrapping_add(TABLE[i]));
+        q = Registers {
+            a: q.d,
+            b: q.b.wrapping_add(sum.rotate_left(shifts[i % 4])),
+            c: q.b,
+            d: q.c,
+        };
     }
     q
 }
 
-// The 64 operations.
+// The 64 operations, by the auxiliary functions F, G, H and I.
 fn operations(block: &[u8], start: Registers) -> Registers
     requires { 64 ≤ length block.now }
     ensures { result ≡ operations 64 0 block.now start }
 {
-    let table = TABLE;
-    let shifts = SHIFTS;
-    let first = one_round(0, block, &table, &shifts, start);
-    let second = one_round(1, block, &table, &shifts, first);
-    let third = one_round(2, block, &table, &shifts, second);
-    one_round(3, block, &table, &shifts, third)
+    let q = one_round(
+        0,
+        [7, 12, 17, 22],
+        |x, y, z| (x & y) | (!x & z),
+        |i| i % 16,
+        block,
+        start,
+    );
+    let q = one_round(
+        1,
+        [5, 9, 14, 20],
+        |x, y, z| (x & z) | (y & !z),
+        |i| (5 * i + 1) % 16,
+        block,
+        q,
+    );
+    let q = one_round(
+        2,
+        [4, 11, 16, 23],
+        |x, y, z| x ^ y ^ z,
+        |i| (3 * i + 5) % 16,
+        block,
+        q,
+    );
+    one_round(
+        3,
+        [6, 10, 15, 21],
+        |x, y, z| y ^ (x | !z),
+        |i| 7 * i % 16,
+        block,
+        q,
+    )
 }
 
 // One block.
@@ -224,10 +175,10 @@ fn compress(block: &[u8], p: Registers) -> Registers
 {
     let q = operations(block, p);
     Registers {
-        a: wrapping_add_u32(p.a, q.a),
-        b: wrapping_add_u32(p.b, q.b),
-        c: wrapping_add_u32(p.c, q.c),
-        d: wrapping_add_u32(p.d, q.d),
+        a: p.a.wrapping_add(q.a),
+        b: p.b.wrapping_add(q.b),
+        c: p.c.wrapping_add(q.c),
+        d: p.d.wrapping_add(q.d),
     }
 }
 
@@ -237,13 +188,8 @@ fn process(m: &[u8], count: usize, start: Registers) -> Registers
     ensures { result ≡ processed count m.now start }
 {
     let mut q = start;
-    let mut left = count;
-    let mut at = 0;
-    while 0 < left {
-        let end = at + 64;
-        q = compress(&m[at..end], q);
-        at = end;
-        left -= 1;
+    for k in 0..count {
+        q = compress(&m[64 * k..64 * k + 64], q);
     }
     q
 }
@@ -253,10 +199,7 @@ fn write_le(out: &mut [u8], at: usize, v: u32)
     requires { at + 4 ≤ length out.old }
     ensures { out.new ≡ overlay at (le32 v) out.old }
 {
-    out[at] = (v % 256) as u8;
-    out[at + 1] = (v / 256 % 256) as u8;
-    out[at + 2] = (v / 65536 % 256) as u8;
-    out[at + 3] = (v / 16777216 % 256) as u8;
+    out[at..at + 4].copy_from_slice(&v.to_le_bytes());
 }
 
 // Where the padding behind a message's last bytes ends.
@@ -264,14 +207,10 @@ fn padded_end(len: usize) -> usize
     requires { len < 64 }
     ensures { PaddedEnd len result }
 {
-    if len < 56 {
-        return 64;
-    }
-    128
+    if len < 56 { 64 } else { 128 }
 }
 
 // The last bytes of a message of n bytes, fewer than a block, with the padding behind them. Returns where it ends.
-// The length in bits is 8 * n, here as two words; 536870912 is 2^29, so that no product is too large.
 fn pad(buffer: &mut [u8], rest: &[u8], n: usize) -> usize
     requires { Blank rest.now n buffer.old }
     ensures { Padded rest.now n result buffer.new }
@@ -280,8 +219,8 @@ fn pad(buffer: &mut [u8], rest: &[u8], n: usize) -> usize
     xdr::copy_bytes(buffer, 0, rest);
     buffer[len] = 128;
     let end = padded_end(len);
-    write_le(buffer, end - 8, (n % 536870912 * 8) as u32);
-    write_le(buffer, end - 4, (n / 536870912 % 4294967296) as u32);
+    let bits = (n as u64).wrapping_mul(8);
+    xdr::copy_bytes(buffer, end - 8, &bits.to_le_bytes());
     end
 }
 

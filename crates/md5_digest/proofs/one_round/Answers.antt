@@ -1,20 +1,19 @@
-use Rattle.std.proofs.Common.{◌≡◌, ◌+◌, ◌-◌, ◌*◌, sym, ◌∙◌, arith, rules}
-use Rattle.md5_digest.proofs.Laws.{operations_next, operations_done}
+use Rattle.std.proofs.Common.{◌≡◌, ◌*◌, ◌/◌, ◌≤◌, ◌<◌, sym, ◌∙◌, arith}
+use Rattle.md5_digest.proofs.Laws.{amount_there, turned, stepped_is, operations_next, operations_done}
 use Rattle.md5_digest.proofs.one_round.Goals as goal
 
-pub loop-i-init : goal.loop-i-init
-loop-i-init c = let n : c.args.round * 16 + 16 - c.args.round * 16 ≡ 16 = omega arith in
-    (omega arith, omega arith, rw n)
-
-pub step-q-requires : goal.step-q-requires
-step-q-requires c = let p = c.requires in
-    let l = c.loop-i.invariant in
-    let h = c.loop-i-test.true in
-    (record { is = omega (arith, l.0, h); one = omega (arith, p.0, h) }, p.1)
-
 pub loop-i-preserved : goal.loop-i-preserved
-loop-i-preserved c = let l = c.loop-i.invariant in
-    (search rules, search rules, l.2 ∙ operations_next _ _ _ _ _ c.loop-i-test.true c.step-q.ensures)
+loop-i-preserved g c =
+    let own = c.requires.own in
+    let i = c.loop-i.i in
+    let least : 16 * c.args.round ≤ i = omega arith in
+    let one : i < 64 = omega (arith, own.one) in
+    let round : c.args.round ≡ i / 16 = omega arith in
+    let amount = amount_there c.args.round i c.args.shifts least c.loop-i-test.true own.one own.rotates in
+    let order = own.orders _ _ one c.word.ensures in
+    c.loop-i.invariant ∙ operations_next _ _ _ _ _ c.loop-i-test.true
+    (stepped_is c.args.round i _ _ _ _ _ _ round (own.mixes _ _ _ _ c.mix-mixed.ensures) order.is c.read_le-given.ensures
+    (c.rotate_left.ensures ∙ rw amount (turned i _ one)))
 
 pub returns : goal.returns
-returns c = sym (c.loop-i.invariant.2 ∙ sym (operations_done _ _ _ _ c.loop-i-test.false))
+returns g c = sym (c.loop-i.invariant ∙ sym (operations_done _ _ _ _ c.loop-i-test.false))

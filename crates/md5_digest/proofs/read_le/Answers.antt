@@ -3,4 +3,4 @@ use Rattle.md5_digest.proofs.read_le.Goals as goal
 
 pub returns : goal.returns
 unfolding le_word
-returns c = cc c.wide-4.ensures.0
+returns c = c.from_le_bytes.ensures
