@@ -1,11 +1,11 @@
 -- A call without a request, by what its guard found and by what its move came to. Assumes nothing.
 use Prim.Native.Nat.{ℕ}
+use Rattle.std.specs.Prelude.{Option, Some, None}
 use mathlib.Core.Bool.{Bool}
 use mathlib.Core.List.{List, []}
 use mathlib.Core.Path.{◌≡◌}
 use Rattle.rules_parts.specs.declared.types.Answer.{Answer}
 use Rattle.rules_parts.specs.declared.types.Moved.{Moved}
-use Rattle.rules.specs.declared.Guard.TheVariants.{Stop, Go}
 use Rattle.rules.specs.Answer.{Kept, Lent, Answered, silent, guarded}
 use Rattle.rules.proofs.Guarding.{when_stopped, when_goes}
 use Rattle.call_sending.specs.Call.{CallTold}
@@ -15,35 +15,35 @@ use Rattle.call_moves.specs.Told.{MoveTold, event}
 
 module _ (k : Kept) (l : Lent) {image variables dest out out' : List ℕ} where
   module _ (stream : List ℕ) (last : Bool) {r : Moved} where
-    pub to_stopped : (code : ℕ) → Stop code ≡ guarded k.session l.room Stop Go
+    pub to_stopped : (code : ℕ) → Some code ≡ guarded k.session l.room Some None
         → MoveTold (idling code k []) r image variables dest out out'
         → MoveTold (moved_to_tape k l stream last) r image variables dest out out'
     unfolding moved_to_tape
     to_stopped code h t = when_stopped (λ (e : Moving). MoveTold e r image variables dest out out') k.session l.room code _ _ h t
 
-    pub to_goes : Go ≡ guarded k.session l.room Stop Go → MoveTold (feeding k l stream last) r image variables dest out out'
+    pub to_goes : ◌≡◌ {A = Option ℕ} None (guarded k.session l.room Some None) → MoveTold (feeding k l stream last) r image variables dest out out'
         → MoveTold (moved_to_tape k l stream last) r image variables dest out out'
     unfolding moved_to_tape
     to_goes h t = when_goes (λ (e : Moving). MoveTold e r image variables dest out out') k.session l.room _ _ h t
 
   module _ (into : List ℕ) {r : Moved} where
-    pub from_stopped : (code : ℕ) → Stop code ≡ guarded k.session l.room Stop Go
+    pub from_stopped : (code : ℕ) → Some code ≡ guarded k.session l.room Some None
         → MoveTold (idling code k into) r image variables dest out out'
         → MoveTold (moved_from_tape k l into) r image variables dest out out'
     unfolding moved_from_tape
     from_stopped code h t = when_stopped (λ (e : Moving). MoveTold e r image variables dest out out') k.session l.room code _ _ h t
 
-    pub from_goes : Go ≡ guarded k.session l.room Stop Go → MoveTold (handing k l into) r image variables dest out out'
+    pub from_goes : ◌≡◌ {A = Option ℕ} None (guarded k.session l.room Some None) → MoveTold (handing k l into) r image variables dest out out'
         → MoveTold (moved_from_tape k l into) r image variables dest out out'
     unfolding moved_from_tape
     from_goes h t = when_goes (λ (e : Moving). MoveTold e r image variables dest out out') k.session l.room _ _ h t
 
 module _ (k : Kept) (l : Lent) (mv : Move) {r : Answer} {image variables out out' : List ℕ} where
-  pub event_stopped : (code : ℕ) → Stop code ≡ guarded k.session l.room Stop Go → CallTold (silent code k) r image variables out out'
+  pub event_stopped : (code : ℕ) → Some code ≡ guarded k.session l.room Some None → CallTold (silent code k) r image variables out out'
       → CallTold (event k l mv) r image variables out out'
   event_stopped code h t = when_stopped (λ (a : Answered). CallTold a r image variables out out') k.session l.room code _ _ h t
 
-  pub event_goes : Go ≡ guarded k.session l.room Stop Go → CallTold (announced k l mv k.image) r image variables out out'
+  pub event_goes : ◌≡◌ {A = Option ℕ} None (guarded k.session l.room Some None) → CallTold (announced k l mv k.image) r image variables out out'
       → CallTold (event k l mv) r image variables out out'
   event_goes h t = when_goes (λ (a : Answered). CallTold a r image variables out out') k.session l.room _ _ h t
 

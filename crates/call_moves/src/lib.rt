@@ -9,7 +9,6 @@ ghost use Rattle.call_sending.specs.Call.{CallTold};
 ghost use Rattle.rules_moves.specs.Events.{stamped, idling, announced, moved, feeding, handing, moved_to_tape, moved_from_tape, method_ended, connection_made, connection_lost};
 ghost use Rattle.call_moves.specs.Told.{MoveTold, event};
 
-use rules::Guard;
 use rules_moves::Move;
 use rules_parts::types::{Answer, Moved, Session};
 use wire_replies::Notice;
@@ -19,19 +18,17 @@ fn announce(s: Session, mv: Move, time: u32, out: &mut [u8]) -> Answer
     requires { least_room ≤ length out.old }
     ensures { (before image variables : List ℕ) → CallTold (announced (held s before variables) (stamped time (length out.old)) mv image) result image variables out.old out.new }
 {
-    let g = s.login;
-    let d = mv.source;
-    let m = mv.mover;
-    let t = mv.tape;
-    let c = s.changer;
-    let session = s.with_parts(g, d, m, t, c);
+    let session = s
+        .with_source(mv.source)
+        .with_mover(mv.mover)
+        .with_tape(mv.tape);
     let sent = call_sending::quiet(0, session);
     let halted = call_sending::halts(sent, time, mv.dwhy, mv.mwhy, out);
     call_sending::notify(
         halted,
         time,
         mv.pause,
-        Notice::MoverPaused(mv.pause, m.seek),
+        Notice::MoverPaused(mv.pause, mv.mover.seek),
         out,
     )
 }
@@ -40,9 +37,8 @@ fn announce(s: Session, mv: Move, time: u32, out: &mut [u8]) -> Answer
 fn tell(s: Session, mv: Move, time: u32, out: &mut [u8]) -> Answer
     ensures { (image variables : List ℕ) → CallTold (event (held s image variables) (stamped time (length out.old)) mv) result image variables out.old out.new }
 {
-    let guard = serve_relation::guard(s, out.len());
-    if let Guard::Stop(code) = guard {
-        return call_sending::quiet(code, s);
+    if let Err(stop) = serve_relation::guard(s, out.len()) {
+        return call_sending::quiet(stop.code(), s);
     }
     announce(s, mv, time, out)
 }
@@ -51,10 +47,7 @@ fn tell(s: Session, mv: Move, time: u32, out: &mut [u8]) -> Answer
 pub fn end_method(s: Session, ok: bool, time: u32, out: &mut [u8]) -> Answer
     ensures { (image variables : List ℕ) → CallTold (method_ended (held s image variables) (stamped time (length out.old)) ok) result image variables out.old out.new }
 {
-    let d = s.source;
-    let m = s.mover;
-    let t = s.tape;
-    let mv = serve_moves::method_end(ok, d, m, t);
+    let mv = serve_moves::method_end(ok, s.source, s.mover, s.tape);
     tell(s, mv, time, out)
 }
 
@@ -62,10 +55,7 @@ pub fn end_method(s: Session, ok: bool, time: u32, out: &mut [u8]) -> Answer
 pub fn made(s: Session, mover: bool, time: u32, out: &mut [u8]) -> Answer
     ensures { (image variables : List ℕ) → CallTold (connection_made (held s image variables) (stamped time (length out.old)) mover) result image variables out.old out.new }
 {
-    let d = s.source;
-    let m = s.mover;
-    let t = s.tape;
-    let mv = serve_moves::made_at(mover, d, m, t);
+    let mv = serve_moves::made_at(mover, s.source, s.mover, s.tape);
     tell(s, mv, time, out)
 }
 
@@ -73,10 +63,7 @@ pub fn made(s: Session, mover: bool, time: u32, out: &mut [u8]) -> Answer
 pub fn lost(s: Session, mover: bool, time: u32, out: &mut [u8]) -> Answer
     ensures { (image variables : List ℕ) → CallTold (connection_lost (held s image variables) (stamped time (length out.old)) mover) result image variables out.old out.new }
 {
-    let d = s.source;
-    let m = s.mover;
-    let t = s.tape;
-    let mv = serve_moves::lost_at(mover, d, m, t);
+    let mv = serve_moves::lost_at(mover, s.source, s.mover, s.tape);
     tell(s, mv, time, out)
 }
 
@@ -97,14 +84,12 @@ fn report(s: Session, mv: Move, time: u32, out: &mut [u8]) -> Moved
     requires { least_room ≤ length out.old }
     ensures { (before image variables dest : List ℕ) → MoveTold (moved (held s before variables) (stamped time (length out.old)) mv image dest) result image variables dest out.old out.new }
 {
-    let count = mv.count;
     let sent = announce(s, mv, time, out);
-    let session = sent.session;
     Moved {
         code: sent.code,
-        count,
+        count: mv.count,
         len: sent.len,
-        session,
+        session: sent.session,
     }
 }
 
@@ -113,10 +98,7 @@ fn feed(s: Session, image: &mut [u8], stream: &[u8], last: bool, time: u32, out:
     requires { (keeps s ≡ true) × (least_room ≤ length out.old) }
     ensures { (variables : List ℕ) → MoveTold (feeding (held s image.old variables) (stamped time (length out.old)) stream.now last) result image.new variables [] out.old out.new }
 {
-    let d = s.source;
-    let m = s.mover;
-    let t = s.tape;
-    let mv = serve_to_tape::to_tape(d, m, t, image, stream, last);
+    let mv = serve_to_tape::to_tape(s.source, s.mover, s.tape, image, stream, last);
     report(s, mv, time, out)
 }
 
@@ -131,9 +113,8 @@ pub fn move_to_tape(
 ) -> Moved
     ensures { (variables : List ℕ) → MoveTold (moved_to_tape (held s image.old variables) (stamped time (length out.old)) stream.now last) result image.new variables [] out.old out.new }
 {
-    let guard = serve_relation::guard(s, out.len());
-    if let Guard::Stop(code) = guard {
-        return unmoved(code, s);
+    if let Err(stop) = serve_relation::guard(s, out.len()) {
+        return unmoved(stop.code(), s);
     }
     feed(s, image, stream, last, time, out)
 }
@@ -143,10 +124,7 @@ fn hand(s: Session, image: &[u8], dest: &mut [u8], time: u32, out: &mut [u8]) ->
     requires { (keeps s ≡ true) × (least_room ≤ length out.old) }
     ensures { (variables : List ℕ) → MoveTold (handing (held s image.now variables) (stamped time (length out.old)) dest.old) result image.now variables dest.new out.old out.new }
 {
-    let d = s.source;
-    let m = s.mover;
-    let t = s.tape;
-    let mv = serve_from_tape::from_tape(d, m, t, image, dest);
+    let mv = serve_from_tape::from_tape(s.source, s.mover, s.tape, image, dest);
     report(s, mv, time, out)
 }
 
@@ -154,9 +132,8 @@ fn hand(s: Session, image: &[u8], dest: &mut [u8], time: u32, out: &mut [u8]) ->
 pub fn move_from_tape(s: Session, image: &[u8], dest: &mut [u8], time: u32, out: &mut [u8]) -> Moved
     ensures { (variables : List ℕ) → MoveTold (moved_from_tape (held s image.now variables) (stamped time (length out.old)) dest.old) result image.now variables dest.new out.old out.new }
 {
-    let guard = serve_relation::guard(s, out.len());
-    if let Guard::Stop(code) = guard {
-        return unmoved(code, s);
+    if let Err(stop) = serve_relation::guard(s, out.len()) {
+        return unmoved(stop.code(), s);
     }
     hand(s, image, dest, time, out)
 }

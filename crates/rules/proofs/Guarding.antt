@@ -1,6 +1,7 @@
 -- What comes before any call: 1001, 1002 and a closed session. Assumes nothing.
 use Prim.Native.Nat.{ℕ, ◌≤◌}
 use mathlib.Core.Bool.{Bool, true, false, not}
+use Rattle.std.specs.Prelude.{Option, Some, None}
 use mathlib.Core.Path.{◌≡◌, refl, sym, ap}
 use native.Mathlib.Omega.{arith}
 use lib.Dec.{eqb, ltb}
@@ -10,7 +11,6 @@ use Rattle.codes.specs.Codes.{store_length}
 use Rattle.xdr.specs.Choose.{choose}
 use Rattle.xdr.proofs.Tests.{by_test, yes}
 use Rattle.rules_parts.specs.declared.types.Session.{Session}
-use Rattle.rules.specs.declared.Guard.TheVariants.{Stop, Go}
 use Rattle.rules_parts.specs.Names.{least_room}
 use Rattle.rules.specs.Relation.{keeps}
 use Rattle.rules.specs.Answer.{Kept, Lent, guarded, room_of}
@@ -56,8 +56,9 @@ module _ (k : Kept) (l : Lent) where
   pub lent_well : least_room ≤ l.room → length k.variables ≡ store_length → least_room ≤ room_of k l
   lent_well h e = rw (room_stored e) h
 
--- ---- from what the code of the guard found
-stopped : {A : Type 0} (a b c : Bool) (code : ℕ) (idle : ℕ → A) (x : A) → Stop code ≡ choose a (Stop 1001) (choose (not b) (Stop 1002) (choose c (Stop 0) Go))
+-- ---- from what the code of the guard found: the code of a call that is stopped, or none
+stopped : {A : Type 0} (a b c : Bool) (code : ℕ) (idle : ℕ → A) (x : A)
+    → Some code ≡ choose a (Some 1001) (choose (not b) (Some 1002) (choose c (Some 0) None))
     → choose a (idle 1001) (choose (not b) (idle 1002) (choose c (idle 0) x)) ≡ idle code
 unfolding choose
 stopped true b c code idle x e = let z : code ≡ 1001 = cc in ap idle (sym z)
@@ -65,26 +66,28 @@ stopped false false c code idle x e = let z : code ≡ 1002 = cc in ap idle (sym
 stopped false true true code idle x e = let z : code ≡ 0 = cc in ap idle (sym z)
 stopped false true false code idle x e = absurd (let z : ◌≡◌ {A = ℕ} 0 1 = cc in omega arith)
 
-gone : (a b c : Bool) → Go ≡ choose a (Stop 1001) (choose (not b) (Stop 1002) (choose c (Stop 0) Go)) → (a ≡ false) × (b ≡ true) × (c ≡ false)
+gone : (a b c : Bool) → ◌≡◌ {A = Option ℕ} None (choose a (Some 1001) (choose (not b) (Some 1002) (choose c (Some 0) None))) → (a ≡ false) × (b ≡ true) × (c ≡ false)
 unfolding choose
 gone true b c e = absurd (let z : ◌≡◌ {A = ℕ} 0 1 = cc in omega arith)
 gone false false c e = absurd (let z : ◌≡◌ {A = ℕ} 0 1 = cc in omega arith)
 gone false true true e = absurd (let z : ◌≡◌ {A = ℕ} 0 1 = cc in omega arith)
 gone false true false e = (refl, refl, refl)
 
-pub guard_stops : {A : Type 0} (s : Session) (room code : ℕ) (idle : ℕ → A) (x : A) → Stop code ≡ guarded s room Stop Go → guarded s room idle x ≡ idle code
+pub guard_stops : {A : Type 0} (s : Session) (room code : ℕ) (idle : ℕ → A) (x : A) → Some code ≡ guarded s room Some None
+    → guarded s room idle x ≡ idle code
 unfolding guarded
 guard_stops s room code idle x e = stopped (ltb room least_room) (keeps s) s.closed code idle x e
 
-pub guard_goes : (s : Session) (room : ℕ) → Go ≡ guarded s room Stop Go → Goes s room
+pub guard_goes : (s : Session) (room : ℕ) → ◌≡◌ {A = Option ℕ} None (guarded s room Some None) → Goes s room
 unfolding guarded
 guard_goes s room e =
     let h = gone (ltb room least_room) (keeps s) s.closed e in
     record { roomy = ltb-false room least_room h.0; valid = h.1; opened = h.2 }
 
-pub when_stopped : {A : Type 0} (P : A → Type 0) (s : Session) (room code : ℕ) (idle : ℕ → A) (x : A) → Stop code ≡ guarded s room Stop Go → P (idle code) → P
-    (guarded s room idle x)
+pub when_stopped : {A : Type 0} (P : A → Type 0) (s : Session) (room code : ℕ) (idle : ℕ → A) (x : A) → Some code ≡ guarded s room Some None
+    → P (idle code) → P (guarded s room idle x)
 when_stopped P s room code idle x e h = rw (guard_stops s room code idle x e) h
 
-pub when_goes : {A : Type 0} (P : A → Type 0) (s : Session) (room : ℕ) (idle : ℕ → A) (x : A) → Go ≡ guarded s room Stop Go → P x → P (guarded s room idle x)
+pub when_goes : {A : Type 0} (P : A → Type 0) (s : Session) (room : ℕ) (idle : ℕ → A) (x : A) → ◌≡◌ {A = Option ℕ} None (guarded s room Some None) → P x
+    → P (guarded s room idle x)
 when_goes P s room idle x e h = rw (goes_on s room idle x (guard_goes s room e)) h

@@ -13,13 +13,6 @@ use codes::NdmpError;
 use rules_parts::{Data, Mover};
 use wire_replies::Reply;
 
-// What comes before any call: it stops with a code and nothing done, or goes on.
-#[derive(Clone, Copy)]
-pub enum Guard {
-    Stop(u32),
-    Go,
-}
-
 // An accepted request: its reply, and the part of the session after it.
 #[derive(Clone, Copy)]
 pub struct Accepted<T> {
@@ -30,8 +23,7 @@ pub struct Accepted<T> {
 // What a service answers: the error of a refusal, or what it accepted.
 pub type Served<T> = Result<Accepted<T>, NdmpError>;
 
-// Both ends after a joint request, and why each halted in it, or 0.
-#[repr(C)]
+// Both ends after a joint request, and why each halted in it, or 0. The reasons are NDMP's, in which 0 is none, as in the session that C hands in.
 #[derive(Clone, Copy)]
 pub struct Ends {
     pub source: Data,

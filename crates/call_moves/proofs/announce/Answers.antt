@@ -1,5 +1,6 @@
 use Rattle.call_sending.proofs.Calling.{unsent_as}
 use mathlib.Core.List.{[]}
+use mathlib.Core.Path.{refl}
 use native.Mathlib.Omega.{arith}
 use Rattle.call_moves.proofs.announce.Goals as goal
 
@@ -17,6 +18,6 @@ notify-requires c = let c8 = c in (
 pub returns : goal.returns
 returns c = let c8 = c in
     λ before image variables.
-    let sent = unsent_as _ _ _ _ image variables _ c8.with_parts-session.ensures (c8.quiet-sent.ensures image variables _) in
+    let sent = unsent_as _ _ _ _ image variables _ (rw (c.with_tape-session.ensures, c.with_mover.ensures, c.with_source.ensures) refl) (c8.quiet-sent.ensures image variables _) in
     c.notify.ensures.1 _ image variables _
     (c.halts-halted.ensures.1 _ image variables _ sent)

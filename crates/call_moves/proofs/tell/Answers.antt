@@ -1,4 +1,5 @@
-use mathlib.Core.Path.{sym, ◌∙◌}
+use Rattle.std.specs.Prelude.{Some}
+use mathlib.Core.Path.{ap, ◌∙◌}
 use native.Mathlib.Omega.{arith}
 use lib.ListN.{length}
 use Rattle.rules.specs.Answer.{held}
@@ -7,14 +8,14 @@ use Rattle.rules.proofs.Guarding.{guard_goes}
 use Rattle.call_moves.proofs.Telling.{event_stopped, event_goes}
 use Rattle.call_moves.proofs.tell.Goals as goal
 
-pub returns-in-Stop : goal.returns-in-Stop
-returns-in-Stop c = λ image variables.
+pub returns-in-Err : goal.returns-in-Err
+returns-in-Err c = λ image variables.
     let a = c.args in
     event_stopped (held a.s image variables) (stamped a.time (length a.out.now)) a.mv _
-    (sym c.in-Stop.is ∙ c.guard-guard.ensures) (c.quiet.ensures _ _ _)
+    (ap Some c.code.ensures ∙ c.in-Err.ensures) (c.quiet.ensures _ _ _)
 
 pub announce-requires : goal.announce-requires
-announce-requires c = let g = guard_goes _ _ (sym c.in_default.is ∙ c.guard-guard.ensures) in
+announce-requires c = let g = guard_goes _ _ c.in_default.ensures in
     omega (arith, g.roomy)
 
 pub returns : goal.returns
@@ -22,5 +23,5 @@ returns c = let c4 = c in
     λ image variables.
     let a = c4.args in
     event_goes (held a.s image variables) (stamped a.time (length a.out.now)) a.mv
-    (sym c4.in_default.is ∙ c4.guard-guard.ensures)
+    c.in_default.ensures
     (c.announce.ensures image image variables)
