@@ -30,7 +30,7 @@ use Rattle.rules_parts.specs.declared.types.Mover.{Mover}
 use Rattle.rules_parts.specs.declared.types.Changer.{Changer}
 use Rattle.rules_parts.specs.declared.types.Session.{Session}
 use Rattle.rules_parts.specs.Names.{least_room}
-use Rattle.rules.specs.declared.Guard.TheVariants.{Stop, Go}
+use Rattle.std.specs.Prelude.{Option, Some, None}
 use Rattle.rules.specs.TapeService.{Loaded, TapePart, device_step, with_loaded, with_mover, tape_step, mover_part_step}
 use Rattle.rules.specs.ScsiService.{scsi_step, scsi_shown}
 use Rattle.rules.specs.DataService.{variables_after, data_shown}
@@ -119,13 +119,13 @@ module _ (k : Kept) (l : Lent) (r : List ℕ) (q : Request) {v : Answer} {image 
 
 -- a call by what its guard found, with the room that the store leaves it
 module _ (k : Kept) (l : Lent) (r : List ℕ) (room : ℕ) (h : room ≡ room_of k l) {v : Answer} {image variables out out' : List ℕ} where
-  pub call_stopped : (code : ℕ) → Stop code ≡ guarded k.session room Stop Go → CallTold (silent code k) v image variables out out'
+  pub call_stopped : (code : ℕ) → Some code ≡ guarded k.session room Some None → CallTold (silent code k) v image variables out out'
       → CallTold (answered k l r) v image variables out out'
   unfolding answered
   call_stopped code g c =
       rw (← h) (when_stopped (λ (a : Answered). CallTold a v image variables out out') k.session room code _ _ g c)
 
-  pub call_goes : Go ≡ guarded k.session room Stop Go
+  pub call_goes : ◌≡◌ {A = Option ℕ} None (guarded k.session room Some None)
       → CallTold (choose (well_framed r) (requested k l r) (closing k)) v image variables out out'
       → CallTold (answered k l r) v image variables out out'
   unfolding answered

@@ -27,7 +27,6 @@ ghost use Rattle.call_sending.specs.Call.{CallTold, Ready};
 ghost use Rattle.call_request.specs.Call.{lent, Sends};
 
 use changer_elements::Asked;
-use rules::Guard;
 use rules_parts::types::{Answer, Session};
 use serve_changer::ScsiDone;
 use serve_connect::LoginDone;
@@ -380,9 +379,8 @@ pub fn request(
     ensures { CallTold (answered (held s image.old variables.old) (lent accounts.now challenge.now addresses.now made time out.old) input.now) result image.new variables.new out.old out.new }
 {
     let room = room_of(variables.len(), out.len());
-    let guard = serve_relation::guard(s, room);
-    if let Guard::Stop(code) = guard {
-        return call_sending::quiet(code, s);
+    if let Err(stop) = serve_relation::guard(s, room) {
+        return call_sending::quiet(stop.code(), s);
     }
     match wire_frame::read_frame(input) {
         Ok(frame) => {

@@ -30,7 +30,7 @@ use Rattle.wire_rmt_reading.proofs.Within.{text_in, command_within}
 use Rattle.rules_parts.specs.declared.types.Answer.{Answer}
 use Rattle.rules_parts.specs.declared.types.Session.{Session}
 use Rattle.rules_parts.specs.declared.types.Tape.{Tape}
-use Rattle.rules.specs.declared.Guard.TheVariants.{Stop, Go}
+use Rattle.std.specs.Prelude.{Option, Some, None}
 use Rattle.rules.specs.Judge.{Outcome, refuse, accept, judge, onto, Accepts}
 use Rattle.rules.specs.TapeService.{Loaded, loaded, with_loaded, device_step, tape_step}
 use Rattle.rules.specs.Answer.{Kept, held, Answered, silent, guarded, tape_part, with_tape, outcome, needs_login, is_locked, verdict}
@@ -180,12 +180,12 @@ work_sends drive mover t l q c r next l' e = rw e at (tape_sends drive mover t l
 
 -- ---- the call, by what its guard found
 module _ (k : Kept) (room : ℕ) (c : List ℕ) {v : Answer} {image variables l l' : List ℕ} where
-  pub command_stopped : (code : ℕ) → Stop code ≡ guarded k.session room Stop Go → CallTold (silent code k) v image variables l l'
+  pub command_stopped : (code : ℕ) → Some code ≡ guarded k.session room Some None → CallTold (silent code k) v image variables l l'
       → CallTold (commanded k room c) v image variables l l'
   unfolding commanded
   command_stopped code h t = when_stopped (λ (a : Answered). CallTold a v image variables l l') k.session room code _ _ h t
 
-  pub command_goes : Go ≡ guarded k.session room Stop Go → CallTold (replied k (said k c)) v image variables l l'
+  pub command_goes : ◌≡◌ {A = Option ℕ} None (guarded k.session room Some None) → CallTold (replied k (said k c)) v image variables l l'
       → CallTold (commanded k room c) v image variables l l'
   unfolding commanded
   command_goes h t = when_goes (λ (a : Answered). CallTold a v image variables l l') k.session room _ _ h t

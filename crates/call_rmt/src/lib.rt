@@ -13,7 +13,6 @@ ghost use Rattle.rules.specs.Answer.{held, outcome};
 ghost use Rattle.rules.specs.Rmt.{rmt_request, in_record, bare, said, told, rmt_reply, saying, replied, commanded};
 ghost use Rattle.call_sending.specs.Call.{CallTold};
 
-use rules::Guard;
 use rules_parts::types::{Answer, Session};
 use serve_tape::TapeDone;
 use wire_replies::Reply;
@@ -138,9 +137,8 @@ fn obey(s: Session, image: &mut [u8], command: &[u8], out: &mut [u8]) -> Answer
 pub fn rmt(s: Session, image: &mut [u8], command: &[u8], out: &mut [u8]) -> Answer
     ensures { (variables : List ℕ) → CallTold (commanded (held s image.old variables) (length out.old) command.now) result image.new variables out.old out.new }
 {
-    let guard = serve_relation::guard(s, out.len());
-    if let Guard::Stop(code) = guard {
-        return call_sending::quiet(code, s);
+    if let Err(stop) = serve_relation::guard(s, out.len()) {
+        return call_sending::quiet(stop.code(), s);
     }
     obey(s, image, command, out)
 }
