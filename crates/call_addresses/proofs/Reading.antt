@@ -26,7 +26,8 @@ use Rattle.std.specs.declared.result.Result.TheVariants.{Err}
 use Rattle.wire_frame.specs.declared.Frame.{Frame}
 use Rattle.wire_frame.specs.declared.Unframed.{Unframed}
 use Rattle.wire_frame.specs.declared.Row.{Row}
-use Rattle.wire_layouts.specs.Layout.{word, Field, one, Item, four, eight, bytes, fixed, value, part_at, Got, got, cut, FieldGot, field_got, stop, bad}
+use Rattle.wire_layouts.specs.Layout.{Field, one, Item, four, eight, bytes, fixed, value, part_at, Got, got, cut, FieldGot, field_got, stop, bad}
+use Rattle.wire_layouts.specs.declared.Part.TheVariants.{Word as word}
 use Rattle.wire_layouts.specs.Layout.{single, counted, field_at, Read, whole, before, broken, and_value, and_read, read_fields}
 use Rattle.wire_layouts.specs.Scans.{addresses, empty_scan, put, puts, summed, scanned}
 use Rattle.wire_layouts.specs.AddressLists.{empty_addresses, addresses_at, is_tcp}

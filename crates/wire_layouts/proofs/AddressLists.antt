@@ -3,6 +3,7 @@ use Prim.Native.Nat.{ℕ, zero, suc, ◌+◌, ◌-◌, ◌*◌, ◌≤◌, ◌<�
 use mathlib.Core.Bool.{true}
 use mathlib.Core.Path.{◌≡◌, refl, sym, ap, ◌∙◌}
 use mathlib.Core.List.{List, [], ◌∷◌, ◌++◌}
+use Rattle.std.specs.Prelude.{Option, Some, None}
 use native.Mathlib.Omega.{arith}
 use native.Mathlib.Nat.{not-suc-le-zero}
 use native.Mathlib.Numerals.{add-one}
@@ -18,8 +19,6 @@ use Rattle.wire_layouts.specs.Scans.{addresses, address_parts, pair_parts, addre
 use Rattle.wire_layouts.specs.AddressLists.{empty_addresses, keep, count_seen, and_address, addresses_from, listed, addresses_at}
 use Rattle.wire_layouts.specs.AddressLists.{AddressItems, no_address, address_on, Given, AddressesGiven}
 use Rattle.wire_layouts.specs.declared.Text.{Text}
-use Rattle.wire_layouts.specs.declared.After.{After}
-use Rattle.wire_layouts.specs.declared.After.TheVariants as After
 use Rattle.wire_layouts.specs.declared.Addresses.{Addresses}
 
 -- ---- addresses that are kept from number i on
@@ -166,33 +165,33 @@ module _ (b : List ℕ) where
   element_is at = head_then at (parts_at address_parts b at) (λ (x : ℕ). items_of (list_at most_listed (parts_at pair_parts b) b x)) (head_is at) pairs_are
 
   -- ---- one address more
-  within_of : (at x : ℕ) (g : Got) → Element at g → After.Next x ≡ forget g → at + 8 ≤ length b
+  within_of : (at x : ℕ) (g : Got) → Element at g → Some x ≡ forget g → at + 8 ≤ length b
   unfolding Element forget
   within_of at x (got is y) h e = h.within
   within_of at x cut h e = let z : ◌≡◌ {A = ℕ} 0 1 = cc in absurd (omega arith)
 
-  pub address_within : (at x : ℕ) → After.Next x ≡ forget (address_at b at) → at + 8 ≤ length b
+  pub address_within : (at x : ℕ) → Some x ≡ forget (address_at b at) → at + 8 ≤ length b
   address_within at x e = within_of at x (address_at b at) (element_is at) e
 
-  and_next : (x : ℕ) (g : Got) (f : ℕ → Addresses) → After.Next x ≡ forget g → and_address g f ≡ f x
+  and_next : (x : ℕ) (g : Got) (f : ℕ → Addresses) → Some x ≡ forget g → and_address g f ≡ f x
   unfolding and_address forget
   and_next x (got is y) f e = let q : x ≡ y = cc in ap f (sym q)
   and_next x cut f e = let z : ◌≡◌ {A = ℕ} 0 1 = cc in absurd (omega arith)
 
-  and_short : (g : Got) (f : ℕ → Addresses) → After.Short ≡ forget g → and_address g f ≡ empty_addresses 0
+  and_short : (g : Got) (f : ℕ → Addresses) → None ≡ forget g → and_address g f ≡ empty_addresses 0
   unfolding and_address forget
   and_short (got is y) f e = let z : ◌≡◌ {A = ℕ} 0 1 = cc in absurd (omega arith)
   and_short cut f e = refl
 
   module _ (at i : ℕ) (k : Addresses) where
-    pub from_more : (n m x h p : ℕ) → n ≡ m + 1 → After.Next x ≡ forget (address_at b at) → h ≡ xdr.word b at → p ≡ xdr.word b (at + 4)
+    pub from_more : (n m x h p : ℕ) → n ≡ m + 1 → Some x ≡ forget (address_at b at) → h ≡ xdr.word b at → p ≡ xdr.word b (at + 4)
         → addresses_from n i b at k ≡ addresses_from m (i + 1) b x (keep i h p k)
     unfolding addresses_from
     from_more n m x h p d e f g =
         let d₁ : n ≡ suc m = d ∙ add-one m in
         rw (d₁, add-one i, f, g) (and_next x (address_at b at) (λ (y : ℕ). addresses_from m (suc i) b y (keep i (xdr.word b at) (xdr.word b (at + 4)) k)) e)
 
-    pub from_short : (n : ℕ) → 0 < n → After.Short ≡ forget (address_at b at) → addresses_from n i b at k ≡ empty_addresses 0
+    pub from_short : (n : ℕ) → 0 < n → None ≡ forget (address_at b at) → addresses_from n i b at k ≡ empty_addresses 0
     unfolding addresses_from
     from_short zero h e = absurd (not-suc-le-zero h)
     from_short (suc n) h e = and_short (address_at b at) (λ (y : ℕ). addresses_from n (suc i) b y (keep i (xdr.word b at) (xdr.word b (at + 4)) k)) e

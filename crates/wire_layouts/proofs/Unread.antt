@@ -10,7 +10,7 @@ use Rattle.codes.specs.Codes.{most_port, digest_length}
 use Rattle.xdr.specs.Xdr as xdr
 use Rattle.xdr.proofs.Tests.{by_test}
 use Rattle.xdr_opaque.specs.Opaque.{opaque_at}
-use Rattle.wire_layouts.specs.Layout.{Part, word, hyper, text, port, digest, Field, one, many, lists, tag, never, Item, Value, value, Piece, piece, short, piece_of, part_at, Got, got, cut}
+use Rattle.wire_layouts.specs.Layout.{Part, word, hyper, text, port, digest, Field, one, many, lists, tag, Item, Value, value, Piece, piece, short, piece_of, part_at, Got, got, cut}
 use Rattle.wire_layouts.specs.Layout.{parts_at, times_at, FieldGot, field_got, stop, bad, single, counted, list_at, element_at}
 use Rattle.wire_layouts.specs.Layout.{field_at, Read, whole, before, broken, and_value, and_read, read_fields}
 use Rattle.wire_layouts.specs.Laws.{HasTag, Stops, UnreadRests}
@@ -113,7 +113,6 @@ module _ (b : List ℕ) where
   any_unread (lists most ps inner qs ∷ fs) at =
       on_anywhere (HasTag fs) (field_at (lists most ps inner qs) b at) (read_fields fs b) (list_on most (element_at ps inner qs b) at) (any_unread fs)
   any_unread (tag k ∷ fs) at = any (read_fields (tag k ∷ fs) b at)
-  any_unread (never ∷ fs) at = tt
 
   tag_unread : (S : Type 0) (k at : ℕ) (f : ℕ → Read) → Unread S (f (at + 4))
       → Unread ((xdr.word b at ≡ k → ⊥) ⊎ S) (and_read (field_at (tag k) b at) f)
@@ -136,7 +135,6 @@ module _ (b : List ℕ) where
   read_unread (many most ps ∷ fs) at = any_unread (many most ps ∷ fs) at
   read_unread (lists most ps inner qs ∷ fs) at = any_unread (lists most ps inner qs ∷ fs) at
   read_unread (tag k ∷ fs) at = tag_unread (Stops fs b (at + 4)) k at (read_fields fs b) (read_unread fs (at + 4))
-  read_unread (never ∷ fs) at = tt
 
 pub unread_rests : UnreadRests
 unfolding Unread

@@ -3,6 +3,7 @@ use Prim.Native.Nat.{ℕ, zero, suc, ◌+◌, ◌≤◌}
 use mathlib.Core.Bool.{Bool, true, false}
 use mathlib.Core.Path.{◌≡◌, refl, ◌∙◌}
 use mathlib.Core.List.{List, [], ◌∷◌}
+use Rattle.std.specs.Prelude.{Option, Some, None}
 use native.Mathlib.Omega.{arith}
 use lib.ListN.{length, get_or, set, replicate, length-set}
 use lib.Dec.{eqb, leb}
@@ -14,37 +15,36 @@ use Rattle.std.specs.Prelude.{Option, Some, None}
 use Rattle.xdr_opaque.specs.Opaque.{opaque_at}
 use Rattle.xdr_opaque.specs.declared.Opaque.{Opaque}
 use Rattle.xdr_opaque.proofs.Laws.{opaque_within}
-use Rattle.wire_layouts.specs.Layout.{Part, word, hyper, text, port, digest, Field, one, many, lists, tag, never, Item, four, eight, bytes, fixed, Value, value, Piece, piece, short, piece_of, part_at}
+use Rattle.wire_layouts.specs.Layout.{place, Part, word, hyper, text, port, digest, Field, one, many, lists, tag, Item, four, eight, bytes, fixed, Value, value, Piece, piece, short, piece_of, part_at}
 use Rattle.wire_layouts.specs.Layout.{Got, got, cut, parts_at, times_at, FieldGot, field_got, stop, bad, single, counted, list_at, element_at, field_at, Read, whole, before, broken, and_value, and_read, read_fields}
 use Rattle.wire_layouts.specs.Scans.{empty_scan, put, puts, summed, scanned}
+use Rattle.wire_layouts.specs.Texts.{Within}
 use Rattle.wire_layouts.specs.declared.Text.{Text}
 use Rattle.wire_layouts.specs.declared.Scan.{Scan}
 
-zeros_in : (B n i : ℕ) → get_or (replicate n 0) i 0 + get_or (replicate n 0) i 0 ≤ B
-zeros_in B zero i = omega arith
-zeros_in B (suc n) zero = omega arith
-zeros_in B (suc n) (suc i) = zeros_in B n i
+-- of a list of which each element has a property, and a value that has it, what is set has it
+set_has : {A : Type 0} (P : A → Type 0) (d x : A) → P x → (l : List A) → ((j : ℕ) → P (get_or l j d)) → (i j : ℕ) → P (get_or (set l i x) j d)
+set_has P d x p [] h i j = h j
+set_has P d x p (y ∷ ys) h zero zero = p
+set_has P d x p (y ∷ ys) h zero (suc j) = h (suc j)
+set_has P d x p (y ∷ ys) h (suc i) zero = h zero
+set_has P d x p (y ∷ ys) h (suc i) (suc j) = set_has P d x p ys (λ a. h (suc a)) i j
 
-set_in : (B s n : ℕ) → s + n ≤ B → (l m : List ℕ) → length l ≡ length m → ((j : ℕ) → get_or l j 0 + get_or m j 0 ≤ B) → (i j : ℕ) → get_or
-    (set l i s) j 0 + get_or (set m i n) j 0 ≤ B
-set_in B s n k [] [] e h i j = h j
-set_in B s n k [] (y ∷ ys) e h i j = absurd (omega arith)
-set_in B s n k (x ∷ xs) [] e h i j = absurd (omega arith)
-set_in B s n k (x ∷ xs) (y ∷ ys) e h zero zero = k
-set_in B s n k (x ∷ xs) (y ∷ ys) e h zero (suc j) = h (suc j)
-set_in B s n k (x ∷ xs) (y ∷ ys) e h (suc i) zero = h zero
-set_in B s n k (x ∷ xs) (y ∷ ys) e h (suc i) (suc j) = set_in B s n k xs ys (omega arith) (λ a. h (suc a)) i j
+replicate_has : {A : Type 0} (P : A → Type 0) (d : A) → P d → (n i : ℕ) → P (get_or (replicate n d) i d)
+replicate_has P d p zero i = p
+replicate_has P d p (suc n) zero = p
+replicate_has P d p (suc n) (suc i) = replicate_has P d p n i
+
+-- each text of a scan lies within the body
+abbrev pub TextsIn : List ℕ → Scan → Type 0
+TextsIn b k = (i : ℕ) → Within b (get_or k.texts i (place 0 0))
 
 module _ (b : List ℕ) where
-  record TextsIn (k : Scan) : Type 0 where
-    alike : length k.starts ≡ length k.lens
-    within : (i : ℕ) → get_or k.starts i 0 + get_or k.lens i 0 ≤ length b
-
   ItemIn : Item Text → Type 0
   ItemIn (four v) = Unit
   ItemIn (eight v) = Unit
-  ItemIn (bytes t) = t.start + t.len ≤ length b
-  ItemIn (fixed t) = t.start + t.len ≤ length b
+  ItemIn (bytes t) = Within b t
+  ItemIn (fixed t) = Within b t
 
   AllIn : List (Value Text) → Type 0
   AllIn [] = Unit
@@ -64,19 +64,14 @@ module _ (b : List ℕ) where
   ReadIn (before vs) = AllIn vs
   ReadIn broken = Unit
 
-  kept_in : (t : Bool) → TextsIn (empty_scan t)
-  kept_in t = record { alike = refl; within = zeros_in (length b) 5 }
-
-  put_in : (i : ℕ) (x : Item Text) (k : Scan) → ItemIn x → TextsIn k → TextsIn (put i x k)
+  put_in : (i : ℕ) (x : Item Text) (k : Scan) → ItemIn x → TextsIn b k → TextsIn b (put i x k)
   unfolding put ItemIn
-  put_in i (four v) k h t = record { alike = t.alike; within = t.within }
-  put_in i (eight v) k h t = record { alike = t.alike; within = t.within }
-  put_in i (bytes x) k h t =
-      record { alike = simp length-set t.alike; within = set_in (length b) x.start x.len h k.starts k.lens t.alike t.within i }
-  put_in i (fixed x) k h t =
-      record { alike = simp length-set t.alike; within = set_in (length b) x.start x.len h k.starts k.lens t.alike t.within i }
+  put_in i (four v) k h t = t
+  put_in i (eight v) k h t = t
+  put_in i (bytes x) k h t = set_has (Within b) (place 0 0) x h k.texts t i
+  put_in i (fixed x) k h t = set_has (Within b) (place 0 0) x h k.texts t i
 
-  puts_in : (i : ℕ) (vs : List (Value Text)) (k : Scan) → AllIn vs → TextsIn k → TextsIn (puts i vs k)
+  puts_in : (i : ℕ) (vs : List (Value Text)) (k : Scan) → AllIn vs → TextsIn b k → TextsIn b (puts i vs k)
   unfolding puts AllIn
   puts_in i [] k h t = t
   puts_in i (v ∷ vs) k h t = puts_in (suc i) vs (put i v.first k) h.1 (put_in i v.first k h.0 t)
@@ -116,7 +111,6 @@ module _ (b : List ℕ) where
   field_in (many most ps) at = list_in most (parts_at ps b) at
   field_in (lists most ps inner qs) at = list_in most (element_at ps inner qs b) at
   field_in (tag k) at = by_test GivenIn (leb (at + 4) (length b)) _ _ (λ e. by_test GivenIn (eqb (xdr.word b at) k) _ _ (λ i. tt) (λ i. tt)) (λ e. tt)
-  field_in never at = tt
 
   first_in : (v : Value Text) (r : Read) → ItemIn v.first → ReadIn r → ReadIn (and_value v r)
   unfolding ReadIn AllIn and_value
@@ -135,33 +129,29 @@ module _ (b : List ℕ) where
   read_in [] at = by_test ReadIn (eqb at (length b)) _ _ (λ e. tt) (λ e. tt)
   read_in (f ∷ fs) at = and_read_in (field_at f b at) (read_fields fs b) (field_in f at) (read_in fs)
 
-  summed_in : (r : Read) → ReadIn r → TextsIn (summed 0 (empty_scan true) r)
-  unfolding ReadIn summed
-  summed_in (whole vs) h = puts_in 0 vs (empty_scan true) h (kept_in true)
-  summed_in (before vs) h = puts_in 0 vs (empty_scan true) h (kept_in true)
-  summed_in broken h = kept_in false
+  KeptIn : Option Scan → Type 0
+  KeptIn (Some k) = TextsIn b k
+  KeptIn None = Unit
 
-pub texts_in : (fs : List Field) (b : List ℕ) (i : ℕ) → get_or (scanned fs b).starts i 0 + get_or (scanned fs b).lens i 0 ≤ length b
+  summed_in : (r : Read) → ReadIn r → KeptIn (summed 0 empty_scan r)
+  unfolding ReadIn KeptIn summed
+  summed_in (whole vs) h = puts_in 0 vs empty_scan h (replicate_has (Within b) (place 0 0) (omega arith) 5)
+  summed_in (before vs) h = puts_in 0 vs empty_scan h (replicate_has (Within b) (place 0 0) (omega arith) 5)
+  summed_in broken h = tt
+
+  kept_some : (o : Option Scan) (k : Scan) → o ≡ Some k → KeptIn o → TextsIn b k
+  unfolding KeptIn
+  kept_some o k e h = rw e at h
+
+pub texts_in : (fs : List Field) (b : List ℕ) (k : Scan) → scanned fs b ≡ Some k → TextsIn b k
 unfolding scanned
-texts_in fs b i = (summed_in b (read_fields fs b 0) (read_in b fs 0)).within i
+texts_in fs b k e = kept_some b (summed 0 empty_scan (read_fields fs b 0)) k e (summed_in b (read_fields fs b 0) (read_in b fs 0))
 
 -- what was read to its end was kept
-put_ok : (i : ℕ) (x : Item Text) (k : Scan) → (put i x k).ok ≡ k.ok
-unfolding put
-put_ok i (four v) k = refl
-put_ok i (eight v) k = refl
-put_ok i (bytes t) k = refl
-put_ok i (fixed t) k = refl
-
-puts_ok : (i : ℕ) (vs : List (Value Text)) (k : Scan) → (puts i vs k).ok ≡ k.ok
-unfolding puts
-puts_ok i [] k = refl
-puts_ok i (v ∷ vs) k = puts_ok (suc i) vs (put i v.first k) ∙ put_ok i v.first k
-
-pub whole_kept : (fs : List Field) (b : List ℕ) (vs : List (Value Text)) → read_fields fs b 0 ≡ whole vs → (scanned fs b ≡ puts 0 vs (empty_scan true)) × ((scanned fs b).ok ≡ true)
+pub whole_kept : (fs : List Field) (b : List ℕ) (vs : List (Value Text)) → read_fields fs b 0 ≡ whole vs → scanned fs b ≡ Some (puts 0 vs empty_scan)
 unfolding scanned summed
-whole_kept fs b vs e = (rw e, rw e (puts_ok 0 vs (empty_scan true)))
+whole_kept fs b vs e = rw e
 
-pub broken_kept : (fs : List Field) (b : List ℕ) → read_fields fs b 0 ≡ broken → (scanned fs b).ok ≡ false
+pub broken_kept : (fs : List Field) (b : List ℕ) → read_fields fs b 0 ≡ broken → scanned fs b ≡ None
 unfolding scanned summed
 broken_kept fs b e = rw e

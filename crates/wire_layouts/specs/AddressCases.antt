@@ -1,11 +1,13 @@
 -- Lists of addresses with their bytes written out after 004's ndmp_tcp_addr, and what each is read as. They keep the layout to 004 and to 02:
 -- a limit that is another, or a list of pairs that is not passed over, is seen here.
-use Rattle.std.specs.Prelude.{ℕ, zero, suc, Bool, true, false, ◌≡◌, List, [], ◌∷◌, ◌++◌, map, take, replicate}
+use Rattle.std.specs.Prelude.{ℕ, zero, suc, Bool, true, false, ◌≡◌, List, [], ◌∷◌, ◌++◌, map, take, replicate, Some, None}
+use Rattle.codes.specs.Codes.{tcp_address}
 use Rattle.xdr.specs.Xdr.{be32}
 use Rattle.wire_layouts.specs.Layout.{four, bytes, place, Value, value, write_as, FieldGot, field_got, bad, field_at}
 use Rattle.wire_layouts.specs.Laws.{FieldsFit}
-use Rattle.wire_layouts.specs.Scans.{no_items, scanned, addresses, field_of, field_seen}
+use Rattle.wire_layouts.specs.Scans.{no_items, no_texts, scanned, addresses, field_of, field_seen}
 use Rattle.wire_layouts.specs.AddressLists.{addresses_at, is_tcp, lendable}
+use Rattle.wire_layouts.specs.declared.Field.TheVariants as Code
 use Rattle.wire_layouts.specs.declared.Seen.TheVariants as Seen
 
 -- ---- the bytes: a word below 256, a text of one byte, and n times the same
@@ -63,11 +65,11 @@ pub record AddressCases : Type 0 where
       (four 167772161 ∷ four 10000 ∷ four 1 ∷ bytes (place 20 1) ∷ bytes (place 28 1) ∷ four 3232235777 ∷ four 65535 ∷ four 2 ∷ bytes (place 48 5)
       ∷ bytes (place 60 0) ∷ bytes (place 64 0) ∷ bytes (place 68 4) ∷ [])
       72
-  pub sixteen : field_seen (read_list (plain 16)) ≡ Seen.Word 16 196
+  pub sixteen : field_seen (read_list (plain 16)) ≡ Some (Seen.Word 16 196)
   pub seventeen : read_list (plain 17) ≡ bad
-  pub port_of_two_bytes : field_seen (read_list (with_port (0 ∷ 0 ∷ 255 ∷ 255 ∷ []))) ≡ Seen.Word 1 16
+  pub port_of_two_bytes : field_seen (read_list (with_port (0 ∷ 0 ∷ 255 ∷ 255 ∷ []))) ≡ Some (Seen.Word 1 16)
   pub port_above : read_list (with_port (0 ∷ 1 ∷ 0 ∷ 0 ∷ [])) ≡ bad
-  pub pairs_64 : field_seen (read_list (with_pairs 64)) ≡ Seen.Word 1 528
+  pub pairs_64 : field_seen (read_list (with_pairs 64)) ≡ Some (Seen.Word 1 528)
   pub pairs_65 : read_list (with_pairs 65) ≡ bad
   pub fill_not_zero : read_list (small 1 ++ near ++ small 1 ++ small 0 ++ (0 ∷ 0 ∷ 0 ∷ 1 ∷ 65 ∷ 0 ∷ 0 ∷ 1 ∷ [])) ≡ bad
   pub cut_in_a_pair : read_list (take 71 two) ≡ bad
@@ -75,10 +77,10 @@ pub record AddressCases : Type 0 where
   -- the laws speak of it
   pub written_two : write_as (two_value ∷ []) ≡ two
   pub fits_two : FieldsFit (addresses ∷ []) (two_value ∷ [])
-  -- behind the word of its type, by their letters, and with a word left over
-  pub scanned_two : scanned (map field_of (105 ∷ 108 ∷ [])) (small 1 ++ two)
-      ≡ record { ok = true; words = 1 ∷ 2 ∷ 0 ∷ 0 ∷ 0 ∷ []; hypers = no_items; starts = no_items; lens = no_items }
-  pub left_over : (scanned (map field_of (105 ∷ 108 ∷ [])) (small 1 ++ two ++ small 0)).ok ≡ false
+  -- behind the word of its type, as the code names the two, and with a word left over
+  pub scanned_two : scanned (map field_of (Code.Tag tcp_address ∷ Code.Addresses ∷ [])) (small 1 ++ two)
+      ≡ Some (record { words = 1 ∷ 2 ∷ 0 ∷ 0 ∷ 0 ∷ []; hypers = no_items; texts = no_texts })
+  pub left_over : scanned (map field_of (Code.Tag tcp_address ∷ Code.Addresses ∷ [])) (small 1 ++ two ++ small 0) ≡ None
   -- the host is given them
   pub given_two : addresses_at (small 1 ++ two) 4
       ≡ record { count = 2; hosts = 167772161 ∷ 3232235777 ∷ replicate 14 0; ports = 10000 ∷ 65535 ∷ replicate 14 0 }

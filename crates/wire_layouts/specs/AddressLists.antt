@@ -1,5 +1,5 @@
 -- The addresses of a list, as the host is given them: read where the decoder reads them.
-use Rattle.std.specs.Prelude.{ℕ, zero, suc, ◌+◌, ◌-◌, ◌*◌, ◌≡◌, Bool, false, not, List, [], ◌∷◌, ◌++◌, eqb, leb, ltb, length, get_or, set, replicate}
+use Rattle.std.specs.Prelude.{ℕ, zero, suc, ◌+◌, ◌-◌, ◌*◌, ◌≡◌, Bool, false, not, List, [], ◌∷◌, ◌++◌, eqb, leb, ltb, length, get_or, set, replicate, Option, Some, None}
 use Rattle.codes.specs.Codes.{tcp_address, most_addresses, most_lent}
 use Rattle.xdr.specs.Choose.{choose}
 use Rattle.xdr.specs.Xdr as xdr
@@ -22,12 +22,12 @@ unfoldable pub keep : ℕ → ℕ → ℕ → Addresses → Addresses
 keep i host port k = record { count = k.count; hosts = set k.hosts i host; ports = set k.ports i port }
 
 -- the count of a list that was seen
-unfoldable pub count_seen : Seen → ℕ
-count_seen (Seen.Word v x) = v
-count_seen (Seen.Hyper v x) = 0
-count_seen (Seen.Place s n x) = 0
-count_seen (Seen.Stop v) = 0
-count_seen Seen.Bad = 0
+unfoldable pub count_seen : Option Seen → ℕ
+count_seen (Some (Seen.Word v x)) = v
+count_seen (Some (Seen.Hyper v x)) = 0
+count_seen (Some (Seen.Place t x)) = 0
+count_seen (Some (Seen.Stop v)) = 0
+count_seen None = 0
 
 unfoldable pub and_address : Got → (ℕ → Addresses) → Addresses
 and_address (got is x) f = f x
@@ -51,8 +51,9 @@ unfoldable pub is_tcp : List ℕ → ℕ → Bool
 is_tcp b at = choose (leb (at + 4) (length b)) (eqb (xdr.word b at) tcp_address) false
 
 -- a list that decoded, of one address or more
-abbrev pub some_listed : Scan → Bool
-some_listed k = choose k.ok (not (eqb (get_or k.words 0 0) 0)) false
+abbrev pub some_listed : Option Scan → Bool
+some_listed (Some k) = not (eqb (get_or k.words 0 0) 0)
+some_listed None = false
 
 -- "9 for an empty list, and for a lent one that does not decode or is above 16,384 bytes"
 unfoldable pub lendable : List ℕ → Bool

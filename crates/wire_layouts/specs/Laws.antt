@@ -3,7 +3,7 @@
 use Rattle.std.specs.Prelude.{ℕ, suc, ◌+◌, ◌^◌, ◌≤◌, ◌<◌, ◌≡◌, List, [], ◌∷◌, ◌++◌, map, ◌⊎◌, length, take, drop, get_or}
 use Rattle.codes.specs.Codes.{most_port, digest_length}
 use Rattle.xdr.specs.Xdr as xdr
-use Rattle.wire_layouts.specs.Layout.{Part, word, hyper, text, port, digest, Field, one, many, lists, tag, never, Item, four, eight, bytes, fixed, Value, value, write_as, whole, before, read_fields}
+use Rattle.wire_layouts.specs.Layout.{Part, word, hyper, text, port, digest, Field, one, many, lists, tag, Item, four, eight, bytes, fixed, Value, value, write_as, whole, before, read_fields}
 use Rattle.wire_layouts.specs.declared.Text.{Text}
 
 -- each byte of a body is below 256
@@ -61,7 +61,6 @@ HasTag (one p ∷ fs) = HasTag fs
 HasTag (many most ps ∷ fs) = HasTag fs
 HasTag (lists most ps inner qs ∷ fs) = HasTag fs
 HasTag (tag k ∷ fs) = Unit
-HasTag (never ∷ fs) = HasTag fs
 
 abbrev pub Stops : List Field → List ℕ → ℕ → Type 0
 Stops [] b at = ⊥
@@ -73,7 +72,6 @@ Stops (one digest ∷ fs) b at = Stops fs b (at + digest_length)
 Stops (many most ps ∷ fs) b at = HasTag fs
 Stops (lists most ps inner qs ∷ fs) b at = HasTag fs
 Stops (tag k ∷ fs) b at = (xdr.word b at ≡ k → ⊥) ⊎ Stops fs b (at + 4)
-Stops (never ∷ fs) b at = ⊥
 
 -- ---- the laws
 pub record FieldsBack (fs : List Field) (vs : List (Value (List ℕ))) : Type 0 where

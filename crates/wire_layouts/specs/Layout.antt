@@ -8,25 +8,17 @@ use Rattle.xdr_opaque.specs.Opaque.{opaque_at}
 use Rattle.xdr_opaque.specs.Put.{opaque}
 use Rattle.xdr_opaque.specs.declared.Opaque.{Opaque}
 use Rattle.wire_layouts.specs.declared.Text.{Text}
+pub use Rattle.wire_layouts.specs.declared.Part.{Part}
+pub use Rattle.wire_layouts.specs.declared.Part.TheVariants.{Word as word, Hyper as hyper, Text as text, Port as port, Digest as digest}
 
--- ---- what a layout is made of: a port is an unsigned short, which takes a whole word; a digest is 16 bytes with no length before them, which
--- need no fill
-pub data Part : Type 0 where
-  word : Part
-  hyper : Part
-  text : Part
-  port : Part
-  digest : Part
-
--- a part; a counted list of at most so many elements, each of the same parts; one whose elements have behind their parts a counted list of
--- their own, of at most so many elements of other parts; a word behind which, where it is another than this, the rest is not read; and
--- what no body has
+-- ---- what a layout is made of: a part (a digest is 16 bytes with no length before them, which need no fill); a counted list of at most so
+-- many elements, each of the same parts; one whose elements have behind their parts a counted list of their own, of at most so many
+-- elements of other parts; a word behind which, where it is another than this, the rest is not read
 pub data Field : Type 0 where
   one : Part → Field
   many : ℕ → List Part → Field
   lists : ℕ → List Part → ℕ → List Part → Field
   tag : ℕ → Field
-  never : Field
 
 -- ---- what is read and written: T is the place of a text where it was read, and its bytes where it is written; fixed has no length before it
 pub data Item (T : Type 0) : Type 0 where
@@ -141,7 +133,6 @@ field_at (tag k) b at =
     choose (leb (at + 4) (length b))
     (choose (eqb (xdr.word b at) k) (field_got (four (xdr.word b at)) [] (at + 4)) (stop (xdr.word b at)))
     bad
-field_at never b at = bad
 
 -- the fields of a whole body; those before a rest that is not read; or that it does not decode
 pub data Read : Type 0 where

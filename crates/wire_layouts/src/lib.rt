@@ -4,7 +4,7 @@
 ghost use Rattle.std.specs.Prelude.{◌≡◌};
 ghost use Rattle.wire_layouts.specs.Texts.{bytes_at, Within};
 ghost use Rattle.wire_layouts.specs.Laws.{FieldsRoundTrip, FieldsOneSpelling, UnreadRests};
-ghost use Rattle.wire_layouts.specs.AddressLists.{AddressesGiven};
+ghost use Rattle.wire_layouts.specs.AddressLists.{AddressesGiven, empty_addresses};
 ghost use Rattle.wire_layouts.specs.AddressCases.{AddressCases};
 
 // A text or opaque data in the body: where it starts, and how long it is.
@@ -24,14 +24,33 @@ impl Text {
     }
 }
 
-// What is kept of the fields of a body, each at its number; not ok is a body that does not decode.
+// A part of a field: a port is an unsigned short, which takes a whole word; a digest is 16 bytes with no length before them.
+#[derive(Clone, Copy)]
+pub enum Part {
+    Word,
+    Hyper,
+    Text,
+    Port,
+    Digest,
+}
+
+// A field of a layout: one part; the pairs of an environment, the names of a recover, or the addresses of a connect, each a counted
+// list; or a tag, which is a word behind which, where it is another than this, the rest is not read.
+#[derive(Clone, Copy)]
+pub enum Field {
+    One(Part),
+    Pairs,
+    Names,
+    Addresses,
+    Tag(u32),
+}
+
+// What is kept of the fields of a body that decodes, each at its number.
 #[derive(Clone, Copy)]
 pub struct Scan {
-    pub ok: bool,
     pub words: [u32; 5],
     pub hypers: [u64; 5],
-    pub starts: [usize; 5],
-    pub lens: [usize; 5],
+    pub texts: [Text; 5],
 }
 
 // The addresses of a list: a host and a port each, as many as count says.
@@ -43,11 +62,17 @@ pub struct Addresses {
     pub ports: [u32; 16],
 }
 
-// The offset after what was passed over, or that it is cut short.
-#[derive(Clone, Copy)]
-pub enum After {
-    Next(usize),
-    Short,
+impl Addresses {
+    // So many addresses, of which none is kept yet.
+    pub fn empty(count: u32) -> Addresses
+        ensures { result ≡ empty_addresses count }
+    {
+        Addresses {
+            count,
+            hosts: [0; 16],
+            ports: [0; 16],
+        }
+    }
 }
 
 // A field, and the offset after it; Stop is a tag behind which the rest is not read.
@@ -55,13 +80,8 @@ pub enum After {
 pub enum Seen {
     Word(u32, usize),
     Hyper(u64, usize),
-    Place {
-        start: usize,
-        len: usize,
-        next: usize,
-    },
+    Place(Text, usize),
     Stop(u32),
-    Bad,
 }
 
 // No work: their contracts are that these are the addresses that the decoder reads, and what lists written out by hand are read as.

@@ -2,19 +2,28 @@
 use Prim.Native.Nat.{ℕ}
 use mathlib.Core.Path.{◌≡◌, refl}
 use mathlib.Core.List.{List}
+use Rattle.std.specs.Prelude.{Option, Some, None, option_map}
+use Rattle.wire_layouts.specs.declared.Scan.{Scan}
 use Rattle.wire_frame.specs.declared.Message.{Message}
 use Rattle.wire_frame.specs.declared.Message.TheVariants as Message
-use Rattle.wire_requests.specs.Bodies.{read_by, connect_body, config_body, scsi_body, tape_body, data_body, mover_body, joint_body, decoded}
+use Rattle.wire_requests.specs.Bodies.{connect_of, config_of, scsi_of, tape_of, data_of, mover_of, joint_of, or_bad, scanned_by, read_by, connect_body, config_body, scsi_body, tape_body, data_body, mover_body, joint_body, decoded}
 use Rattle.wire_requests.specs.RoundTrip.{Known}
+use Rattle.wire_requests.specs.declared.Request.{Request}
+use Rattle.wire_requests.specs.declared.Request.TheVariants.{Connect, Config, Scsi, Tape, Data, Mover, Joint}
+
+-- the request of an interface, made a request, is that of what was read
+of_interface : {R : Type 0} (f : R → Request) (g : Scan → R) (o : Option Scan) → or_bad f (option_map g o) ≡ or_bad (λ k. f (g k)) o
+of_interface f g (Some k) = refl
+of_interface f g None = refl
 
 -- every message that is handled is read by its layout
 pub by_layout : (m : Message) (b : List ℕ) → Known m → decoded m b ≡ read_by m b
 unfolding decoded connect_body config_body scsi_body tape_body data_body mover_body joint_body
-by_layout (Message.Connect k) b h = refl
-by_layout (Message.Config k) b h = refl
-by_layout (Message.Scsi k) b h = refl
-by_layout (Message.Tape k) b h = refl
-by_layout (Message.Data k) b h = refl
-by_layout (Message.Mover k) b h = refl
-by_layout (Message.Joint k) b h = refl
+by_layout (Message.Connect k) b h = of_interface Connect (connect_of k) (scanned_by (Message.Connect k) b)
+by_layout (Message.Config k) b h = of_interface Config (config_of k) (scanned_by (Message.Config k) b)
+by_layout (Message.Scsi k) b h = of_interface Scsi (scsi_of k) (scanned_by (Message.Scsi k) b)
+by_layout (Message.Tape k) b h = of_interface Tape (tape_of k) (scanned_by (Message.Tape k) b)
+by_layout (Message.Data k) b h = of_interface Data (data_of k) (scanned_by (Message.Data k) b)
+by_layout (Message.Mover k) b h = of_interface Mover (mover_of k) (scanned_by (Message.Mover k) b)
+by_layout (Message.Joint k) b h = of_interface Joint (joint_of k) (scanned_by (Message.Joint k) b)
 by_layout Message.Unknown b h = absurd h

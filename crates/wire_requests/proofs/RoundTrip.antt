@@ -2,6 +2,7 @@
 use Prim.Native.Nat.{ℕ, ◌+◌, ◌^◌, ◌≤◌, ◌<◌}
 use mathlib.Core.Bool.{Bool, true, false}
 use mathlib.Core.Path.{◌≡◌, refl, sym, ap, ◌∙◌}
+use Rattle.std.specs.Prelude.{Some}
 use mathlib.Core.List.{List, [], ◌∷◌, ◌++◌, map, flat_map}
 use native.Mathlib.Omega.{arith}
 use lib.Dec.{eqb}
@@ -11,7 +12,7 @@ use Rattle.codes.specs.Codes.{local_address, tcp_address, md5_auth}
 use Rattle.xdr.specs.Choose.{choose}
 use Rattle.xdr.specs.Xdr.{be32}
 use Rattle.xdr.proofs.Laws.{length_be32}
-use Rattle.xdr.proofs.Tests.{pick_if, pick_else}
+use Rattle.xdr.proofs.Tests.{pick_else}
 use Rattle.xdr_opaque.specs.Opaque.{filled}
 use Rattle.xdr_opaque.specs.Put.{opaque}
 use Rattle.xdr_opaque.proofs.Fields.{From, all_of, from_length, past, word_is, opaque_bytes}
@@ -25,7 +26,8 @@ use Rattle.wire_frame.specs.declared.MoverKind.TheVariants as MoverKind
 use Rattle.wire_frame.specs.declared.JointKind.TheVariants as JointKind
 use Rattle.wire_frame.specs.declared.Message.{Message}
 use Rattle.wire_frame.specs.declared.Message.TheVariants as Message
-use Rattle.wire_layouts.specs.Layout.{word, text, digest, Field, one, tag, four, bytes, Value, value, place, write_as, part_at, single, field_at, whole, before, and_value, and_read, read_fields}
+use Rattle.wire_layouts.specs.Layout.{Field, one, tag, four, bytes, Value, value, place, write_as, part_at, single, field_at, whole, before, and_value, and_read, read_fields}
+use Rattle.wire_layouts.specs.declared.Part.TheVariants.{Word as word, Text as text, Digest as digest}
 use Rattle.wire_layouts.specs.Laws.{contents, FieldsFit}
 use Rattle.wire_layouts.specs.Scans.{pairs, empty_scan, put, puts, summed, scanned}
 use Rattle.wire_layouts.specs.AddressLists.{is_tcp}
@@ -35,7 +37,7 @@ use Rattle.wire_layouts.proofs.Back.{round_trip}
 use Rattle.wire_layouts.proofs.Within.{whole_kept}
 use Rattle.wire_layouts.proofs.AddressTypes.{type_written}
 use Rattle.wire_requests.specs.Bodies.{behind_text, pairs_at, listen_fields, connect_fields}
-use Rattle.wire_requests.specs.Bodies.{layout_of, request_of, read_by, decoded}
+use Rattle.wire_requests.specs.Bodies.{layout_of, request_of, or_bad, read_by, decoded}
 use Rattle.wire_requests.specs.Within.{bytes_at}
 use Rattle.wire_requests.specs.Sent.{Name, Addr, local, tcp, Arg, ulong, octets, sixteen, pvals, tcp_addrs, union, arg_bytes}
 use Rattle.wire_requests.specs.Sent.{Sent, args_of, sent_bytes, SentFits, AtPlace, AtPairs, Means}
@@ -49,41 +51,41 @@ use Rattle.wire_requests.specs.declared.Pairs.{Pairs}
 use Rattle.wire_requests.specs.declared.ConnectRequest.TheVariants as ConnectRequest
 use Rattle.wire_requests.specs.declared.ConfigRequest.TheVariants as ConfigRequest
 use Rattle.wire_requests.specs.declared.Request.{Request}
-use Rattle.wire_requests.specs.declared.Request.TheVariants.{Connect, Config, Bad}
+use Rattle.wire_requests.specs.declared.Request.TheVariants.{Connect, Config}
 use Rattle.wire_requests.proofs.Laws.{by_layout}
 use Rattle.wire_requests.proofs.Sent.{field_for, value_for, args_fit, args_written, AnyPlaces, of_places}
 use Rattle.wire_requests.proofs.Starts.{listed_back, behind_text_lem, After, first_text}
 
 read_whole : (m : Message) (b : List ℕ) (ws : List (Value Text)) → read_fields (layout_of m b) b 0 ≡ whole ws
-    → read_by m b ≡ request_of m (puts 0 ws (empty_scan true))
-read_whole m b ws e = let k = whole_kept (layout_of m b) b ws e in sym (pick_if Bad k.1 refl) ∙ ap (request_of m) k.0
+    → read_by m b ≡ request_of m (puts 0 ws empty_scan)
+read_whole m b ws e = ap (or_bad (request_of m)) (whole_kept (layout_of m b) b ws e)
 
 -- ---- each body of `Sent`, written by its layout, is read back
 read_any : (m : Message) → Known m → (vs : List (Value (List ℕ))) → FieldsFit (layout_of m (write_as vs)) vs → (P : Request → Type 0)
-    → AnyPlaces (write_as vs) vs 0 (empty_scan true) (λ k. P (request_of m k)) → P (decoded m (write_as vs))
+    → AnyPlaces (write_as vs) vs 0 empty_scan (λ k. P (request_of m k)) → P (decoded m (write_as vs))
 read_any m h vs f P a =
     let b = write_as vs in
     let r = round_trip (layout_of m b) vs f in
-    let e : decoded m b ≡ request_of m (puts 0 r.places (empty_scan true)) = by_layout m b h ∙ read_whole m b r.places r.reads in
-    rw e (of_places b r.places 0 (empty_scan true) (λ k. P (request_of m k)) (rw r.same a))
+    let e : decoded m b ≡ request_of m (puts 0 r.places empty_scan) = by_layout m b h ∙ read_whole m b r.places r.reads in
+    rw e (of_places b r.places 0 empty_scan (λ k. P (request_of m k)) (rw r.same a))
 
 -- the same where it is known what was read of the first field
 read_first : (m : Message) → Known m → (v : Value (List ℕ)) (us : List (Value (List ℕ))) → FieldsFit (layout_of m (write_as (v ∷ us))) (v ∷ us) → (w : Value Text)
     → ((ws : List (Value Text)) → read_fields (layout_of m (write_as (v ∷ us))) (write_as (v ∷ us)) 0 ≡ whole ws → After w ws) → (P : Request → Type 0)
-    → AnyPlaces (write_as (v ∷ us)) us 1 (put 0 w.first (empty_scan true)) (λ k. P (request_of m k)) → P (decoded m (write_as (v ∷ us)))
+    → AnyPlaces (write_as (v ∷ us)) us 1 (put 0 w.first empty_scan) (λ k. P (request_of m k)) → P (decoded m (write_as (v ∷ us)))
 unfolding puts
 read_first m h v us f w known P a =
     let b = write_as (v ∷ us) in
     let r = round_trip (layout_of m b) (v ∷ us) f in
     let n = known r.places r.reads in
-    let e : decoded m b ≡ request_of m (puts 1 n.others (put 0 w.first (empty_scan true))) =
-    by_layout m b h ∙ read_whole m b r.places r.reads ∙ ap (λ (ws : List (Value Text)). request_of m (puts 0 ws (empty_scan true))) n.same in
+    let e : decoded m b ≡ request_of m (puts 1 n.others (put 0 w.first empty_scan)) =
+    by_layout m b h ∙ read_whole m b r.places r.reads ∙ ap (λ (ws : List (Value Text)). request_of m (puts 0 ws empty_scan)) n.same in
     let s : contents b w ∷ map (contents b) n.others ≡ v ∷ us = rw n.same at r.same in
     let t : map (contents b) n.others ≡ us = cc in
-    rw e (of_places b n.others 1 (put 0 w.first (empty_scan true)) (λ k. P (request_of m k)) (rw t a))
+    rw e (of_places b n.others 1 (put 0 w.first empty_scan) (λ k. P (request_of m k)) (rw t a))
 
 by_args : {m : Message} (s : Sent m) → Known m → map field_for (args_of s) ≡ layout_of m (sent_bytes s) → SentFits s
-    → AnyPlaces (sent_bytes s) (map value_for (args_of s)) 0 (empty_scan true) (λ k. Means s (sent_bytes s) (request_of m k))
+    → AnyPlaces (sent_bytes s) (map value_for (args_of s)) 0 empty_scan (λ k. Means s (sent_bytes s) (request_of m k))
     → Means s (sent_bytes s) (decoded m (sent_bytes s))
 unfolding sent_bytes
 by_args {m} s h l f a =
@@ -251,29 +253,29 @@ passes v fs b q f h =
     rw (le-leb 4 (length b) l, ← word_is q v f h)
 
 -- a request whose rest was not read, by the words before it
-read_before : (m : Message) → Known m → (b : List ℕ) (ws : List (Value Text)) → (puts 0 ws (empty_scan true)).ok ≡ true
-    → read_fields (layout_of m b) b 0 ≡ before ws → decoded m b ≡ request_of m (puts 0 ws (empty_scan true))
+read_before : (m : Message) → Known m → (b : List ℕ) (ws : List (Value Text)) → read_fields (layout_of m b) b 0 ≡ before ws
+    → decoded m b ≡ request_of m (puts 0 ws empty_scan)
 unfolding scanned summed
-read_before m h b ws o e =
-    let k : scanned (layout_of m b) b ≡ puts 0 ws (empty_scan true) = rw e in
-    by_layout m b h ∙ (sym (pick_if Bad (ap (λ (s : Scan). s.ok) k ∙ o) refl) ∙ ap (request_of m) k)
+read_before m h b ws e =
+    let k : scanned (layout_of m b) b ≡ Some (puts 0 ws empty_scan) = rw e in
+    by_layout m b h ∙ ap (or_bad (request_of m)) k
 
 other_first : (m : Message) → Known m → (k : ℕ) (fs : List Field) (v : ℕ) (rest : List ℕ) → layout_of m (be32 v ++ rest) ≡ tag k ∷ fs → OtherThan k v
-    → decoded m (be32 v ++ rest) ≡ request_of m (put 0 (four v) (empty_scan true))
+    → decoded m (be32 v ++ rest) ≡ request_of m (put 0 (four v) empty_scan)
 unfolding puts put
 other_first m h k fs v rest l o =
     let b = be32 v ++ rest in
-    read_before m h b (value (four v) [] ∷ []) refl (rw l (stops k v fs b rest 0 (all_of b) o))
+    read_before m h b (value (four v) [] ∷ []) (rw l (stops k v fs b rest 0 (all_of b) o))
 
 other_second : (m : Message) → Known m → (k : ℕ) (fs : List Field) (w v : ℕ) (rest : List ℕ)
     → layout_of m (be32 w ++ (be32 v ++ rest)) ≡ one word ∷ tag k ∷ fs → w < 2 ^ 32 → OtherThan k v
-    → decoded m (be32 w ++ (be32 v ++ rest)) ≡ request_of m (put 1 (four v) (put 0 (four w) (empty_scan true)))
+    → decoded m (be32 w ++ (be32 v ++ rest)) ≡ request_of m (put 1 (four v) (put 0 (four w) empty_scan))
 unfolding puts put and_value
 other_second m h k fs w v rest l u o =
     let q = be32 v ++ rest in
     let b = be32 w ++ q in
     let e = passes w (tag k ∷ fs) b q (all_of b) u ∙ ap (and_value (value (four w) [])) (stops k v fs b rest 4 (behind_word w q) o) in
-    read_before m h b (value (four w) [] ∷ value (four v) [] ∷ []) refl (rw l e)
+    read_before m h b (value (four w) [] ∷ value (four v) [] ∷ []) (rw l e)
 
 -- an auth of another type stops MD5's layout
 other_auth : (v : ℕ) (rest : List ℕ) → OtherThan md5_auth v
@@ -290,14 +292,14 @@ other_attributes v rest o = other_first (Message.Config ConfigKind.AuthAttribute
 
 -- an address of another type is read by LOCAL's layout, and stops it
 address_first : (m : Message) → Known m → ((b : List ℕ) → is_tcp b 0 ≡ false → layout_of m b ≡ tag local_address ∷ [])
-    → (v : ℕ) (rest : List ℕ) → OtherType v → decoded m (be32 v ++ rest) ≡ request_of m (put 0 (four v) (empty_scan true))
+    → (v : ℕ) (rest : List ℕ) → OtherType v → decoded m (be32 v ++ rest) ≡ request_of m (put 0 (four v) empty_scan)
 address_first m h l v rest ((k, n), t) =
     let b = be32 v ++ rest in
     other_first m h local_address [] v rest (l b (type_written rest v (all_of b) k ∙ ne_eqb v tcp_address t)) (k, n)
 
 address_second : (m : Message) → Known m → ((b : List ℕ) → is_tcp b 4 ≡ false → layout_of m b ≡ one word ∷ tag local_address ∷ [])
     → (w v : ℕ) (rest : List ℕ) → w < 2 ^ 32 → OtherType v
-    → decoded m (be32 w ++ (be32 v ++ rest)) ≡ request_of m (put 1 (four v) (put 0 (four w) (empty_scan true)))
+    → decoded m (be32 w ++ (be32 v ++ rest)) ≡ request_of m (put 1 (four v) (put 0 (four w) empty_scan))
 address_second m h l w v rest u ((k, n), t) =
     let q = be32 v ++ rest in
     other_second m h local_address [] w v rest (l (be32 w ++ q) (type_written rest v (behind_word w q) k ∙ ne_eqb v tcp_address t)) u (k, n)

@@ -10,7 +10,9 @@ use Rattle.codes.specs.Codes.{most_listed, most_addresses}
 use Rattle.xdr.specs.Xdr.{be32, be64}
 use Rattle.xdr_opaque.specs.Put.{opaque, Each}
 use Rattle.wire_pairs.specs.Pairs.{Pair}
-use Rattle.wire_layouts.specs.Layout.{Part, word, hyper, text, digest, Field, one, many, tag, Item, four, eight, bytes, fixed, Value, value, item_bytes, value_bytes, write_as}
+use Rattle.wire_layouts.specs.Layout.{Field, one, many, tag, Item, four, eight, bytes, fixed, Value, value, item_bytes, value_bytes, write_as}
+use Rattle.wire_layouts.specs.declared.Part.{Part}
+use Rattle.wire_layouts.specs.declared.Part.TheVariants.{Word as word, Hyper as hyper, Text as text, Digest as digest}
 use Rattle.wire_layouts.specs.Laws.{content, contents, PartFits, is_word, is_hyper, is_text, is_port, is_digest, PartsFit, no_part, part_on, TimesFit, no_time, time_on, FieldFits, is_one}
 use Rattle.wire_layouts.specs.Laws.{ElementFits, is_element, is_many, is_lists, is_list, is_tag, FieldsFit, no_field, field_on}
 use Rattle.wire_layouts.specs.Scans.{empty_scan, put, puts, pair_parts, pairs, name_parts, names, address_parts, addresses}

@@ -1,14 +1,13 @@
 -- A body that decodes to its end is what its fields are written as, or it stands apart. Assumes nothing.
 use Prim.Native.Nat.{ℕ}
 use mathlib.Core.Bool.{Bool, true, false}
-use mathlib.Core.Path.{◌≡◌, refl, sym, ◌∙◌}
+use mathlib.Core.Path.{◌≡◌, refl, sym, ap, ◌∙◌}
 use mathlib.Core.List.{List}
 use mathlib.Core.Logic.{⊎_elim}
 use lib.Dec.{eqb}
 use borrow.Author.Tests.{eqb-true, eqb-false}
 use Rattle.codes.specs.Codes.{local_address, tcp_address}
 use Rattle.xdr.specs.Xdr as xdr
-use Rattle.xdr.proofs.Tests.{pick_else}
 use Rattle.wire_frame.specs.declared.ConnectKind.TheVariants as ConnectKind
 use Rattle.wire_frame.specs.declared.ConfigKind.TheVariants as ConfigKind
 use Rattle.wire_frame.specs.declared.ScsiKind.TheVariants as ScsiKind
@@ -20,13 +19,12 @@ use Rattle.wire_frame.specs.declared.Message.{Message}
 use Rattle.wire_frame.specs.declared.Message.TheVariants as Message
 use Rattle.wire_layouts.specs.Layout.{Read, whole, before, broken, read_fields}
 use Rattle.wire_layouts.specs.Laws.{Bytes, Stops}
-use Rattle.wire_layouts.specs.Scans.{scanned}
 use Rattle.wire_layouts.specs.AddressLists.{is_tcp}
 use Rattle.wire_layouts.proofs.AddressTypes.{type_judged}
 use Rattle.wire_layouts.proofs.Spelling.{spelled}
 use Rattle.wire_layouts.proofs.Unread.{unread_rests}
 use Rattle.wire_layouts.proofs.Within.{broken_kept}
-use Rattle.wire_requests.specs.Bodies.{listen_fields, connect_fields, layout_of, request_of, decoded}
+use Rattle.wire_requests.specs.Bodies.{listen_fields, connect_fields, layout_of, request_of, or_bad, decoded}
 use Rattle.wire_requests.specs.RoundTrip.{Known, NoType, Apart, Spelling, to_its_end, rest_unread, RequestsOneSpelling}
 use Rattle.wire_requests.specs.declared.Request.TheVariants.{Bad}
 use Rattle.wire_requests.proofs.Laws.{by_layout}
@@ -92,7 +90,7 @@ apart Message.Unknown b s = absurd s
 spelling : (m : Message) (b : List ℕ) → Known m → Bytes b → (decoded m b ≡ Bad → ⊥) → (r : Read) → read_fields (layout_of m b) b 0 ≡ r → Spelling m b
 spelling m b h k n (whole ws) e = to_its_end ws e (spelled (layout_of m b) b ws k e)
 spelling m b h k n (before ws) e = rest_unread (apart m b (unread_rests (layout_of m b) b ws e))
-spelling m b h k n broken e = absurd (n (by_layout m b h ∙ sym (pick_else (request_of m (scanned (layout_of m b) b)) (broken_kept (layout_of m b) b e) refl)))
+spelling m b h k n broken e = absurd (n (by_layout m b h ∙ ap (or_bad (request_of m)) (broken_kept (layout_of m b) b e)))
 
 pub requests_spelled : RequestsOneSpelling
 requests_spelled m h b k n = spelling m b h k n (read_fields (layout_of m b) b 0) refl

@@ -13,7 +13,8 @@ use Rattle.xdr_opaque.proofs.Laws.{length_opaque_filled}
 use Rattle.xdr_opaque.proofs.Fields.{From, past, grouped, opaque_found}
 use Rattle.wire_pairs.specs.Pairs.{Pair, pairs_from, pair_bytes}
 use Rattle.wire_pairs.proofs.Sent.{pairs_sent}
-use Rattle.wire_layouts.specs.Layout.{text, Field, one, bytes, Value, value, place, piece_of, part_at, single, field_at, Read, whole, before, broken, and_value, and_read, read_fields}
+use Rattle.wire_layouts.specs.Layout.{Field, one, bytes, Value, value, place, piece_of, part_at, single, field_at, Read, whole, before, broken, and_value, and_read, read_fields}
+use Rattle.wire_layouts.specs.declared.Part.TheVariants.{Text as text}
 use Rattle.wire_layouts.specs.declared.Text.{Text}
 use Rattle.wire_requests.specs.Sent.{pval_bytes, PvalFits, pvals, arg_bytes}
 

@@ -1,15 +1,15 @@
 -- The texts of a decoded request lie within its body. Assumes nothing.
 use Prim.Native.Nat.{ℕ, ◌+◌, ◌≤◌}
-use mathlib.Core.Path.{◌≡◌}
+use mathlib.Core.Path.{◌≡◌, refl}
+use Rattle.std.specs.Prelude.{Option, Some, None}
 use mathlib.Core.List.{List}
 use lib.Dec.{eqb}
 use lib.ListN.{length, get_or}
 use Rattle.codes.specs.Codes.{md5_auth}
 use Rattle.xdr.specs.Choose.{choose}
 use Rattle.xdr.proofs.Tests.{by_test}
-use Rattle.wire_layouts.specs.Scans.{scanned}
 use Rattle.wire_layouts.specs.declared.Scan.{Scan}
-use Rattle.wire_layouts.proofs.Within.{texts_in}
+use Rattle.wire_layouts.proofs.Within.{TextsIn, texts_in}
 use Rattle.wire_frame.specs.declared.ConnectKind.TheVariants as ConnectKind
 use Rattle.wire_frame.specs.declared.ConfigKind.TheVariants as ConfigKind
 use Rattle.wire_frame.specs.declared.ScsiKind.TheVariants as ScsiKind
@@ -19,14 +19,16 @@ use Rattle.wire_frame.specs.declared.MoverKind.TheVariants as MoverKind
 use Rattle.wire_frame.specs.declared.JointKind.TheVariants as JointKind
 use Rattle.wire_frame.specs.declared.Message.{Message}
 use Rattle.wire_frame.specs.declared.Message.TheVariants as Message
-use Rattle.wire_requests.specs.Bodies.{word_of, layout_of, request_of, read_by, connect_body, config_body, scsi_body, tape_body, data_body, mover_body, joint_body, decoded}
+use Rattle.wire_requests.specs.Bodies.{word_of, layout_of, request_of, or_bad, scanned_by, decoded}
+use Rattle.wire_requests.specs.RoundTrip.{Known}
+use Rattle.wire_requests.proofs.Laws.{by_layout}
 use Rattle.wire_requests.specs.Within.{texts_within, Decoded}
 use Rattle.wire_requests.specs.declared.ConnectRequest.{ConnectRequest}
 use Rattle.wire_requests.specs.declared.Request.{Request}
-use Rattle.wire_requests.specs.declared.Request.TheVariants.{Connect, Bad}
+use Rattle.wire_requests.specs.declared.Request.TheVariants.{Connect}
 
 -- the texts of a request are those that were kept
-of_kept : (b : List ℕ) (m : Message) (k : Scan) → ((i : ℕ) → get_or k.starts i 0 + get_or k.lens i 0 ≤ length b) → texts_within b (request_of m k)
+of_kept : (b : List ℕ) (m : Message) (k : Scan) → TextsIn b k → texts_within b (request_of m k)
 unfolding texts_within
 of_kept b (Message.Connect ConnectKind.Open) k h = tt
 of_kept b (Message.Connect ConnectKind.Auth) k h =
@@ -67,27 +69,26 @@ of_kept b (Message.Joint JointKind.MoverClose) k h = tt
 of_kept b (Message.Joint JointKind.MoverConnect) k h = tt
 of_kept b Message.Unknown k h = tt
 
-bad : (b : List ℕ) → texts_within b Bad
+of_read : (b : List ℕ) (m : Message) (o : Option Scan) → scanned_by m b ≡ o → texts_within b (or_bad (request_of m) o)
 unfolding texts_within
-bad b = tt
-
-by_layout : (b : List ℕ) (m : Message) → texts_within b (read_by m b)
-by_layout b m =
-    by_test (texts_within b) (scanned (layout_of m b) b).ok _ _ (λ e. of_kept b m (scanned (layout_of m b) b) (texts_in (layout_of m b) b)) (λ e. bad b)
+of_read b m (Some k) e = of_kept b m k (texts_in (layout_of m b) b k e)
+of_read b m None e = tt
 
 unknown : (b : List ℕ) → texts_within b (decoded Message.Unknown b)
 unfolding decoded texts_within
 unknown b = tt
 
+by_message : (m : Message) (b : List ℕ) → Known m → texts_within b (decoded m b)
+by_message m b h = rw (by_layout m b h) (of_read b m (scanned_by m b) refl)
+
 pub texts_within_lem : (m : Message) (b : List ℕ) → texts_within b (decoded m b)
-unfolding decoded connect_body config_body scsi_body tape_body data_body mover_body joint_body
-texts_within_lem (Message.Connect k) b = by_layout b (Message.Connect k)
-texts_within_lem (Message.Config k) b = by_layout b (Message.Config k)
-texts_within_lem (Message.Scsi k) b = by_layout b (Message.Scsi k)
-texts_within_lem (Message.Tape k) b = by_layout b (Message.Tape k)
-texts_within_lem (Message.Data k) b = by_layout b (Message.Data k)
-texts_within_lem (Message.Mover k) b = by_layout b (Message.Mover k)
-texts_within_lem (Message.Joint k) b = by_layout b (Message.Joint k)
+texts_within_lem (Message.Connect k) b = by_message (Message.Connect k) b tt
+texts_within_lem (Message.Config k) b = by_message (Message.Config k) b tt
+texts_within_lem (Message.Scsi k) b = by_message (Message.Scsi k) b tt
+texts_within_lem (Message.Tape k) b = by_message (Message.Tape k) b tt
+texts_within_lem (Message.Data k) b = by_message (Message.Data k) b tt
+texts_within_lem (Message.Mover k) b = by_message (Message.Mover k) b tt
+texts_within_lem (Message.Joint k) b = by_message (Message.Joint k) b tt
 texts_within_lem Message.Unknown b = unknown b
 
 -- what `decode` promises, by which request it is

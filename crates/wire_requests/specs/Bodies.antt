@@ -1,11 +1,12 @@
 -- The bodies of requests (004, Appendix C): the layout of each, and the request that its fields are, or Bad, which is error 18. A text is
 -- its place in the body.
-use Rattle.std.specs.Prelude.{ℕ, ◌+◌, Bool, true, false, List, [], ◌∷◌, eqb, get_or}
+use Rattle.std.specs.Prelude.{ℕ, ◌+◌, Bool, true, false, List, [], ◌∷◌, eqb, get_or, Option, Some, None, option_map}
 use Rattle.xdr.specs.Choose.{choose}
 use Rattle.xdr.specs.Xdr as xdr
 use Rattle.codes.specs.Codes.{local_address, tcp_address, md5_auth}
 use Rattle.xdr_opaque.specs.Opaque.{filled}
-use Rattle.wire_layouts.specs.Layout.{word, hyper, text, digest, Field, one, tag, place}
+use Rattle.wire_layouts.specs.Layout.{Field, one, tag, place}
+use Rattle.wire_layouts.specs.declared.Part.TheVariants.{Word as word, Hyper as hyper, Text as text, Digest as digest}
 use Rattle.wire_layouts.specs.Scans.{pairs, names, addresses, scanned}
 use Rattle.wire_layouts.specs.AddressLists.{is_tcp}
 use Rattle.wire_layouts.specs.declared.Scan.{Scan}
@@ -29,11 +30,17 @@ use Rattle.wire_frame.specs.declared.Message.TheVariants as Message
 use Rattle.wire_requests.specs.declared.Pairs.{Pairs}
 use Rattle.wire_requests.specs.declared.ConnectRequest.{ConnectRequest}
 use Rattle.wire_requests.specs.declared.ConnectRequest.TheVariants as ConnectRequest
+use Rattle.wire_requests.specs.declared.ConfigRequest.{ConfigRequest}
 use Rattle.wire_requests.specs.declared.ConfigRequest.TheVariants as ConfigRequest
+use Rattle.wire_requests.specs.declared.ScsiRequest.{ScsiRequest}
 use Rattle.wire_requests.specs.declared.ScsiRequest.TheVariants as ScsiRequest
+use Rattle.wire_requests.specs.declared.TapeRequest.{TapeRequest}
 use Rattle.wire_requests.specs.declared.TapeRequest.TheVariants as TapeRequest
+use Rattle.wire_requests.specs.declared.DataRequest.{DataRequest}
 use Rattle.wire_requests.specs.declared.DataRequest.TheVariants as DataRequest
+use Rattle.wire_requests.specs.declared.MoverRequest.{MoverRequest}
 use Rattle.wire_requests.specs.declared.MoverRequest.TheVariants as MoverRequest
+use Rattle.wire_requests.specs.declared.JointRequest.{JointRequest}
 use Rattle.wire_requests.specs.declared.JointRequest.TheVariants as JointRequest
 use Rattle.wire_requests.specs.declared.Request.{Request}
 use Rattle.wire_requests.specs.declared.Request.TheVariants.{Connect, Config, Scsi, Tape, Data, Mover, Joint, Unknown, Bad}
@@ -46,7 +53,7 @@ abbrev pub hyper_of : Scan → ℕ → ℕ
 hyper_of k i = get_or k.hypers i 0
 
 abbrev pub text_of : Scan → ℕ → Text
-text_of k i = place (get_or k.starts i 0) (get_or k.lens i 0)
+text_of k i = get_or k.texts i (place 0 0)
 
 -- the offset behind a text and its fill
 abbrev pub behind_text : Text → ℕ
@@ -112,77 +119,106 @@ layout_of Message.Unknown b = []
 abbrev pub auth_of : Scan → ConnectRequest
 auth_of k = choose (eqb (word_of k 0) md5_auth) (ConnectRequest.Md5Auth (text_of k 1) (text_of k 2)) ConnectRequest.OtherAuth
 
--- of execute CDB (flags, timeout, data-in length, CDB, data out) the CDB and the data-in length; of a connect the address type, and of one by TCP
--- how many addresses its list has
+-- the requests of each interface: of execute CDB (flags, timeout, data-in length, CDB, data out) the CDB and the data-in length; of a connect the
+-- address type, and of one by TCP how many addresses its list has
+abbrev pub connect_of : ConnectKind → Scan → ConnectRequest
+connect_of ConnectKind.Open k = ConnectRequest.Open (word_of k 0)
+connect_of ConnectKind.Auth k = auth_of k
+connect_of ConnectKind.Close k = ConnectRequest.Close
+
+abbrev pub config_of : ConfigKind → Scan → ConfigRequest
+config_of ConfigKind.ConnectionType k = ConfigRequest.ConnectionType
+config_of ConfigKind.AuthAttributes k = ConfigRequest.AuthAttributes (word_of k 0)
+config_of ConfigKind.ServerInfo k = ConfigRequest.ServerInfo
+
+abbrev pub scsi_of : ScsiKind → Scan → ScsiRequest
+scsi_of ScsiKind.Open k = ScsiRequest.Open (text_of k 0)
+scsi_of ScsiKind.Close k = ScsiRequest.Close
+scsi_of ScsiKind.State k = ScsiRequest.State
+scsi_of ScsiKind.Reset k = ScsiRequest.Reset
+scsi_of ScsiKind.Cdb k = ScsiRequest.Cdb (text_of k 3) (word_of k 2)
+
+abbrev pub tape_of : TapeKind → Scan → TapeRequest
+tape_of TapeKind.Open k = TapeRequest.Open (text_of k 0) (word_of k 1)
+tape_of TapeKind.Close k = TapeRequest.Close
+tape_of TapeKind.State k = TapeRequest.State
+tape_of TapeKind.Mtio k = TapeRequest.Mtio (word_of k 0) (word_of k 1)
+tape_of TapeKind.Write k = TapeRequest.Write (text_of k 0)
+tape_of TapeKind.Read k = TapeRequest.Read (word_of k 0)
+
+abbrev pub data_of : DataKind → Scan → DataRequest
+data_of DataKind.State k = DataRequest.State
+data_of DataKind.Backup k = DataRequest.Backup (text_of k 0) (pairs_at (behind_text (text_of k 0)) (word_of k 1))
+data_of DataKind.Recover k = DataRequest.Recover (text_of k 2) (pairs_at 0 (word_of k 0))
+data_of DataKind.Environment k = DataRequest.Environment
+data_of DataKind.Stop k = DataRequest.Stop
+data_of DataKind.Listen k = DataRequest.Listen (word_of k 0)
+
+abbrev pub mover_of : MoverKind → Scan → MoverRequest
+mover_of MoverKind.State k = MoverRequest.State
+mover_of MoverKind.Listen k = MoverRequest.Listen (word_of k 0) (word_of k 1)
+mover_of MoverKind.Continue k = MoverRequest.Continue
+mover_of MoverKind.Stop k = MoverRequest.Stop
+mover_of MoverKind.Window k = MoverRequest.Window (hyper_of k 0) (hyper_of k 1)
+mover_of MoverKind.Read k = MoverRequest.Read (hyper_of k 0) (hyper_of k 1)
+mover_of MoverKind.Size k = MoverRequest.Size (word_of k 0)
+
+abbrev pub joint_of : JointKind → Scan → JointRequest
+joint_of JointKind.DataAbort k = JointRequest.DataAbort
+joint_of JointKind.DataConnect k = JointRequest.DataConnect (word_of k 0) (word_of k 1)
+joint_of JointKind.MoverAbort k = JointRequest.MoverAbort
+joint_of JointKind.MoverClose k = JointRequest.MoverClose
+joint_of JointKind.MoverConnect k = JointRequest.MoverConnect (word_of k 0) (word_of k 1) (word_of k 2)
+
 abbrev pub request_of : Message → Scan → Request
-request_of (Message.Connect ConnectKind.Open) k = Connect (ConnectRequest.Open (word_of k 0))
-request_of (Message.Connect ConnectKind.Auth) k = Connect (auth_of k)
-request_of (Message.Connect ConnectKind.Close) k = Connect ConnectRequest.Close
-request_of (Message.Config ConfigKind.ConnectionType) k = Config ConfigRequest.ConnectionType
-request_of (Message.Config ConfigKind.AuthAttributes) k = Config (ConfigRequest.AuthAttributes (word_of k 0))
-request_of (Message.Config ConfigKind.ServerInfo) k = Config ConfigRequest.ServerInfo
-request_of (Message.Scsi ScsiKind.Open) k = Scsi (ScsiRequest.Open (text_of k 0))
-request_of (Message.Scsi ScsiKind.Close) k = Scsi ScsiRequest.Close
-request_of (Message.Scsi ScsiKind.State) k = Scsi ScsiRequest.State
-request_of (Message.Scsi ScsiKind.Reset) k = Scsi ScsiRequest.Reset
-request_of (Message.Scsi ScsiKind.Cdb) k = Scsi (ScsiRequest.Cdb (text_of k 3) (word_of k 2))
-request_of (Message.Tape TapeKind.Open) k = Tape (TapeRequest.Open (text_of k 0) (word_of k 1))
-request_of (Message.Tape TapeKind.Close) k = Tape TapeRequest.Close
-request_of (Message.Tape TapeKind.State) k = Tape TapeRequest.State
-request_of (Message.Tape TapeKind.Mtio) k = Tape (TapeRequest.Mtio (word_of k 0) (word_of k 1))
-request_of (Message.Tape TapeKind.Write) k = Tape (TapeRequest.Write (text_of k 0))
-request_of (Message.Tape TapeKind.Read) k = Tape (TapeRequest.Read (word_of k 0))
-request_of (Message.Data DataKind.State) k = Data DataRequest.State
-request_of (Message.Data DataKind.Backup) k = Data (DataRequest.Backup (text_of k 0) (pairs_at (behind_text (text_of k 0)) (word_of k 1)))
-request_of (Message.Data DataKind.Recover) k = Data (DataRequest.Recover (text_of k 2) (pairs_at 0 (word_of k 0)))
-request_of (Message.Data DataKind.Environment) k = Data DataRequest.Environment
-request_of (Message.Data DataKind.Stop) k = Data DataRequest.Stop
-request_of (Message.Data DataKind.Listen) k = Data (DataRequest.Listen (word_of k 0))
-request_of (Message.Mover MoverKind.State) k = Mover MoverRequest.State
-request_of (Message.Mover MoverKind.Listen) k = Mover (MoverRequest.Listen (word_of k 0) (word_of k 1))
-request_of (Message.Mover MoverKind.Continue) k = Mover MoverRequest.Continue
-request_of (Message.Mover MoverKind.Stop) k = Mover MoverRequest.Stop
-request_of (Message.Mover MoverKind.Window) k = Mover (MoverRequest.Window (hyper_of k 0) (hyper_of k 1))
-request_of (Message.Mover MoverKind.Read) k = Mover (MoverRequest.Read (hyper_of k 0) (hyper_of k 1))
-request_of (Message.Mover MoverKind.Size) k = Mover (MoverRequest.Size (word_of k 0))
-request_of (Message.Joint JointKind.DataAbort) k = Joint JointRequest.DataAbort
-request_of (Message.Joint JointKind.DataConnect) k = Joint (JointRequest.DataConnect (word_of k 0) (word_of k 1))
-request_of (Message.Joint JointKind.MoverAbort) k = Joint JointRequest.MoverAbort
-request_of (Message.Joint JointKind.MoverClose) k = Joint JointRequest.MoverClose
-request_of (Message.Joint JointKind.MoverConnect) k = Joint (JointRequest.MoverConnect (word_of k 0) (word_of k 1) (word_of k 2))
+request_of (Message.Connect q) k = Connect (connect_of q k)
+request_of (Message.Config q) k = Config (config_of q k)
+request_of (Message.Scsi q) k = Scsi (scsi_of q k)
+request_of (Message.Tape q) k = Tape (tape_of q k)
+request_of (Message.Data q) k = Data (data_of q k)
+request_of (Message.Mover q) k = Mover (mover_of q k)
+request_of (Message.Joint q) k = Joint (joint_of q k)
 request_of Message.Unknown k = Unknown
 
+-- the request of what was read, or Bad
+abbrev pub or_bad : {R : Type 0} → (R → Request) → Option R → Request
+or_bad f (Some r) = f r
+or_bad f None = Bad
+
+abbrev pub scanned_by : Message → List ℕ → Option Scan
+scanned_by m b = scanned (layout_of m b) b
+
 abbrev pub read_by : Message → List ℕ → Request
-read_by m b = choose (scanned (layout_of m b) b).ok (request_of m (scanned (layout_of m b) b)) Bad
+read_by m b = or_bad (request_of m) (scanned_by m b)
 
-unfoldable pub connect_body : ConnectKind → List ℕ → Request
-connect_body k b = read_by (Message.Connect k) b
+unfoldable pub connect_body : ConnectKind → List ℕ → Option ConnectRequest
+connect_body k b = option_map (connect_of k) (scanned_by (Message.Connect k) b)
 
-unfoldable pub config_body : ConfigKind → List ℕ → Request
-config_body k b = read_by (Message.Config k) b
+unfoldable pub config_body : ConfigKind → List ℕ → Option ConfigRequest
+config_body k b = option_map (config_of k) (scanned_by (Message.Config k) b)
 
-unfoldable pub scsi_body : ScsiKind → List ℕ → Request
-scsi_body k b = read_by (Message.Scsi k) b
+unfoldable pub scsi_body : ScsiKind → List ℕ → Option ScsiRequest
+scsi_body k b = option_map (scsi_of k) (scanned_by (Message.Scsi k) b)
 
-unfoldable pub tape_body : TapeKind → List ℕ → Request
-tape_body k b = read_by (Message.Tape k) b
+unfoldable pub tape_body : TapeKind → List ℕ → Option TapeRequest
+tape_body k b = option_map (tape_of k) (scanned_by (Message.Tape k) b)
 
-unfoldable pub data_body : DataKind → List ℕ → Request
-data_body k b = read_by (Message.Data k) b
+unfoldable pub data_body : DataKind → List ℕ → Option DataRequest
+data_body k b = option_map (data_of k) (scanned_by (Message.Data k) b)
 
-unfoldable pub mover_body : MoverKind → List ℕ → Request
-mover_body k b = read_by (Message.Mover k) b
+unfoldable pub mover_body : MoverKind → List ℕ → Option MoverRequest
+mover_body k b = option_map (mover_of k) (scanned_by (Message.Mover k) b)
 
-unfoldable pub joint_body : JointKind → List ℕ → Request
-joint_body k b = read_by (Message.Joint k) b
+unfoldable pub joint_body : JointKind → List ℕ → Option JointRequest
+joint_body k b = option_map (joint_of k) (scanned_by (Message.Joint k) b)
 
 -- the request that a message and its body are
 unfoldable pub decoded : Message → List ℕ → Request
-decoded (Message.Connect k) b = connect_body k b
-decoded (Message.Config k) b = config_body k b
-decoded (Message.Scsi k) b = scsi_body k b
-decoded (Message.Tape k) b = tape_body k b
-decoded (Message.Data k) b = data_body k b
-decoded (Message.Mover k) b = mover_body k b
-decoded (Message.Joint k) b = joint_body k b
+decoded (Message.Connect k) b = or_bad Connect (connect_body k b)
+decoded (Message.Config k) b = or_bad Config (config_body k b)
+decoded (Message.Scsi k) b = or_bad Scsi (scsi_body k b)
+decoded (Message.Tape k) b = or_bad Tape (tape_body k b)
+decoded (Message.Data k) b = or_bad Data (data_body k b)
+decoded (Message.Mover k) b = or_bad Mover (mover_body k b)
+decoded (Message.Joint k) b = or_bad Joint (joint_body k b)
 decoded Message.Unknown b = Unknown

@@ -1,2 +1,3 @@
--- `Cases` has which case of a field holds, by what the code found; and the scan, one field on.
+-- `Cases` has which case of a field holds, by what the code found; `Scan` the scan, one field on.
 pub mod Cases
+pub mod Scan

@@ -1,6 +1,7 @@
 use mathlib.Core.Path.{refl}
 use mathlib.Core.List.{◌∷◌}
-use Rattle.wire_layouts.specs.Layout.{word, one}
+use Rattle.wire_layouts.specs.Layout.{one}
+use Rattle.wire_layouts.specs.declared.Part.TheVariants.{Word as word}
 use Rattle.wire_requests.specs.Bodies.{connect_fields, request_of, joint_body}
 use Rattle.wire_decoding.proofs.Laws.{of_scan, by_type}
 use Rattle.wire_frame.specs.declared.Message.TheVariants as Message
