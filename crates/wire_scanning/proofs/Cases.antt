@@ -11,20 +11,23 @@ use lib.Seq.{drop-cons}
 use lib.Dec.{eqb, leb}
 use borrow.Author.Tests.{le-leb, lt-leb, leb-true, leb-false, eq-eqb, ne_eqb}
 use Rattle.std.specs.Prelude.{Option, Some, None, option_and_then}
-use Rattle.codes.specs.Codes.{most_port, digest_length}
+use Rattle.std.specs.Option.{option_eq}
+use Rattle.codes.specs.Codes.{most_port, digest_length, tcp_address}
 use Rattle.xdr.specs.Choose.{choose}
 use Rattle.xdr.specs.Xdr as xdr
-use Rattle.std.specs.Prelude.{Some, None}
 use Rattle.xdr_opaque.specs.Opaque as o
 use Rattle.xdr_opaque.specs.declared.Opaque.{Opaque}
 use Rattle.xdr_opaque.proofs.Laws.{word_within, word_missing}
 use Rattle.wire_layouts.specs.Layout.{one, tag, Item, four, eight, bytes, fixed, place, Piece, piece, short, piece_of}
 use Rattle.wire_layouts.specs.Layout.{part_at, Got, got, cut, prepend, and_part, and_got, parts_at, times_at, FieldGot, field_got, stop, bad, single, counted, list_at, items_of, element_at, field_at}
 use Rattle.wire_layouts.specs.Scans.{past, forget, seen, field_seen, after_seen}
+use Rattle.wire_layouts.specs.AddressLists.{is_tcp}
+use Rattle.wire_layouts.proofs.AddressTypes.{type_found, type_missing}
 use Rattle.wire_layouts.specs.declared.Part.{Part}
 use Rattle.wire_layouts.specs.declared.Part.TheVariants.{Word as word, Hyper as hyper, Text as text, Port as port, Digest as digest}
 use Rattle.wire_layouts.specs.declared.Text.{Text}
 use Rattle.wire_layouts.specs.declared.Seen.{Seen}
+use Rattle.wire_layouts.specs.declared.Seen.TheVariants as Seen
 
 -- ---- the code passes over the elements of a list
 forget_prepend : (is : List (Item Text)) (g : Got) → forget (prepend is g) ≡ forget g
@@ -45,9 +48,16 @@ forget_got cut f = refl
 
 -- the parts from number i on
 module _ (l : List Part) (b : List ℕ) (i at : ℕ) where
-  pub parts_more : (d : Part) → i < length l → forget (parts_at (drop i l) b at) ≡ option_and_then (λ x. forget (parts_at (drop (i + 1) l) b x)) (past (part_at (get_or l i d) b at))
+  parts_more : (d : Part) → i < length l → forget (parts_at (drop i l) b at) ≡ option_and_then (λ x. forget (parts_at (drop (i + 1) l) b x)) (past (part_at (get_or l i d) b at))
   unfolding parts_at
   parts_more d h = rw (add-one, drop-cons l i d h) (forget_part (part_at (get_or l i d) b at) (parts_at (drop (suc i) l) b))
+
+  pub parts_past : (d : Part) (r : Option ℕ) (x : ℕ) → i < length l → r ≡ Some x → r ≡ past (part_at (get_or l i d) b at)
+      → forget (parts_at (drop i l) b at) ≡ forget (parts_at (drop (i + 1) l) b x)
+  parts_past d r x h f g = parts_more d h ∙ ap (option_and_then (λ y. forget (parts_at (drop (i + 1) l) b y))) (sym g ∙ f)
+
+  pub parts_short : (d : Part) (r : Option ℕ) → i < length l → r ≡ None → r ≡ past (part_at (get_or l i d) b at) → forget (parts_at (drop i l) b at) ≡ None
+  parts_short d r h f g = parts_more d h ∙ ap (option_and_then (λ y. forget (parts_at (drop (i + 1) l) b y))) (sym g ∙ f)
 
   pub parts_none : length l ≤ i → Some at ≡ forget (parts_at (drop i l) b at)
   unfolding parts_at forget
@@ -55,10 +65,16 @@ module _ (l : List Part) (b : List ℕ) (i at : ℕ) where
 
 -- the elements that are left
 module _ (element : ℕ → Got) (at : ℕ) where
-  pub times_more : (n : ℕ) → 0 < n → forget (times_at element n at) ≡ option_and_then (λ x. forget (times_at element (n - 1) x)) (forget (element at))
+  times_more : (n : ℕ) → forget (times_at element (suc n) at) ≡ option_and_then (λ x. forget (times_at element n x)) (forget (element at))
   unfolding times_at
-  times_more zero h = absurd (not-suc-le-zero h)
-  times_more (suc n) h = let k : suc n - 1 ≡ n = omega arith in rw k (forget_got (element at) (times_at element n))
+  times_more n = forget_got (element at) (times_at element n)
+
+  pub times_past : (n m : ℕ) (r : Option ℕ) (x : ℕ) → n ≡ suc m → r ≡ Some x → r ≡ forget (element at) → forget (times_at element n at) ≡ forget (times_at element m x)
+  times_past n m r x e f g = rw e (times_more m ∙ ap (option_and_then (λ y. forget (times_at element m y))) (sym g ∙ f))
+
+  pub times_short : (n : ℕ) (r : Option ℕ) → 0 < n → r ≡ None → r ≡ forget (element at) → forget (times_at element n at) ≡ None
+  times_short zero r h f g = absurd (not-suc-le-zero h)
+  times_short (suc n) r h f g = times_more n ∙ ap (option_and_then (λ y. forget (times_at element n y))) (sym g ∙ f)
 
   pub times_none : (n : ℕ) → n ≤ 0 → Some at ≡ forget (times_at element n at)
   unfolding times_at forget
@@ -177,3 +193,8 @@ pub no_element : (ps : List Part) (inner : ℕ) (qs : List Part) (b : List ℕ) 
 unfolding element_at
 no_element ps inner qs b at e =
     sym (forget_got (parts_at ps b at) (λ (y : ℕ). items_of (list_at inner (parts_at qs b) b y)) ∙ ap (λ s. option_and_then (λ y. forget (items_of (list_at inner (parts_at qs b) b y))) s) (sym e))
+
+-- the type of an address
+pub tcp_word : (b : List ℕ) (at : ℕ) (r : Option ℕ) → r ≡ o.word_at b at → option_eq eqb r (Some tcp_address) ≡ is_tcp b at
+tcp_word b at (Some v) e = type_found b at v e
+tcp_word b at None e = type_missing b at e

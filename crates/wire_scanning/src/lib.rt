@@ -42,6 +42,7 @@ fn stand_at(body: &[u8], at: usize, n: usize) -> bool
     body.len().checked_sub(n).is_some_and(|last| at <= last)
 }
 
+#[tactic(auto, using(crate::proofs::Cases::sees_word, crate::proofs::Cases::misses_word, xdr_opaque::proofs::Laws::word_within))]
 fn one_word(body: &[u8], at: usize) -> Option<Seen>
     ensures { result ≡ field_seen (field_at (one word) body.now at) }
 {
@@ -49,6 +50,7 @@ fn one_word(body: &[u8], at: usize) -> Option<Seen>
     Some(Seen::Word(v, at + 4))
 }
 
+#[tactic(auto, using(crate::proofs::Cases::sees_hyper, crate::proofs::Cases::misses_hyper))]
 fn one_hyper(body: &[u8], at: usize) -> Option<Seen>
     ensures { result ≡ field_seen (field_at (one hyper) body.now at) }
 {
@@ -58,6 +60,7 @@ fn one_hyper(body: &[u8], at: usize) -> Option<Seen>
     Some(Seen::Hyper(xdr::read_hyper(body, at), at + 8))
 }
 
+#[tactic(auto, using(crate::proofs::Cases::sees_text, crate::proofs::Cases::misses_text))]
 fn one_text(body: &[u8], at: usize) -> Option<Seen>
     ensures { result ≡ field_seen (field_at (one text) body.now at) }
 {
@@ -69,6 +72,7 @@ fn one_text(body: &[u8], at: usize) -> Option<Seen>
     Some(Seen::Place(text, o.next))
 }
 
+#[tactic(auto, using(crate::proofs::Cases::sees_port, crate::proofs::Cases::misses_port, crate::proofs::Cases::no_port, xdr_opaque::proofs::Laws::word_within))]
 fn one_port(body: &[u8], at: usize) -> Option<Seen>
     ensures { result ≡ field_seen (field_at (one port) body.now at) }
 {
@@ -80,6 +84,7 @@ fn one_port(body: &[u8], at: usize) -> Option<Seen>
 }
 
 // A digest has no length before it.
+#[tactic(auto, using(crate::proofs::Cases::sees_digest, crate::proofs::Cases::misses_digest))]
 fn one_digest(body: &[u8], at: usize) -> Option<Seen>
     ensures { result ≡ field_seen (field_at (one digest) body.now at) }
 {
@@ -107,6 +112,7 @@ fn one_part(part: Part, body: &[u8], at: usize) -> Option<Seen>
 }
 
 // The offset after a field.
+#[tactic(auto, unfolding(wire_layouts::specs::Scans::after_seen))]
 fn past_field(seen: Seen) -> Option<usize>
     ensures { result ≡ after_seen seen }
 {
@@ -190,6 +196,7 @@ fn address_list(body: &[u8], at: usize) -> Option<Seen>
     )
 }
 
+#[tactic(auto, using(crate::proofs::Cases::sees_tag, crate::proofs::Cases::stops, crate::proofs::Cases::misses_tag, xdr_opaque::proofs::Laws::word_within))]
 fn tagged(body: &[u8], at: usize, k: u32) -> Option<Seen>
     ensures { result ≡ field_seen (field_at (tag k) body.now at) }
 {
@@ -246,6 +253,7 @@ pub fn scan_body(layout: &[Field], body: &[u8]) -> Option<Scan>
 }
 
 // The count of a list.
+#[tactic(auto, unfolding(wire_layouts::specs::AddressLists::count_seen))]
 fn count_of(seen: Option<Seen>) -> u32
     ensures { result ≡ count_seen seen }
 {
