@@ -1,40 +1,32 @@
 // What the bodies of several messages share.
-ghost use Rattle.std.specs.Prelude.{◌≡◌, [], ◌+◌, ◌^◌, ◌<◌};
-ghost use Rattle.xdr.specs.Choose.{choose};
+ghost use Rattle.std.specs.Prelude.{◌≡◌, [], ◌+◌, ◌^◌, ◌<◌, option_map};
 ghost use Rattle.wire_layouts.specs.Scans.{scanned};
-ghost use Rattle.wire_requests.specs.Bodies.{text_of, behind_text, pairs_at};
-ghost use Rattle.wire_requests.specs.declared.Request.TheVariants as Request;
+ghost use Rattle.wire_requests.specs.Bodies.{behind_text, pairs_at};
 
-use wire_layouts::{Scan, Text};
-use wire_requests::{Pairs, Request};
+use wire_layouts::{Field, Part, Text};
+use wire_requests::Pairs;
 
-// The request, where the body decodes.
-pub fn judged(ok: bool, r: Request) -> Request
-    ensures { result ≡ choose ok r Request.Bad }
-{
-    if !ok {
-        return Request::Bad;
-    }
-    r
-}
+// The fields of layouts; an auth by MD5, an address of type LOCAL and one of type TCP are tags.
+pub const WORD: Field = Field::One(Part::Word);
+
+pub const HYPER: Field = Field::One(Part::Hyper);
+
+pub const TEXT: Field = Field::One(Part::Text);
+
+pub const DIGEST: Field = Field::One(Part::Digest);
+
+pub const MD5: Field = Field::Tag(codes::MD5_AUTH);
+
+pub const LOCAL: Field = Field::Tag(codes::LOCAL_ADDRESS);
+
+pub const TCP: Field = Field::Tag(codes::TCP_ADDRESS);
 
 // A body that holds nothing.
-pub fn bare(body: &[u8], r: Request) -> Request
-    ensures { result ≡ choose (scanned [] body.now).ok r Request.Bad }
+pub fn bare<R: Copy>(body: &[u8], r: R) -> Option<R>
+    ensures { result ≡ option_map (λ _. r) (scanned [] body.now) }
 {
-    let k = wire_scanning::scan_body(b"", body);
-    judged(k.ok, r)
-}
-
-// The text of a field, by the field's number.
-pub fn text_of(k: Scan, i: usize) -> Text
-    requires { i < 5 }
-    ensures { result ≡ text_of k i }
-{
-    Text {
-        start: k.starts[i],
-        len: k.lens[i],
-    }
+    wire_scanning::scan_body(&[], body)?;
+    Some(r)
 }
 
 // The pairs of a list behind a text, of so many: the first stands behind the fill of the text and the count.

@@ -1,16 +1,16 @@
-use mathlib.Core.Path.{refl}
+use mathlib.Core.Path.{refl, ◌∙◌}
 use mathlib.Core.List.{◌∷◌}
 use Rattle.wire_layouts.specs.Layout.{one}
 use Rattle.wire_layouts.specs.declared.Part.TheVariants.{Word as word}
-use Rattle.wire_requests.specs.Bodies.{connect_fields, request_of, joint_body}
-use Rattle.wire_decoding.proofs.Laws.{of_scan, by_type}
-use Rattle.wire_frame.specs.declared.Message.TheVariants as Message
 use Rattle.wire_frame.specs.declared.JointKind.TheVariants as JointKind
-use borrow.Author.Rules.{rules}
+use Rattle.wire_requests.specs.Bodies.{connect_fields, joint_of, joint_body}
+use Rattle.wire_decoding.proofs.Laws.{of_scan, of_none, by_type}
 use Rattle.wire_decoding.proofs.messages.mover_connect.Goals as goal
+
+pub returns-in_err-k : goal.returns-in_err-k
+unfolding joint_body
+returns-in_err-k c = c.from_residual.ensures ∙ of_none (joint_of JointKind.MoverConnect) _ (by_type (λ t. one word ∷ connect_fields t) _ _ refl refl _ _ c.in_err-k.ensures)
 
 pub returns : goal.returns
 unfolding joint_body
-returns c = let k = c in
-    let e = by_type (λ t. one word ∷ connect_fields t) _ _ refl refl _ k.is_tcp.ensures k.scan_by_type-k.ensures in
-    of_scan (request_of (Message.Joint JointKind.MoverConnect)) e c.judged.ensures
+returns c = of_scan (joint_of JointKind.MoverConnect) _ _ (by_type (λ t. one word ∷ connect_fields t) _ _ refl refl _ _ c.in_ok-k.ensures)
