@@ -8,17 +8,13 @@ use lib.Dec.{eqb, leb}
 use lib.ListN.{length}
 use borrow.Author.Tests.{le-leb, eq-eqb, ne_eqb, eqb-true, leb-true}
 use Rattle.codes.specs.Codes.{local_address, tcp_address, most_addresses}
+use Rattle.std.specs.Prelude.{Option, Some, None}
 use Rattle.xdr.specs.Choose.{choose}
 use Rattle.xdr.specs.Xdr as xdr
 use Rattle.xdr.proofs.Tests.{by_test}
 use Rattle.wire_frame.specs.Frame.{well_framed, kind_of, message_word, body_of, framed}
 use Rattle.wire_frame.specs.Messages.{row_of, message_of}
-use Rattle.wire_frame.specs.declared.ConnectKind.TheVariants as ConnectKind
-use Rattle.wire_frame.specs.declared.ConfigKind.TheVariants as ConfigKind
-use Rattle.wire_frame.specs.declared.ScsiKind.TheVariants as ScsiKind
-use Rattle.wire_frame.specs.declared.TapeKind.TheVariants as TapeKind
-use Rattle.wire_frame.specs.declared.DataKind.TheVariants as DataKind
-use Rattle.wire_frame.specs.declared.MoverKind.TheVariants as MoverKind
+use Rattle.wire_frame.specs.declared.JointKind.{JointKind}
 use Rattle.wire_frame.specs.declared.JointKind.TheVariants as JointKind
 use Rattle.wire_frame.specs.declared.Message.{Message}
 use Rattle.std.specs.declared.result.Result.{Result}
@@ -36,7 +32,7 @@ use Rattle.wire_layouts.specs.declared.Scan.{Scan}
 use Rattle.wire_layouts.specs.declared.Addresses.{Addresses}
 use Rattle.wire_layouts.proofs.AddressLists.{addresses_given}
 use Rattle.wire_layouts.proofs.AddressTypes.{type_judged}
-use Rattle.wire_requests.specs.Bodies.{connect_fields, layout_of, request_of, decoded}
+use Rattle.wire_requests.specs.Bodies.{connect_fields, layout_of, joint_of, request_of, or_bad, scanned_by, decoded}
 use Rattle.wire_requests.specs.RoundTrip.{Known}
 use Rattle.wire_requests.specs.declared.JointRequest.TheVariants as JointRequest
 use Rattle.wire_requests.specs.declared.Request.{Request}
@@ -118,58 +114,38 @@ Own m (Joint (JointRequest.MoverConnect mode kind n)) = m ≡ Message.Joint Join
 Own m Unknown = Unit
 Own m Bad = Unit
 
-own_row : (m : Message) (k : Scan) → Own m (request_of m k)
+own_joint : (q : JointKind) (k : Scan) → Own (Message.Joint q) (Joint (joint_of q k))
 unfolding Own
-own_row (Message.Connect ConnectKind.Open) k = tt
-own_row (Message.Connect ConnectKind.Auth) k = tt
-own_row (Message.Connect ConnectKind.Close) k = tt
-own_row (Message.Config ConfigKind.ConnectionType) k = tt
-own_row (Message.Config ConfigKind.AuthAttributes) k = tt
-own_row (Message.Config ConfigKind.ServerInfo) k = tt
-own_row (Message.Scsi ScsiKind.Open) k = tt
-own_row (Message.Scsi ScsiKind.Close) k = tt
-own_row (Message.Scsi ScsiKind.State) k = tt
-own_row (Message.Scsi ScsiKind.Reset) k = tt
-own_row (Message.Scsi ScsiKind.Cdb) k = tt
-own_row (Message.Tape TapeKind.Open) k = tt
-own_row (Message.Tape TapeKind.Close) k = tt
-own_row (Message.Tape TapeKind.State) k = tt
-own_row (Message.Tape TapeKind.Mtio) k = tt
-own_row (Message.Tape TapeKind.Write) k = tt
-own_row (Message.Tape TapeKind.Read) k = tt
-own_row (Message.Data DataKind.State) k = tt
-own_row (Message.Data DataKind.Backup) k = tt
-own_row (Message.Data DataKind.Recover) k = tt
-own_row (Message.Data DataKind.Environment) k = tt
-own_row (Message.Data DataKind.Stop) k = tt
-own_row (Message.Data DataKind.Listen) k = tt
-own_row (Message.Mover MoverKind.State) k = tt
-own_row (Message.Mover MoverKind.Listen) k = tt
-own_row (Message.Mover MoverKind.Continue) k = tt
-own_row (Message.Mover MoverKind.Stop) k = tt
-own_row (Message.Mover MoverKind.Window) k = tt
-own_row (Message.Mover MoverKind.Read) k = tt
-own_row (Message.Mover MoverKind.Size) k = tt
-own_row (Message.Joint JointKind.DataAbort) k = tt
-own_row (Message.Joint JointKind.DataConnect) k = refl
-own_row (Message.Joint JointKind.MoverAbort) k = tt
-own_row (Message.Joint JointKind.MoverClose) k = tt
-own_row (Message.Joint JointKind.MoverConnect) k = refl
-own_row Message.Unknown k = tt
+own_joint JointKind.DataAbort k = tt
+own_joint JointKind.DataConnect k = refl
+own_joint JointKind.MoverAbort k = tt
+own_joint JointKind.MoverClose k = tt
+own_joint JointKind.MoverConnect k = refl
 
-own_read : (m : Message) (b : List ℕ) → Known m → Own m (decoded m b)
+own_read : (m : Message) (o : Option Scan) → Own m (or_bad (request_of m) o)
 unfolding Own
-own_read m b h = rw (by_layout m b h) (by_test (Own m) (scanned (layout_of m b) b).ok _ _ (λ e. own_row m (scanned (layout_of m b) b)) (λ e. tt))
+own_read m None = tt
+own_read (Message.Connect q) (Some k) = tt
+own_read (Message.Config q) (Some k) = tt
+own_read (Message.Scsi q) (Some k) = tt
+own_read (Message.Tape q) (Some k) = tt
+own_read (Message.Data q) (Some k) = tt
+own_read (Message.Mover q) (Some k) = tt
+own_read (Message.Joint q) (Some k) = own_joint q k
+own_read Message.Unknown (Some k) = tt
+
+own_known : (m : Message) (b : List ℕ) → Known m → Own m (decoded m b)
+own_known m b h = rw (by_layout m b h) (own_read m (scanned_by m b))
 
 own : (m : Message) (b : List ℕ) → Own m (decoded m b)
 unfolding Own decoded
-own (Message.Connect k) b = own_read (Message.Connect k) b tt
-own (Message.Config k) b = own_read (Message.Config k) b tt
-own (Message.Scsi k) b = own_read (Message.Scsi k) b tt
-own (Message.Tape k) b = own_read (Message.Tape k) b tt
-own (Message.Data k) b = own_read (Message.Data k) b tt
-own (Message.Mover k) b = own_read (Message.Mover k) b tt
-own (Message.Joint k) b = own_read (Message.Joint k) b tt
+own (Message.Connect k) b = own_known (Message.Connect k) b tt
+own (Message.Config k) b = own_known (Message.Config k) b tt
+own (Message.Scsi k) b = own_known (Message.Scsi k) b tt
+own (Message.Tape k) b = own_known (Message.Tape k) b tt
+own (Message.Data k) b = own_known (Message.Data k) b tt
+own (Message.Mover k) b = own_known (Message.Mover k) b tt
+own (Message.Joint k) b = own_known (Message.Joint k) b tt
 own Message.Unknown b = tt
 
 -- ---- what a body is read as behind its mode, or from its start: an address of type TCP, or another
@@ -248,9 +224,9 @@ module _ (b : List ℕ) (at : ℕ) where
 
 -- ---- the request of what a body was read as
 read_as : (m : Message) → Known m → (b : List ℕ) (r : Read) → read_fields (layout_of m b) b 0 ≡ r
-    → decoded m b ≡ choose (summed 0 (empty_scan true) r).ok (request_of m (summed 0 (empty_scan true) r)) Bad
+    → decoded m b ≡ or_bad (request_of m) (summed 0 empty_scan r)
 unfolding scanned
-read_as m h b r e = by_layout m b h ∙ ap (λ (s : Read). choose (summed 0 (empty_scan true) s).ok (request_of m (summed 0 (empty_scan true) s)) Bad) e
+read_as m h b r e = by_layout m b h ∙ ap (λ (s : Read). or_bad (request_of m) (summed 0 empty_scan s)) e
 
 abbrev pub data_connect : Message
 data_connect = Message.Joint JointKind.DataConnect

@@ -3,62 +3,45 @@
 
 ghost use Rattle.std.specs.Prelude.{◌≡◌};
 ghost use Rattle.wire_frame.specs.Messages.{message_of};
-ghost use Rattle.wire_layouts.specs.AddressLists.{empty_addresses};
 ghost use Rattle.wire_requests.specs.Bodies.{decoded};
 ghost use Rattle.call_addresses.specs.Reading.{by_type, of_joint, of_request, addresses_in, ReaderHolds};
 
 use wire_layouts::Addresses;
 use wire_requests::{JointRequest, Request};
 
-fn nothing() -> Addresses
-    ensures { result ≡ empty_addresses 0 }
-{
-    Addresses {
-        count: 0,
-        hosts: [0; 16],
-        ports: [0; 16],
-    }
-}
-
 // The list at an offset of a connect's body, where its address type is TCP.
+#[tactic(auto, unfolding(crate::specs::Reading::by_type, xdr::specs::Choose::choose))]
 fn by_type(kind: u32, body: &[u8], at: usize) -> Addresses
     ensures { result ≡ by_type kind body.now at }
 {
     if kind != codes::TCP_ADDRESS {
-        return nothing();
+        return Addresses::empty(0);
     }
     wire_scanning::addresses_at(body, at)
 }
 
 // Behind the type; of the mover behind the mode and the type.
+#[tactic(auto, unfolding(crate::specs::Reading::of_joint))]
 fn of_joint(q: JointRequest, body: &[u8]) -> Addresses
     ensures { result ≡ of_joint q body.now }
 {
     match q {
-        JointRequest::DataAbort => nothing(),
         JointRequest::DataConnect(kind, _) => by_type(kind, body, 4),
-        JointRequest::MoverAbort => nothing(),
-        JointRequest::MoverClose => nothing(),
         JointRequest::MoverConnect(_, kind, _) => by_type(kind, body, 8),
+        JointRequest::DataAbort | JointRequest::MoverAbort | JointRequest::MoverClose => {
+            Addresses::empty(0)
+        }
     }
 }
 
+#[tactic(auto, using(crate::proofs::Reading::by_number), unfolding(crate::specs::Reading::of_request))]
 fn of_request(message: u32, body: &[u8]) -> Addresses
     ensures { result ≡ of_request (decoded (message_of message) body.now) body.now }
 {
     let row = wire_frame::row_of(message);
-    let kind = row.kind;
-    let q = wire_decoding::decode(kind, body);
-    match q {
-        Request::Connect(_) => nothing(),
-        Request::Config(_) => nothing(),
-        Request::Scsi(_) => nothing(),
-        Request::Tape(_) => nothing(),
-        Request::Data(_) => nothing(),
-        Request::Mover(_) => nothing(),
-        Request::Joint(k) => of_joint(k, body),
-        Request::Unknown => nothing(),
-        Request::Bad => nothing(),
+    match wire_decoding::decode(row.kind, body) {
+        Request::Joint(q) => of_joint(q, body),
+        _ => Addresses::empty(0),
     }
 }
 
@@ -68,7 +51,7 @@ pub fn read_addresses(input: &[u8]) -> Addresses
 {
     match wire_frame::read_frame(input) {
         Ok(frame) => of_request(frame.message, &input[28..]),
-        Err(_) => nothing(),
+        Err(_) => Addresses::empty(0),
     }
 }
 

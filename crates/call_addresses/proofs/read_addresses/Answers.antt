@@ -10,4 +10,4 @@ returns-in-Ok c = let k = c in
     by_frame _ (sym k.in-Ok.is ∙ k.read_frame.ensures.read) (rw rest at c.of_request.ensures)
 
 pub returns-in-Err : goal.returns-in-Err
-returns-in-Err c = c.nothing.ensures ∙ none_by_frame _ _ (sym c.in-Err.is ∙ c.read_frame.ensures.read)
+returns-in-Err c = c.empty.ensures ∙ none_by_frame _ _ (sym c.in-Err.is ∙ c.read_frame.ensures.read)
