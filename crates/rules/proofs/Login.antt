@@ -8,6 +8,7 @@ use lib.ListN.{length}
 use lib.Dec.{eqb, ltb, leb}
 use borrow.Author.Tests.{eqb-true, eqb-false, eq-eqb, ne_eqb, ltb-true, ltb-false, le-leb, lt-leb, leb-true}
 use Rattle.codes.specs.Codes.{md5_auth, store_length}
+use Rattle.std.specs.Prelude.{Option, Some, None, option_map}
 use Rattle.xdr.specs.Choose.{choose}
 use Rattle.xdr.specs.Xdr.{word, be32, be32s}
 use Rattle.xdr.proofs.Tests.{by_test, yes}
@@ -25,11 +26,9 @@ use Rattle.wire_frame.specs.declared.ConnectKind.{ConnectKind}
 use Rattle.wire_frame.specs.declared.ConnectKind.TheVariants as ConnectKind
 use Rattle.wire_frame.specs.declared.ConfigKind.{ConfigKind}
 use Rattle.wire_frame.specs.declared.ConfigKind.TheVariants as ConfigKind
-use Rattle.wire_frame.specs.declared.JointKind.{JointKind}
-use Rattle.wire_frame.specs.declared.JointKind.TheVariants as JointKind
 use Rattle.wire_frame.specs.declared.Message.{Message}
 use Rattle.wire_frame.specs.declared.Message.TheVariants as Message
-use Rattle.wire_requests.specs.Bodies.{layout_of, request_of, read_by, connect_body, config_body, joint_body, decoded}
+use Rattle.wire_requests.specs.Bodies.{connect_of, config_of, joint_of, or_bad, scanned_by, connect_body, config_body, joint_body, decoded}
 use Rattle.wire_requests.specs.Within.{bytes_at}
 use Rattle.wire_requests.specs.declared.ConnectRequest.{ConnectRequest}
 use Rattle.wire_requests.specs.declared.ConnectRequest.TheVariants as ConnectRequest
@@ -327,23 +326,11 @@ unfolding row_of
 attributes_number n d = of_test (is_attributes (message_of n)) (λ e. d (looked table only_row n e))
 
 -- the rows of the other messages of CONNECT, CONFIG and the joint ones
-connect_rows : (k : ConnectKind) (s : Scan) → is_challenge (request_of (Message.Connect k) s) ≡ false
+read_rows : {R : Type 0} (f : R → Request) (g : Scan → R) (o : Option Scan) → ((s : Scan) → is_challenge (f (g s)) ≡ false)
+    → is_challenge (or_bad f (option_map g o)) ≡ false
 unfolding is_challenge
-connect_rows ConnectKind.Open s = refl
-connect_rows ConnectKind.Auth s = refl
-connect_rows ConnectKind.Close s = refl
-
-joint_rows : (k : JointKind) (s : Scan) → is_challenge (request_of (Message.Joint k) s) ≡ false
-unfolding is_challenge
-joint_rows JointKind.DataAbort s = refl
-joint_rows JointKind.DataConnect s = refl
-joint_rows JointKind.MoverAbort s = refl
-joint_rows JointKind.MoverClose s = refl
-joint_rows JointKind.MoverConnect s = refl
-
-read_rows : (m : Message) (b : List ℕ) → ((s : Scan) → is_challenge (request_of m s) ≡ false) → is_challenge (read_by m b) ≡ false
-unfolding is_challenge
-read_rows m b h = by_test (λ (q : Request). is_challenge q ≡ false) (scanned (layout_of m b) b).ok _ _ (λ _. h _) (λ _. refl)
+read_rows f g (Some s) h = h s
+read_rows f g None h = refl
 
 owned_rows : (d : Service) (q : Request) → Owned d q → (d ≡ JointService → ⊥) → (d ≡ ControlService → ⊥) → is_challenge q ≡ false
 unfolding is_challenge
@@ -358,15 +345,15 @@ owned_rows d q (bad x) j c = refl
 
 others : (m : Message) (b : List ℕ) → is_attributes m ≡ false → is_challenge (decoded m b) ≡ false
 unfolding decoded connect_body config_body joint_body service_of is_attributes is_challenge
-others (Message.Connect k) b h = read_rows (Message.Connect k) b (connect_rows k)
-others (Message.Config ConfigKind.ConnectionType) b h = read_rows (Message.Config ConfigKind.ConnectionType) b (λ s. refl)
+others (Message.Connect k) b h = read_rows Request.Connect (connect_of k) (scanned_by (Message.Connect k) b) (λ s. refl)
+others (Message.Config ConfigKind.ConnectionType) b h = read_rows Request.Config (config_of ConfigKind.ConnectionType) (scanned_by (Message.Config ConfigKind.ConnectionType) b) (λ s. refl)
 others (Message.Config ConfigKind.AuthAttributes) b h = clash (sym h)
-others (Message.Config ConfigKind.ServerInfo) b h = read_rows (Message.Config ConfigKind.ServerInfo) b (λ s. refl)
+others (Message.Config ConfigKind.ServerInfo) b h = read_rows Request.Config (config_of ConfigKind.ServerInfo) (scanned_by (Message.Config ConfigKind.ServerInfo) b) (λ s. refl)
 others (Message.Scsi k) b h = owned_rows ScsiService _ (owned (Message.Scsi k) 0 b) (λ e. clash cc) (λ e. clash cc)
 others (Message.Tape k) b h = owned_rows TapeService _ (owned (Message.Tape k) 0 b) (λ e. clash cc) (λ e. clash cc)
 others (Message.Data k) b h = owned_rows DataService _ (owned (Message.Data k) 0 b) (λ e. clash cc) (λ e. clash cc)
 others (Message.Mover k) b h = owned_rows TapeService _ (owned (Message.Mover k) 0 b) (λ e. clash cc) (λ e. clash cc)
-others (Message.Joint k) b h = read_rows (Message.Joint k) b (joint_rows k)
+others (Message.Joint k) b h = read_rows Request.Joint (joint_of k) (scanned_by (Message.Joint k) b) (λ s. refl)
 others Message.Unknown b h = refl
 
 by_eq : {A : Type 0} (m n : ℕ) → (m ≡ n → A) → ((m ≡ n → ⊥) → A) → A

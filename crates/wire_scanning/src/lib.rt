@@ -13,6 +13,7 @@ use xdr_opaque::{opaque_at, word_at};
 
 // The parts of the elements of lists: a pair of an environment, an ndmp_name, and the start of an ndmp_tcp_addr.
 const PAIR: [Part; 2] = [Part::Text, Part::Text];
+
 const NAME: [Part; 6] = [
     Part::Text,
     Part::Text,
@@ -21,6 +22,7 @@ const NAME: [Part; 6] = [
     Part::Hyper,
     Part::Hyper,
 ];
+
 const HOST_PORT: [Part; 2] = [Part::Word, Part::Port];
 
 // Nothing kept yet.
@@ -188,12 +190,7 @@ fn address_at(body: &[u8], at: usize) -> Option<usize>
 fn address_list(body: &[u8], at: usize) -> Option<Seen>
     ensures { result ≡ field_seen (field_at addresses body.now at) }
 {
-    list_at(
-        codes::MOST_ADDRESSES,
-        |pos| address_at(body, pos),
-        body,
-        at,
-    )
+    list_at(codes::MOST_ADDRESSES, |pos| address_at(body, pos), body, at)
 }
 
 #[tactic(auto, using(crate::proofs::Cases::sees_tag, crate::proofs::Cases::stops, crate::proofs::Cases::misses_tag, xdr_opaque::proofs::Laws::word_within))]

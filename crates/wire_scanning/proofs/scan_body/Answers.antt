@@ -25,13 +25,13 @@ unfolding put
 loop-i-preserved c = (
   c.loop-i.invariant.0,
   elim c.match-branch-2.branch [
-    in-Word w ↦ rw (w.k-is, w.at-is)
+    | in-Word w ↦ rw (w.k-is, w.at-is)
         (c.loop-i.invariant.1
         ∙ next_word c.args.layout.now c.loop-i.i c.args.body.now c.loop-i.at c.loop-i.k _ (omega arith) _ _ (ap Some (sym w.in-Word.is) ∙ c.in_ok-v.ensures))
-  | in-Hyper w ↦ rw (w.k-is, w.at-is)
+    | in-Hyper w ↦ rw (w.k-is, w.at-is)
         (c.loop-i.invariant.1
         ∙ next_hyper c.args.layout.now c.loop-i.i c.args.body.now c.loop-i.at c.loop-i.k _ (omega arith) _ _ (ap Some (sym w.in-Hyper.is) ∙ c.in_ok-v.ensures))
-  | in-Place w ↦ rw (w.k-is, w.at-is)
+    | in-Place w ↦ rw (w.k-is, w.at-is)
         (c.loop-i.invariant.1
         ∙ next_place c.args.layout.now c.loop-i.i c.args.body.now c.loop-i.at c.loop-i.k _ (omega arith) _ _ (ap Some (sym w.in-Place.is) ∙ c.in_ok-v.ensures))
   ],
