@@ -5,22 +5,18 @@ use mathlib.Core.Path.{◌≡◌, refl, sym, ◌∙◌}
 use mathlib.Core.List.{List, [], ◌∷◌, ◌++◌, append_assoc, append-nil}
 use native.Mathlib.Omega.{arith}
 use lib.ListN.{length, take, drop, length-append, length-take}
+use Rattle.std.specs.Prelude.{◌||◌}
+use Rattle.std.specs.List.{list_any}
 use Rattle.xdr.specs.Choose.{choose}
 use Rattle.xdr.specs.Xdr.{word, same_bytes}
 use Rattle.xdr.proofs.Laws.{overlay_none}
 use Rattle.xdr_opaque.specs.Put.{Put, opaque}
 use Rattle.xdr_opaque.proofs.Laws.{then, put, length_opaque}
 use Rattle.wire_pairs.specs.Pairs.{Pair, pair, separator_name, separator, is_named, with_separator, pair_bytes}
-use Rattle.wire_pairs.specs.Store.{laid_from, is_laid, kept_from, kept_pairs, environment_of}
+use Rattle.wire_pairs.specs.Store.{laid_from, is_laid, Left, kept_from, kept_pairs, environment_of}
 use Rattle.wire_pairs.proofs.Sizes.{laid_one, laid_none, laid_pairs, length_kept_pairs}
 
 -- ---- a walk
--- so many pairs are left, whose words stand from `at` on up to the first text, and whose texts begin at `text`
-pub record Left (store : List ℕ) (first left at text : ℕ) : Type 0 where
-  pub laid : laid_from store left at (text - first) ≡ true
-  pub words : at + 16 * left ≡ first
-  pub texts : first ≤ text
-
 laid_within : (store : List ℕ) (n at sum : ℕ) → laid_from store n at sum ≡ true → at + 16 * n + sum ≤ length store
 laid_within store zero at sum h = omega (arith, laid_none store at sum h)
 laid_within store (suc n) at sum h =
@@ -97,18 +93,14 @@ unfolding kept_from
 left_none store first left at h = let e : left ≡ 0 = omega arith in rw e
 
 -- ---- the separator's name
-module _ (name value : List ℕ) (ps qs : List Pair) (e : qs ≡ pair name value ∷ ps) where
-  pub named_here : same_bytes name separator_name ≡ true → is_named separator_name qs ≡ true
-  unfolding is_named choose
-  named_here h = rw (e, h)
-
-  pub named_later : same_bytes name separator_name ≡ false → is_named separator_name qs ≡ is_named separator_name ps
-  unfolding is_named choose
-  named_later h = rw (e, h)
-
-pub named_none : (qs : List Pair) → qs ≡ [] → is_named separator_name qs ≡ false
-unfolding is_named
-named_none qs e = rw e
+pub named_any : (ps : List Pair) → list_any (λ p. same_bytes p.name separator_name) ps ≡ is_named separator_name ps
+unfolding is_named choose
+named_any [] = refl
+named_any (p ∷ ps) =
+    elim (same_bytes p.name separator_name) as (λ b. (b || list_any (λ q. same_bytes q.name separator_name) ps) ≡ choose b true (is_named separator_name ps)) [
+      | true ↦ refl
+      | false ↦ named_any ps
+    ]
 
 -- ---- what is given
 module _ (store : List ℕ) where
@@ -139,16 +131,9 @@ pub put_pair : {at next last : ℕ} {l m m' : List ℕ} (name value : List ℕ) 
 unfolding pair_bytes
 put_pair name value p q = rw append-nil (then p q)
 
--- a pair takes two length words, its texts and at most six bytes of fill
-pub pair_room : {at last : ℕ} {l m : List ℕ} (n k : ℕ) (a b : List ℕ)
-    → Put at (pair_bytes (pair (take n a) (take k b) ∷ [])) l last m → last ≤ at + n + k + 14
+pub length_pair : (n v : List ℕ) → length (pair_bytes (pair n v ∷ [])) ≡ length (opaque n) + length (opaque v)
 unfolding pair_bytes
-pair_room n k a b p =
-    let x : length (take n a) ≤ n = simp length-take (omega arith) in
-    let y : length (take k b) ≤ k = simp length-take (omega arith) in
-    let e = length_opaque (take n a) in
-    let f = length_opaque (take k b) in
-    omega (arith, simp length-append at p.end)
+length_pair n v = simp length-append (omega arith)
 
 -- of the pairs so many are written, and the rest is left
 pub record Given (at : ℕ) (all rest : List Pair) (l : List ℕ) (next : ℕ) (m : List ℕ) : Type 0 where
@@ -168,6 +153,12 @@ given_more {p = p} {rest = rest} g q =
       whole = g.whole ∙ sym (append_assoc g.done (p ∷ []) rest);
       wrote = rw pair_bytes_join (then g.wrote q);
     }
+
+-- what the next pair takes ends within what all take
+pub given_room : {at next : ℕ} {p : Pair} {all rest : List Pair} {l m : List ℕ} → Given at all (p ∷ rest) l next m
+    → next + length (pair_bytes (p ∷ [])) ≤ at + length (pair_bytes all)
+given_room {p = p} {rest = rest} g =
+    rw (g.whole, pair_bytes_join, length-append, pair_bytes_join (p ∷ []) rest, length-append) (omega (arith, g.wrote.end))
 
 pub given_all : {at next : ℕ} {all rest : List Pair} {l m : List ℕ} → Given at all rest l next m → rest ≡ [] → Put at (pair_bytes all) l next m
 given_all g e = rw (g.whole, e, append-nil) g.wrote

@@ -1,6 +1,6 @@
 -- The store of a data end's environment (02 No. 3): "a lent store of 16,384 bytes, a count (at most 64), four words a pair (start, from the first text on, and
 -- length of name and of value), then the texts without gaps, name before value; bytes past them stay".
-use Rattle.std.specs.Prelude.{ℕ, zero, suc, ◌+◌, ◌*◌, Bool, false, List, [], ◌∷◌, ◌++◌, eqb, leb, length, take, drop}
+use Rattle.std.specs.Prelude.{ℕ, zero, suc, ◌+◌, ◌-◌, ◌*◌, ◌≤◌, ◌≡◌, Bool, true, false, List, [], ◌∷◌, ◌++◌, eqb, leb, length, take, drop}
 use Rattle.codes.specs.Codes.{most_listed, store_length}
 use Rattle.xdr.specs.Choose.{choose}
 use Rattle.xdr.specs.Xdr.{be32, be32s, word, overlay}
@@ -65,6 +65,13 @@ kept_from store first (suc n) at = pair_at store first at ∷ kept_from store fi
 -- the pairs in a store
 unfoldable pub kept_pairs : List ℕ → List Pair
 kept_pairs store = kept_from store (4 + 16 * word store 0) (word store 0) 4
+
+-- a walk through the pairs of a store whose first text begins at `first`: so many are left, whose words stand from `at` on up to
+-- the first text, and whose texts begin at `text`
+pub record Left (store : List ℕ) (first left at text : ℕ) : Type 0 where
+  pub laid : laid_from store left at (text - first) ≡ true
+  pub words : at + 16 * left ≡ first
+  pub texts : first ≤ text
 
 -- what 0x404 answers from a store
 unfoldable pub environment_of : List ℕ → List Pair

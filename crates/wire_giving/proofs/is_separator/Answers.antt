@@ -1,5 +1,4 @@
 use Rattle.wire_pairs.specs.Pairs.{separator_name}
-use borrow.Author.Rules.{rules}
 use Rattle.wire_giving.proofs.is_separator.Goals as goal
 
 pub returns : goal.returns

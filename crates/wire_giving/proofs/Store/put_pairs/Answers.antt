@@ -1,17 +1,16 @@
 use native.Mathlib.Omega.{arith}
-use borrow.Author.Rules.{rules}
 use Rattle.xdr.proofs.Tests.{asked}
 use Rattle.wire_pairs.specs.Pairs.{separator_name, separator}
-use Rattle.wire_pairs.proofs.Sizes.{pairs_size}
+use Rattle.wire_pairs.proofs.Sizes.{pairs_size, separator_size}
 use Rattle.wire_pairs.proofs.Giving.{put_kept, put_separator}
-use Rattle.wire_giving.proofs.put_pairs.Goals as goal
+use Rattle.wire_giving.proofs.Store.put_pairs.Goals as goal
 
 pub returns-then-is_named : goal.returns-then-is_named
 returns-then-is_named c = put_kept _ c.put_kept-next.ensures (asked c.is_named.ensures c.if-is_named.true)
 
-pub put_pair-requires : goal.put_pair-requires
-put_pair-requires c = let n = pairs_size _ c.requires.1 in
-    (omega (arith, n, c.put_kept-next.ensures.end), omega arith)
+pub put_pair-requires-clause-room : goal.put_pair-requires-clause-room
+unfolding separator_name separator
+put_pair-requires-clause-room c = omega (arith, pairs_size _ c.args.self.laid, c.args.self.short, c.put_kept-next.ensures.end, separator_size)
 
 pub returns : goal.returns
 unfolding separator_name separator
