@@ -12,6 +12,7 @@ ghost use Rattle.wire_replies.specs.Replies.{words_only, sense, address_words, s
 ghost use Rattle.wire_replies.specs.Fit.{Sendable};
 ghost use Rattle.wire_replies.specs.Writers.{PutUpTo, header_words};
 
+use wire_giving::Store;
 use wire_replies::{DataView, MoverView, Notice, Reply};
 
 // Writes a body of words alone; returns the offset after it.
@@ -153,9 +154,9 @@ fn put_environment(out: &mut [u8], at: usize, store: &[u8]) -> usize
     requires { (at + 16428 ≤ length out.old) × (is_laid store.now ≡ true) × (length store.now ≤ store_length) }
     ensures { Put at (body_bytes (shape_of Reply.Environment store.now)) out.old result out.new }
 {
-    let count = wire_giving::count(store);
-    let first = xdr_opaque::put_words(out, at, &[0, count]);
-    wire_giving::put_pairs(out, first, store)
+    let kept = Store::new(store);
+    let first = xdr_opaque::put_words(out, at, &[0, kept.count()]);
+    kept.put_pairs(out, first)
 }
 
 // Writes the mover; a hyper is its two words.
