@@ -6,11 +6,12 @@ use native.Mathlib.Omega.{arith}
 use lib.Dec.{ltb}
 use lib.ListN.{length, length-append, length-take}
 use borrow.Author.Tests.{ltb-true, ltb-false}
+use Rattle.std.specs.Prelude.{Result, Ok}
+use Rattle.changer_elements.specs.declared.Sense.{Sense}
 use Rattle.xdr.specs.Choose.{least}
 use Rattle.xdr.proofs.Tests.{by_test}
 use Rattle.xdr.specs.Xdr.{be32, be32s}
 use Rattle.changer_elements.specs.declared.Asked.{Asked}
-use Rattle.changer_elements.specs.declared.StatusDone.TheVariants.{Reports}
 use Rattle.changer_elements.specs.Status.{reported, of_type, page, status_data}
 use Rattle.changer_elements.specs.Status.{be16, be24, flags_of, descriptor, descriptors, page_of, pages, first_of, status_of}
 use Rattle.changer_elements.proofs.Lists.{reported_types}
@@ -121,8 +122,8 @@ status_most a slots = omega (arith, status_length slots (reported a), pages_most
 
 -- ---- what is asked, and what is handed over
 pub asked_is : {kind kind' start start' number number' cut cut' : ℕ} → kind ≡ kind' → start ≡ start' → number ≡ number' → cut ≡ cut' →
-    Reports (record { kind = kind; start = start; number = number; cut = cut })
-    ≡ Reports (record { kind = kind'; start = start'; number = number'; cut = cut' })
+    ◌≡◌ {A = Result Asked Sense} (Ok (record { kind = kind; start = start; number = number; cut = cut }))
+    (Ok (record { kind = kind'; start = start'; number = number'; cut = cut' }))
 asked_is h k m n = cc
 
 pub least_min : (a b : ℕ) → min a b ≡ least a b

@@ -8,14 +8,14 @@ use native.Mathlib.Omega.{arith}
 use lib.ListN.{length, get_or}
 use lib.Dec.{eqb, ltb}
 use borrow.Author.Tests.{eqb-true, ltb-false, not-true}
+use Rattle.std.specs.Prelude.{Result, Ok, Err}
 use Rattle.xdr.specs.Choose.{choose}
 use Rattle.xdr.proofs.Tests.{pick_if, pick_else, eqb_yes, eqb_no, leb_yes, leb_no, ltb_no, yes_not, yes, none, none_of, if_so, when, is, isnt}
 use Rattle.changer_elements.specs.declared.Sense.{Sense}
-use Rattle.changer_elements.specs.declared.MoveDone.{MoveDone}
-use Rattle.changer_elements.specs.declared.MoveDone.TheVariants.{Refused, Moves}
+use Rattle.changer_elements.specs.declared.Places.{Places}
 use Rattle.changer_elements.specs.Elements.{has_place, place_of, is_full, half}
 use Rattle.changer_elements.specs.Slots.{moved, times}
-use Rattle.changer_elements.specs.Move.{is_movable, is_held, judge_move, move_medium, slots_after}
+use Rattle.changer_elements.specs.Move.{is_movable, is_held, from_to, judge_move, move_medium, slots_after}
 use Rattle.changer_elements.specs.MovesHold.{PlacesHold, Movable, MovesHold}
 use Rattle.changer_elements.proofs.Laws.{both, by_cases, slot_between, place_drive, place_slot, full_yes, full_no, fields_are}
 use Rattle.changer_elements.proofs.Counts.{moved_times, moved_to, moved_from, moved_other}
@@ -72,7 +72,7 @@ places_hold =
 
 -- ---- one move
 -- a test that does not refuse, whatever its sense
-passes : (b : Bool) (s : Sense) {o : MoveDone} {from to : ℕ} → choose b (Refused s) o ≡ Moves from to → (b ≡ false) × (o ≡ Moves from to)
+passes : (b : Bool) (s : Sense) {o : Result Places Sense} {from to : ℕ} → choose b (Err s) o ≡ from_to from to → (b ≡ false) × (o ≡ from_to from to)
 unfolding choose
 passes true s h = absurd (let z : ◌≡◌ {A = ℕ} 0 1 = cc in omega arith)
 passes false s h = (refl, h)
@@ -92,7 +92,7 @@ is_free opened source destination h o =
     let k = none_of (eqb source 1) (when opened false h o) in
     (isnt k.0, isnt k.1)
 
-only_so : (cdb slots : List ℕ) (opened : Bool) (from to : ℕ) → move_medium cdb slots opened ≡ Moves from to → Movable cdb slots opened
+only_so : (cdb slots : List ℕ) (opened : Bool) (from to : ℕ) → move_medium cdb slots opened ≡ from_to from to → Movable cdb slots opened
 unfolding move_medium judge_move is_movable
 only_so cdb slots opened from to h =
     let first = passes (ltb (length cdb) 12) _ h in
@@ -113,7 +113,7 @@ only_so cdb slots opened from to h =
     }
 
 accepts : (cdb slots : List ℕ) (opened : Bool) → Movable cdb slots opened →
-    move_medium cdb slots opened ≡ Moves (place_of (half cdb 4)) (place_of (half cdb 6))
+    move_medium cdb slots opened ≡ from_to (place_of (half cdb 4)) (place_of (half cdb 6))
 unfolding move_medium judge_move is_movable is_held
 accepts cdb slots opened m =
     let named : is_movable (half cdb 2) (half cdb 4) (half cdb 6) ≡ true = sym (pick_if _ (eqb_yes m.by) (pick_if _ m.source (sym m.destination))) in
@@ -125,19 +125,27 @@ accepts cdb slots opened m =
     (pick_else _ (yes_not (full_yes (half cdb 4) _ slots refl m.full))
     (pick_else _ free refl)))))
 
+abbrev from_of : Result Places Sense → ℕ
+from_of (Ok p) = p.from
+from_of (Err s) = 0
+
+abbrev to_of : Result Places Sense → ℕ
+to_of (Ok p) = p.to
+to_of (Err s) = 0
+
 -- what an accepted move is: its places are those of its fields
 pub record Goes (cdb slots : List ℕ) (opened : Bool) (from to : ℕ) : Type 0 where
   pub moves : Movable cdb slots opened
   pub source : place_of (half cdb 4) ≡ from
   pub destination : place_of (half cdb 6) ≡ to
 
-pub goes : (cdb slots : List ℕ) (opened : Bool) (from to : ℕ) → move_medium cdb slots opened ≡ Moves from to → Goes cdb slots opened from to
+pub goes : (cdb slots : List ℕ) (opened : Bool) (from to : ℕ) → move_medium cdb slots opened ≡ from_to from to → Goes cdb slots opened from to
 goes cdb slots opened from to h =
     let m = only_so cdb slots opened from to h in
-    let e = accepts cdb slots opened m in
-    record { moves = m; source = cc; destination = cc }
+    let same : ◌≡◌ {A = Result Places Sense} (from_to (place_of (half cdb 4)) (place_of (half cdb 6))) (from_to from to) = sym (accepts cdb slots opened m) ∙ h in
+    record { moves = m; source = ap from_of same; destination = ap to_of same }
 
-after_is : (slots : List ℕ) (o : MoveDone) (from to : ℕ) → o ≡ Moves from to → slots_after slots o ≡ moved from to slots
+after_is : (slots : List ℕ) (o : Result Places Sense) (from to : ℕ) → o ≡ from_to from to → slots_after slots o ≡ moved from to slots
 unfolding slots_after
 after_is slots o from to h = ap (slots_after slots) h
 
@@ -154,7 +162,7 @@ module _ (cdb slots : List ℕ) (opened : Bool) (from to : ℕ) (g : Goes cdb sl
   pub destination_empty : get_or slots to 0 ≡ 0
   destination_empty = ap (λ (k : ℕ). get_or slots k 0) (sym g.destination) ∙ g.moves.empty
 
-pub moves_within : (cdb slots : List ℕ) (opened : Bool) (from to : ℕ) → move_medium cdb slots opened ≡ Moves from to → (from < 9) × (to < 9)
+pub moves_within : (cdb slots : List ℕ) (opened : Bool) (from to : ℕ) → move_medium cdb slots opened ≡ from_to from to → (from < 9) × (to < 9)
 moves_within cdb slots opened from to h =
     let g = goes cdb slots opened from to h in
     (source_within cdb slots opened from to g, destination_within cdb slots opened from to g)
@@ -181,19 +189,19 @@ module _ (cdb slots : List ℕ) (opened : Bool) (from to : ℕ) (n : length slot
     moved_from from to slots source_in destination_in full empty,
   )
 
-arrives : (cdb slots : List ℕ) (opened : Bool) (from to : ℕ) → length slots ≡ 9 → move_medium cdb slots opened ≡ Moves from to →
+arrives : (cdb slots : List ℕ) (opened : Bool) (from to : ℕ) → length slots ≡ 9 → move_medium cdb slots opened ≡ from_to from to →
     (get_or (slots_after slots (move_medium cdb slots opened)) to 0 ≡ get_or slots from 0)
     × (get_or (slots_after slots (move_medium cdb slots opened)) from 0 ≡ 0)
 arrives cdb slots opened from to n h =
     rw (after_is slots (move_medium cdb slots opened) from to h)
     (goes_there cdb slots opened from to n (goes cdb slots opened from to h))
 
-others : (cdb slots : List ℕ) (opened : Bool) (from to i : ℕ) → move_medium cdb slots opened ≡ Moves from to →
+others : (cdb slots : List ℕ) (opened : Bool) (from to i : ℕ) → move_medium cdb slots opened ≡ from_to from to →
     (i ≡ from → ⊥) → (i ≡ to → ⊥) →
     get_or (slots_after slots (move_medium cdb slots opened)) i 0 ≡ get_or slots i 0
 others cdb slots opened from to i h p q = rw (after_is slots (move_medium cdb slots opened) from to h) (moved_other from to i slots p q)
 
-not_itself : (cdb slots : List ℕ) (opened : Bool) (from to : ℕ) → move_medium cdb slots opened ≡ Moves from to → half cdb 4 ≡ half cdb 6 → ⊥
+not_itself : (cdb slots : List ℕ) (opened : Bool) (from to : ℕ) → move_medium cdb slots opened ≡ from_to from to → half cdb 4 ≡ half cdb 6 → ⊥
 not_itself cdb slots opened from to h e =
     let m = only_so cdb slots opened from to h in
     m.full (ap (λ (f : ℕ). get_or slots (place_of f) 0) e ∙ m.empty)
@@ -229,8 +237,8 @@ moves_hold =
     }
 
 -- what holds of the list as it was and of every accepted move holds of the list afterwards
-pub by_outcome : (P : List ℕ → Type 0) (slots : List ℕ) (o : MoveDone) → P slots →
-    ((from to : ℕ) → o ≡ Moves from to → P (moved from to slots)) → P (slots_after slots o)
+pub by_outcome : (P : List ℕ → Type 0) (slots : List ℕ) (o : Result Places Sense) → P slots →
+    ((from to : ℕ) → o ≡ from_to from to → P (moved from to slots)) → P (slots_after slots o)
 unfolding slots_after
-by_outcome P slots (Refused s) p f = p
-by_outcome P slots (Moves from to) p f = f from to refl
+by_outcome P slots (Err s) p f = p
+by_outcome P slots (Ok q) p f = f q.from q.to refl

@@ -7,12 +7,12 @@ use native.Mathlib.Omega.{arith}
 use lib.Dec.{eqb}
 use lib.ListN.{length, get_or, length-take}
 use lib.Seq.{take_all}
+use Rattle.std.specs.Prelude.{Ok}
 use Rattle.xdr.specs.Choose.{choose, least}
 use Rattle.xdr.proofs.Tests.{pick_if, pick_else, ltb_no}
 use Rattle.xdr_opaque.specs.Put.{Each}
 use Rattle.changer_elements.specs.Elements.{has_place, place_of, is_full, half}
 use Rattle.changer_elements.specs.declared.Asked.{Asked}
-use Rattle.changer_elements.specs.declared.StatusDone.TheVariants.{Reports}
 use Rattle.changer_elements.specs.Status.{elements, type_of, allocation, asked_by, read_status, is_asked, those, reported, be16, be24, flags_of, descriptor}
 use Rattle.changer_elements.specs.Status.{descriptors, of_type, page_of, pages, first_of, status_of, status_data}
 use Rattle.changer_elements.specs.StatusHolds.{RisingFrom, WhichHold, BytesHold, StatusHolds}
@@ -167,7 +167,7 @@ same_half : (x y : List ℕ) (at : ℕ) → get_or x at 0 ≡ get_or y at 0 → 
 unfolding half
 same_half x y at h k = cc
 
-long_asks : (cdb : List ℕ) (room : ℕ) → 12 ≤ length cdb → read_status cdb room ≡ Reports (asked_by cdb room)
+long_asks : (cdb : List ℕ) (room : ℕ) → 12 ≤ length cdb → read_status cdb room ≡ Ok (asked_by cdb room)
 unfolding read_status
 long_asks cdb room h = sym (pick_else _ (ltb_no h) refl)
 

@@ -1,11 +1,10 @@
 -- MOVE MEDIUM (A5h; 02 No. 7), judged by its CDB, the slot list and whether the tape is open: SMC's layout, the transport's
 -- address in bytes 2 and 3, the source's in 4 and 5, the destination's in 6 and 7. Nothing else of the CDB is looked at:
 -- "ignore flag and reserved bits".
-use Rattle.std.specs.Prelude.{ℕ, Bool, true, false, not, List, eqb, ltb, length}
+use Rattle.std.specs.Prelude.{ℕ, Bool, true, false, not, List, eqb, ltb, length, Result, Ok, Err}
 use Rattle.xdr.specs.Choose.{choose}
 use Rattle.changer_elements.specs.declared.Sense.{Sense}
-use Rattle.changer_elements.specs.declared.MoveDone.{MoveDone}
-use Rattle.changer_elements.specs.declared.MoveDone.TheVariants.{Refused, Moves}
+use Rattle.changer_elements.specs.declared.Places.{Places}
 use Rattle.changer_elements.specs.Elements.{transport, drive, has_place, place_of, is_full, half, cdb_bytes}
 use Rattle.changer_elements.specs.Slots.{moved}
 
@@ -52,21 +51,25 @@ is_movable t source destination = choose (eqb t transport) (choose (has_place so
 unfoldable pub is_held : Bool → ℕ → ℕ → Bool
 is_held opened source destination = choose opened (choose (eqb source drive) true (eqb destination drive)) false
 
--- "in that order": a refusal with its sense, or the places that the cartridge goes from and to
-unfoldable pub judge_move : ℕ → ℕ → ℕ → List ℕ → Bool → MoveDone
-judge_move t source destination slots opened =
-    choose (not (is_movable t source destination)) (Refused wrong_element)
-    (choose (is_full slots destination) (Refused destination_full)
-    (choose (not (is_full slots source)) (Refused source_empty)
-    (choose (is_held opened source destination) (Refused drive_held)
-    (Moves (place_of source) (place_of destination)))))
+-- what an accepted move comes to: the places that the cartridge goes from and to
+abbrev pub from_to : ℕ → ℕ → Result Places Sense
+from_to from to = Ok (record { from = from; to = to })
 
-unfoldable pub move_medium : List ℕ → List ℕ → Bool → MoveDone
+-- "in that order": a refusal with its sense, or the places that the cartridge goes from and to
+unfoldable pub judge_move : ℕ → ℕ → ℕ → List ℕ → Bool → Result Places Sense
+judge_move t source destination slots opened =
+    choose (not (is_movable t source destination)) (Err wrong_element)
+    (choose (is_full slots destination) (Err destination_full)
+    (choose (not (is_full slots source)) (Err source_empty)
+    (choose (is_held opened source destination) (Err drive_held)
+    (from_to (place_of source) (place_of destination)))))
+
+unfoldable pub move_medium : List ℕ → List ℕ → Bool → Result Places Sense
 move_medium cdb slots opened =
-    choose (ltb (length cdb) cdb_bytes) (Refused short_cdb)
+    choose (ltb (length cdb) cdb_bytes) (Err short_cdb)
     (judge_move (transport_field cdb) (source_field cdb) (destination_field cdb) slots opened)
 
 -- the slot list afterwards: one that is refused leaves it
-unfoldable pub slots_after : List ℕ → MoveDone → List ℕ
-slots_after slots (Refused sense) = slots
-slots_after slots (Moves from to) = moved from to slots
+unfoldable pub slots_after : List ℕ → Result Places Sense → List ℕ
+slots_after slots (Err sense) = slots
+slots_after slots (Ok p) = moved p.from p.to slots

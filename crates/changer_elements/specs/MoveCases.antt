@@ -1,9 +1,9 @@
 -- Moves with their bytes written out, and what each comes to. They keep the definitions to 02 No. 7's words and order.
-use Rattle.std.specs.Prelude.{ℕ, true, false, List, [], ◌∷◌, ◌++◌, ◌≡◌, replicate, take}
-use Rattle.changer_elements.specs.declared.MoveDone.{MoveDone}
-use Rattle.changer_elements.specs.declared.MoveDone.TheVariants.{Refused, Moves}
+use Rattle.std.specs.Prelude.{Result, Err, ℕ, true, false, List, [], ◌∷◌, ◌++◌, ◌≡◌, replicate, take}
+use Rattle.changer_elements.specs.declared.Sense.{Sense}
+use Rattle.changer_elements.specs.declared.Places.{Places}
 use Rattle.changer_elements.specs.Slots.{names_none_twice}
-use Rattle.changer_elements.specs.Move.{move_medium, slots_after}
+use Rattle.changer_elements.specs.Move.{from_to, move_medium, slots_after}
 
 -- a CDB of twelve bytes whose addresses are below 256
 abbrev pub move_cdb : ℕ → ℕ → ℕ → List ℕ
@@ -18,21 +18,21 @@ abbrev pub bare : List ℕ
 bare = 0 ∷ 8 ∷ 0 ∷ 0 ∷ 0 ∷ 0 ∷ 0 ∷ 0 ∷ 9 ∷ []
 
 -- status 2 with the sense key 05h, a code and its qualifier
-abbrev pub refused_by : ℕ → ℕ → MoveDone
-refused_by code qualifier = Refused (record { key = 5; code = code; qualifier = qualifier })
+abbrev pub refused_by : ℕ → ℕ → Result Places Sense
+refused_by code qualifier = Err (record { key = 5; code = code; qualifier = qualifier })
 
 pub record AcceptedCases : Type 0 where
-  pub slot_to_slot : move_medium (move_cdb 0 16 17) shelf false ≡ Moves 1 2
-  pub last_slot : move_medium (move_cdb 0 23 22) shelf false ≡ Moves 8 7
-  pub from_drive : move_medium (move_cdb 0 1 20) shelf false ≡ Moves 0 5
-  pub to_drive : move_medium (move_cdb 0 23 1) bare false ≡ Moves 8 0
+  pub slot_to_slot : move_medium (move_cdb 0 16 17) shelf false ≡ from_to 1 2
+  pub last_slot : move_medium (move_cdb 0 23 22) shelf false ≡ from_to 8 7
+  pub from_drive : move_medium (move_cdb 0 1 20) shelf false ≡ from_to 0 5
+  pub to_drive : move_medium (move_cdb 0 23 1) bare false ≡ from_to 8 0
   -- "a move from or to the drive while the tape is open": between slots it may be
-  pub slots_while_open : move_medium (move_cdb 0 16 22) shelf true ≡ Moves 1 7
+  pub slots_while_open : move_medium (move_cdb 0 16 22) shelf true ≡ from_to 1 7
   -- a CDB of 13 to 16 bytes
-  pub thirteen : move_medium (move_cdb 0 16 17 ++ (255 ∷ [])) shelf false ≡ Moves 1 2
-  pub sixteen : move_medium (move_cdb 0 16 17 ++ (255 ∷ 255 ∷ 255 ∷ 255 ∷ [])) shelf false ≡ Moves 1 2
+  pub thirteen : move_medium (move_cdb 0 16 17 ++ (255 ∷ [])) shelf false ≡ from_to 1 2
+  pub sixteen : move_medium (move_cdb 0 16 17 ++ (255 ∷ 255 ∷ 255 ∷ 255 ∷ [])) shelf false ≡ from_to 1 2
   -- "ignore flag and reserved bits": the logical unit, the invert bit, the control byte, and all others
-  pub flags : move_medium (0xA5 ∷ 255 ∷ 0 ∷ 0 ∷ 0 ∷ 16 ∷ 0 ∷ 17 ∷ 255 ∷ 255 ∷ 255 ∷ 255 ∷ []) shelf false ≡ Moves 1 2
+  pub flags : move_medium (0xA5 ∷ 255 ∷ 0 ∷ 0 ∷ 0 ∷ 16 ∷ 0 ∷ 17 ∷ 255 ∷ 255 ∷ 255 ∷ 255 ∷ []) shelf false ≡ from_to 1 2
   -- the list afterwards
   pub loads : slots_after bare (move_medium (move_cdb 0 16 1) bare false) ≡ 8 ∷ 0 ∷ 0 ∷ 0 ∷ 0 ∷ 0 ∷ 0 ∷ 0 ∷ 9 ∷ []
   pub unloads : slots_after shelf (move_medium (move_cdb 0 1 22) shelf false) ≡ 0 ∷ 8 ∷ 0 ∷ 0 ∷ 0 ∷ 0 ∷ 0 ∷ 7 ∷ 9 ∷ []

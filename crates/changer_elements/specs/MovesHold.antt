@@ -1,10 +1,9 @@
 -- What holds of the slot list and of every move (02 No. 7): "from one that names none twice .., passed on from call to call, each
 -- cartridge is in exactly one slot or in the drive".
-use Rattle.std.specs.Prelude.{ℕ, ◌+◌, ◌≤◌, ◌<◌, Bool, true, false, List, [], ◌∷◌, ◌≡◌, length, get_or}
-use Rattle.changer_elements.specs.declared.MoveDone.TheVariants.{Refused, Moves}
+use Rattle.std.specs.Prelude.{Err, ℕ, ◌+◌, ◌≤◌, ◌<◌, Bool, true, false, List, [], ◌∷◌, ◌≡◌, length, get_or}
 use Rattle.changer_elements.specs.Elements.{transport, drive, first_slot, last_slot, places, has_place, place_of, cdb_bytes}
 use Rattle.changer_elements.specs.Slots.{names_none_twice, in_drive, times}
-use Rattle.changer_elements.specs.Move.{transport_field, source_field, destination_field, move_medium, slots_after}
+use Rattle.changer_elements.specs.Move.{from_to, transport_field, source_field, destination_field, move_medium, slots_after}
 
 -- a cartridge is in one place, and in no other
 pub record InOnePlace (v : ℕ) (slots : List ℕ) : Type 0 where
@@ -56,19 +55,19 @@ after_moves slots (m ∷ ms) = after_moves (after_move slots m) ms
 pub record MovesHold : Type 0 where
   -- it is accepted where the paper says so, and nowhere else; the cartridge goes from the source's place to the destination's
   pub accepts : (cdb slots : List ℕ) (opened : Bool) → Movable cdb slots opened →
-      move_medium cdb slots opened ≡ Moves (place_of (source_field cdb)) (place_of (destination_field cdb))
-  pub only_so : (cdb slots : List ℕ) (opened : Bool) (from to : ℕ) → move_medium cdb slots opened ≡ Moves from to → Movable cdb slots opened
-  pub within : (cdb slots : List ℕ) (opened : Bool) (from to : ℕ) → move_medium cdb slots opened ≡ Moves from to →
+      move_medium cdb slots opened ≡ from_to (place_of (source_field cdb)) (place_of (destination_field cdb))
+  pub only_so : (cdb slots : List ℕ) (opened : Bool) (from to : ℕ) → move_medium cdb slots opened ≡ from_to from to → Movable cdb slots opened
+  pub within : (cdb slots : List ℕ) (opened : Bool) (from to : ℕ) → move_medium cdb slots opened ≡ from_to from to →
       (from < places) × (to < places)
   -- the destination then has the cartridge, the source is empty, and every other place is as it was
-  pub arrives : (cdb slots : List ℕ) (opened : Bool) (from to : ℕ) → length slots ≡ places → move_medium cdb slots opened ≡ Moves from to →
+  pub arrives : (cdb slots : List ℕ) (opened : Bool) (from to : ℕ) → length slots ≡ places → move_medium cdb slots opened ≡ from_to from to →
       (get_or (slots_after slots (move_medium cdb slots opened)) to 0 ≡ get_or slots from 0)
       × (get_or (slots_after slots (move_medium cdb slots opened)) from 0 ≡ 0)
-  pub others : (cdb slots : List ℕ) (opened : Bool) (from to i : ℕ) → move_medium cdb slots opened ≡ Moves from to →
+  pub others : (cdb slots : List ℕ) (opened : Bool) (from to i : ℕ) → move_medium cdb slots opened ≡ from_to from to →
       (i ≡ from → ⊥) → (i ≡ to → ⊥) →
       get_or (slots_after slots (move_medium cdb slots opened)) i 0 ≡ get_or slots i 0
   -- never from an element to itself
-  pub not_itself : (cdb slots : List ℕ) (opened : Bool) (from to : ℕ) → move_medium cdb slots opened ≡ Moves from to →
+  pub not_itself : (cdb slots : List ℕ) (opened : Bool) (from to : ℕ) → move_medium cdb slots opened ≡ from_to from to →
       source_field cdb ≡ destination_field cdb → ⊥
   -- "ignore flag and reserved bits": bytes 2 to 7 and no others are looked at
   pub by_fields : (a b slots : List ℕ) (opened : Bool) → cdb_bytes ≤ length a → cdb_bytes ≤ length b →
@@ -84,7 +83,7 @@ pub record Named (cdb : List ℕ) : Type 0 where
 -- a move that is refused, with its sense's key, code and qualifier
 abbrev pub RefusedWith : ℕ → ℕ → ℕ → List ℕ → List ℕ → Bool → Type 0
 RefusedWith key code qualifier cdb slots opened =
-    move_medium cdb slots opened ≡ Refused (record { key = key; code = code; qualifier = qualifier })
+    move_medium cdb slots opened ≡ Err (record { key = key; code = code; qualifier = qualifier })
 
 -- which sense a refused move gets, "in that order": each whatever else is at fault behind it. The senses are numbers
 -- here, so that the names of `Move` are held to the paper too

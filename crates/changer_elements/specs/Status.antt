@@ -1,13 +1,12 @@
 -- READ ELEMENT STATUS (B8h; 02 No. 7), "with the SCSI media changer layouts (12-byte descriptors by rising address from any
 -- start, no volume tags or source, access bits 1 but at the transport; cut to allocation and data-in length; unknown types have
 -- no elements)": which elements a CDB asks for, and the bytes that tell of them.
-use Rattle.std.specs.Prelude.{ℕ, ◌+◌, ◌*◌, ◌/◌, ◌%◌, Bool, true, false, List, [], ◌∷◌, ◌++◌, eqb, leb, ltb, length, take, get_or, replicate}
+use Rattle.std.specs.Prelude.{Result, Ok, Err, ℕ, ◌+◌, ◌*◌, ◌/◌, ◌%◌, Bool, true, false, List, [], ◌∷◌, ◌++◌, eqb, leb, ltb, length, take, get_or, replicate}
 use Rattle.xdr.specs.Choose.{choose, least}
 use Rattle.changer_elements.specs.Elements.{transport, drive, has_place, is_full, half, cdb_bytes}
 use Rattle.changer_elements.specs.Move.{short_cdb}
+use Rattle.changer_elements.specs.declared.Sense.{Sense}
 use Rattle.changer_elements.specs.declared.Asked.{Asked}
-use Rattle.changer_elements.specs.declared.StatusDone.{StatusDone}
-use Rattle.changer_elements.specs.declared.StatusDone.TheVariants.{Refused, Reports}
 
 -- ---- which elements
 -- the elements by rising address
@@ -39,8 +38,8 @@ unfoldable pub asked_by : List ℕ → ℕ → Asked
 asked_by cdb room = record { kind = get_or cdb 1 0 % 16; start = half cdb 2; number = half cdb 4; cut = least (allocation cdb) room }
 
 -- "05h/24h/00h for a CDB under 12 bytes"; else what is asked, with room for so many bytes of data in
-unfoldable pub read_status : List ℕ → ℕ → StatusDone
-read_status cdb room = choose (ltb (length cdb) cdb_bytes) (Refused short_cdb) (Reports (asked_by cdb room))
+unfoldable pub read_status : List ℕ → ℕ → Result Asked Sense
+read_status cdb room = choose (ltb (length cdb) cdb_bytes) (Err short_cdb) (Ok (asked_by cdb room))
 
 -- "from any start"; "unknown types have no elements"
 unfoldable pub is_asked : Asked → ℕ → Bool

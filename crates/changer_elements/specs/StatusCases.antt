@@ -1,8 +1,7 @@
 -- READ ELEMENT STATUS with its bytes written out: what CDBs ask for, and what is told. They keep the definitions to SMC's layouts
 -- and to 02 No. 7's words.
-use Rattle.std.specs.Prelude.{ℕ, List, [], ◌∷◌, ◌++◌, ◌≡◌, take, length}
+use Rattle.std.specs.Prelude.{Ok, Err, ℕ, List, [], ◌∷◌, ◌++◌, ◌≡◌, take, length}
 use Rattle.changer_elements.specs.declared.Asked.{Asked}
-use Rattle.changer_elements.specs.declared.StatusDone.TheVariants.{Refused, Reports}
 use Rattle.changer_elements.specs.Status.{read_status, reported, status_data}
 
 -- ---- CDBs
@@ -14,19 +13,19 @@ abbrev pub asking : ℕ → ℕ → ℕ → ℕ → Asked
 asking kind start number cut = record { kind = kind; start = start; number = number; cut = cut }
 
 pub record CdbCases : Type 0 where
-  pub one_byte : read_status (0xB8 ∷ []) 512 ≡ Refused (record { key = 5; code = 0x24; qualifier = 0 })
-  pub eleven : read_status (take 11 (status_cdb 0 0 10)) 512 ≡ Refused (record { key = 5; code = 0x24; qualifier = 0 })
-  pub twelve : read_status (status_cdb 2 16 8) 512 ≡ Reports (asking 2 16 8 256)
-  pub sixteen : read_status (status_cdb 4 1 1 ++ (255 ∷ 255 ∷ 255 ∷ 255 ∷ [])) 512 ≡ Reports (asking 4 1 1 256)
+  pub one_byte : read_status (0xB8 ∷ []) 512 ≡ Err (record { key = 5; code = 0x24; qualifier = 0 })
+  pub eleven : read_status (take 11 (status_cdb 0 0 10)) 512 ≡ Err (record { key = 5; code = 0x24; qualifier = 0 })
+  pub twelve : read_status (status_cdb 2 16 8) 512 ≡ Ok (asking 2 16 8 256)
+  pub sixteen : read_status (status_cdb 4 1 1 ++ (255 ∷ 255 ∷ 255 ∷ 255 ∷ [])) 512 ≡ Ok (asking 4 1 1 256)
   -- two bytes, and three
-  pub wide : read_status (0xB8 ∷ 0 ∷ 1 ∷ 2 ∷ 3 ∷ 4 ∷ 0 ∷ 5 ∷ 6 ∷ 7 ∷ 0 ∷ 0 ∷ []) 4294967295 ≡ Reports (asking 0 258 772 329223)
-  pub largest : read_status (0xB8 ∷ 0 ∷ 255 ∷ 255 ∷ 255 ∷ 255 ∷ 0 ∷ 255 ∷ 255 ∷ 255 ∷ 0 ∷ 0 ∷ []) 4294967295 ≡ Reports (asking 0 65535 65535 16777215)
+  pub wide : read_status (0xB8 ∷ 0 ∷ 1 ∷ 2 ∷ 3 ∷ 4 ∷ 0 ∷ 5 ∷ 6 ∷ 7 ∷ 0 ∷ 0 ∷ []) 4294967295 ≡ Ok (asking 0 258 772 329223)
+  pub largest : read_status (0xB8 ∷ 0 ∷ 255 ∷ 255 ∷ 255 ∷ 255 ∷ 0 ∷ 255 ∷ 255 ∷ 255 ∷ 0 ∷ 0 ∷ []) 4294967295 ≡ Ok (asking 0 65535 65535 16777215)
   -- "ignore flag and reserved bits": LUN and VolTag, CURDATA and DVCID, byte 10 and control
-  pub flags : read_status (0xB8 ∷ 0xF2 ∷ 0 ∷ 16 ∷ 0 ∷ 8 ∷ 255 ∷ 0 ∷ 1 ∷ 0 ∷ 255 ∷ 255 ∷ []) 512 ≡ Reports (asking 2 16 8 256)
+  pub flags : read_status (0xB8 ∷ 0xF2 ∷ 0 ∷ 16 ∷ 0 ∷ 8 ∷ 255 ∷ 0 ∷ 1 ∷ 0 ∷ 255 ∷ 255 ∷ []) 512 ≡ Ok (asking 2 16 8 256)
   -- "cut to allocation and data-in length": the lesser
-  pub by_room : read_status (status_cdb 0 0 10) 100 ≡ Reports (asking 0 0 10 100)
-  pub no_room : read_status (status_cdb 0 0 10) 0 ≡ Reports (asking 0 0 10 0)
-  pub no_allocation : read_status (0xB8 ∷ 0 ∷ 0 ∷ 0 ∷ 0 ∷ 10 ∷ 0 ∷ 0 ∷ 0 ∷ 0 ∷ 0 ∷ 0 ∷ []) 512 ≡ Reports (asking 0 0 10 0)
+  pub by_room : read_status (status_cdb 0 0 10) 100 ≡ Ok (asking 0 0 10 100)
+  pub no_room : read_status (status_cdb 0 0 10) 0 ≡ Ok (asking 0 0 10 0)
+  pub no_allocation : read_status (0xB8 ∷ 0 ∷ 0 ∷ 0 ∷ 0 ∷ 10 ∷ 0 ∷ 0 ∷ 0 ∷ 0 ∷ 0 ∷ 0 ∷ []) 512 ≡ Ok (asking 0 0 10 0)
 
 -- ---- which elements
 abbrev pub slots8 : List ℕ

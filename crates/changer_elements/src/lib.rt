@@ -32,35 +32,49 @@ pub const DESCRIPTOR_BYTES: u32 = 12;
 
 // What a refused CDB leaves pending: the sense key, its code and the code's qualifier.
 #[repr(C)]
-#[derive(Clone, Copy)]
+#[derive(Clone, Copy, Debug, PartialEq, Eq)]
 pub struct Sense {
     pub key: u8,
     pub code: u8,
     pub qualifier: u8,
 }
 
-// What MOVE MEDIUM comes to: a refusal, or the places that the cartridge goes from and to, for `moved`.
-#[derive(Clone, Copy)]
-pub enum MoveDone {
-    Refused(Sense),
-    Moves(usize, usize),
+impl Sense {
+    // A CDB under 12 bytes.
+    pub const SHORT_CDB: Sense = Sense { key: 5, code: 0x24, qualifier: 0 };
+
+    // An opcode that the changer does not know.
+    pub const UNKNOWN_OPCODE: Sense = Sense { key: 5, code: 0x20, qualifier: 0 };
+
+    // An unknown element, the transport, or a transport's field other than 0.
+    pub const WRONG_ELEMENT: Sense = Sense { key: 5, code: 0x21, qualifier: 0x01 };
+
+    pub const DESTINATION_FULL: Sense = Sense { key: 5, code: 0x3B, qualifier: 0x0D };
+
+    pub const SOURCE_EMPTY: Sense = Sense { key: 5, code: 0x3B, qualifier: 0x0E };
+
+    // A move from or to the drive while the tape is open.
+    pub const DRIVE_HELD: Sense = Sense { key: 5, code: 0x53, qualifier: 0x02 };
+
+    // Nothing is pending.
+    pub const NONE: Sense = Sense { key: 0, code: 0, qualifier: 0 };
+}
+
+// The places that a move takes the cartridge from and to, for `moved`.
+#[derive(Clone, Copy, Debug, PartialEq, Eq)]
+pub struct Places {
+    pub from: usize,
+    pub to: usize,
 }
 
 // What a CDB asks for: the type code, the least address, the number of elements, and how many bytes are handed over at the
 // most.
-#[derive(Clone, Copy)]
+#[derive(Clone, Copy, Debug, PartialEq, Eq)]
 pub struct Asked {
     pub kind: u32,
     pub start: u32,
     pub number: u32,
     pub cut: u32,
-}
-
-// What READ ELEMENT STATUS comes to: a refusal, or what is asked for.
-#[derive(Clone, Copy)]
-pub enum StatusDone {
-    Refused(Sense),
-    Reports(Asked),
 }
 
 // No work: its contract is what moves with their bytes written out come to, and which lists name none twice, computed.

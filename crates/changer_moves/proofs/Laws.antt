@@ -1,57 +1,49 @@
--- Loops over the places, which count down from the place where they stand. Assumes nothing.
-use Prim.Native.Nat.{ℕ, suc, ◌+◌, ◌-◌, ◌≤◌, ◌<◌}
-use mathlib.Core.Bool.{Bool, true, false, not}
-use mathlib.Core.List.{List}
-use mathlib.Core.Path.{◌≡◌, sym, ◌∙◌}
-use native.Mathlib.Omega.{arith}
-use lib.ListN.{get_or}
+-- The loop over the places, and the search behind one of them. Assumes nothing.
+use Rattle.std.proofs.Common.{◌≡◌, ℕ, zero, suc, ◌+◌, ◌-◌, ◌≤◌, ◌<◌, Bool, true, false, not, ◌||◌, eqb, List, ◌∷◌, length, get_or, take, drop, drop-cons, add-one, refl, sym, ◌∙◌, arith}
+use Rattle.std.specs.List.{list_any}
 use Rattle.xdr.specs.Choose.{choose}
 use Rattle.xdr.proofs.Tests.{eqb_yes, eqb_no}
 use Rattle.changer_elements.specs.Slots.{named, is_again, some_again, names_none_twice}
 
-pub named_here : (n i v : ℕ) (l : List ℕ) → i < n → get_or l i 0 ≡ v → true ≡ named (n - i) i l v
-unfolding named choose
-named_here n i v l h e =
-    let k : n - i ≡ suc (n - (i + 1)) = omega arith in
-    rw (k, eqb_yes e)
+or_choose : (b : Bool) {x y : Bool} → x ≡ y → (b || x) ≡ choose b true y
+unfolding choose
+or_choose true h = refl
+or_choose false h = h
 
-pub named_next : (n i v : ℕ) (l : List ℕ) → i < n → (get_or l i 0 ≡ v → ⊥) → named (n - i) i l v ≡ named (n - (i + 1)) (i + 1) l v
-unfolding named choose
-named_next n i v l h e =
-    let k : n - i ≡ suc (n - (i + 1)) = omega arith in
-    rw (k, eqb_no e)
-
-pub named_end : (n i v : ℕ) (l : List ℕ) → n ≤ i → false ≡ named (n - i) i l v
+-- a number is named in a stretch of places where the stretch has it
+named_any : (k i v : ℕ) (l : List ℕ) → i + k ≤ length l → list_any (λ y. eqb y v) (take k (drop i l)) ≡ named k i l v
 unfolding named
-named_end n i v l h =
-    let k : n - i ≡ 0 = omega arith in
-    rw k
+named_any zero i v l h = refl
+named_any (suc k) i v l h =
+    let d : drop i l ≡ get_or l i 0 ∷ drop (i + 1) l = drop-cons l i 0 (omega arith) ∙ rw add-one in
+    rw d (or_choose (eqb (get_or l i 0) v) (named_any k (i + 1) v l (omega arith)))
 
-pub again_none : (k i : ℕ) (l : List ℕ) → get_or l i 0 ≡ 0 → false ≡ is_again k i l
-unfolding is_again choose
-again_none k i l e = rw (eqb_yes e)
-
-pub again_some : (k i : ℕ) (l : List ℕ) (r : Bool) → (get_or l i 0 ≡ 0 → ⊥) → r ≡ named k (i + 1) l (get_or l i 0) → r ≡ is_again k i l
-unfolding is_again choose
-again_some k i l r e f = rw (eqb_no e) f
-
--- a loop that has found none named again in the first i of nine places
-module _ (i : ℕ) (l : List ℕ) (inv : names_none_twice l ≡ not (some_again (9 - i) i l)) where
-  pub twice_here : i < 9 → is_again (8 - i) i l ≡ true → false ≡ names_none_twice l
-  unfolding some_again choose
-  twice_here h e =
-      let k : 9 - i ≡ suc (8 - i) = omega arith in
-      sym (inv ∙ rw (k, e))
-
-  pub twice_next : i < 9 → is_again (8 - i) i l ≡ false → names_none_twice l ≡ not (some_again (9 - (i + 1)) (i + 1) l)
-  unfolding some_again choose
-  twice_next h e =
+-- a loop that has found none named again in the first i of nine places, and the place where it stands
+module _ (i : ℕ) (l : List ℕ) (inv : names_none_twice l ≡ not (some_again (9 - i) i l)) (here : i < 9) where
+  some_next : (b : Bool) → is_again (8 - i) i l ≡ b → names_none_twice l ≡ not (choose b true (some_again (9 - (i + 1)) (i + 1) l))
+  unfolding some_again
+  some_next b e =
       let k : 9 - i ≡ suc (8 - i) = omega arith in
       let m : 9 - (i + 1) ≡ 8 - i = omega arith in
-      inv ∙ rw (k, e, m)
+      inv ∙ rw (k, m, e)
 
-  pub twice_end : 9 ≤ i → true ≡ names_none_twice l
-  unfolding some_again
-  twice_end h =
-      let k : 9 - i ≡ 0 = omega arith in
-      sym (inv ∙ rw k)
+  pub empty_next : get_or l i 0 ≡ 0 → names_none_twice l ≡ not (some_again (9 - (i + 1)) (i + 1) l)
+  unfolding is_again choose
+  empty_next h = some_next false (rw (eqb_yes h))
+
+  module _ (n : length l ≡ 9) (some : get_or l i 0 ≡ 0 → ⊥) (b : Bool)
+    (r : b ≡ list_any (λ y. eqb y (get_or l i 0)) (take (9 - (i + 1)) (drop (i + 1) l))) where
+    again : is_again (8 - i) i l ≡ b
+    unfolding is_again choose
+    again =
+        let m : 9 - (i + 1) ≡ 8 - i = omega arith in
+        let w : i + 1 + (8 - i) ≤ length l = omega arith in
+        rw (eqb_no some) (sym (rw m at r ∙ named_any (8 - i) (i + 1) (get_or l i 0) l w))
+
+    pub twice_here : b ≡ true → false ≡ names_none_twice l
+    unfolding choose
+    twice_here e = sym (some_next true (again ∙ e))
+
+    pub once_next : b ≡ false → names_none_twice l ≡ not (some_again (9 - (i + 1)) (i + 1) l)
+    unfolding choose
+    once_next e = some_next false (again ∙ e)

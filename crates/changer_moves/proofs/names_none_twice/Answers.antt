@@ -1,19 +1,31 @@
-use Rattle.changer_moves.proofs.Laws.{twice_here, twice_next, twice_end}
-use Rattle.changer_elements.specs.Slots.{names_none_twice}
-use borrow.Author.Rules.{rules}
-use mathlib.Core.Path.{refl, sym, ◌∙◌}
-use Prim.Native.Nat.{◌-◌}
+use Rattle.std.proofs.Common.{◌≡◌, ◌-◌, refl, sym, ◌∙◌, rules, arith}
+use Rattle.changer_elements.specs.Slots.{names_none_twice, some_again}
+use Rattle.changer_moves.proofs.Laws.{empty_next, twice_here, once_next}
 use Rattle.changer_moves.proofs.names_none_twice.Goals as goal
+use Rattle.changer_moves.proofs.names_none_twice.Goals.{else-cartridge-ne0-via-then-cartridge-ne0+else-contains, else-cartridge-ne0-via-else-cartridge-ne0}
 
-pub loop-i-init : goal.loop-i-init
+pub loop-place-init : goal.loop-place-init
 unfolding names_none_twice
-loop-i-init c = (search rules, refl)
+loop-place-init c = (omega arith, refl)
 
-pub returns-then-is_again : goal.returns-then-is_again
-returns-then-is_again c = twice_here _ _ c.loop-i.invariant.1 c.loop-i-test.true (sym c.is_again.ensures ∙ c.if-is_again.true)
+pub returns-then-contains : goal.returns-then-contains
+returns-then-contains c =
+    twice_here _ _ c.loop-place.invariant.1 c.loop-place-test.true (search rules) c.if-cartridge-ne0.true _ c.contains.ensures.value c.if-contains.true
 
-pub loop-i-preserved : goal.loop-i-preserved
-loop-i-preserved c = (search rules, twice_next _ _ c.loop-i.invariant.1 c.loop-i-test.true (sym c.is_again.ensures ∙ c.if-is_again.false))
+pub loop-place-preserved : goal.loop-place-preserved
+loop-place-preserved c =
+    (
+      omega arith,
+      elim c.else-cartridge-ne0.branch [
+        else-cartridge-ne0-via-then-cartridge-ne0+else-contains w ↦
+          once_next _ _ c.loop-place.invariant.1 c.loop-place-test.true (search rules) w.if-cartridge-ne0.true _ w.contains.ensures.value w.if-contains.false
+        | else-cartridge-ne0-via-else-cartridge-ne0 w ↦
+          empty_next _ _ c.loop-place.invariant.1 c.loop-place-test.true w.if-cartridge-ne0.false
+      ],
+    )
 
 pub returns : goal.returns
-returns c = twice_end _ _ c.loop-i.invariant.1 c.loop-i-test.false
+unfolding some_again
+returns c =
+    let none : 9 - c.loop-place.place ≡ 0 = omega arith in
+    sym (c.loop-place.invariant.1 ∙ rw none)
