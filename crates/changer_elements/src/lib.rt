@@ -41,23 +41,51 @@ pub struct Sense {
 
 impl Sense {
     // A CDB under 12 bytes.
-    pub const SHORT_CDB: Sense = Sense { key: 5, code: 0x24, qualifier: 0 };
+    pub const SHORT_CDB: Sense = Sense {
+        key: 5,
+        code: 0x24,
+        qualifier: 0,
+    };
 
     // An opcode that the changer does not know.
-    pub const UNKNOWN_OPCODE: Sense = Sense { key: 5, code: 0x20, qualifier: 0 };
+    pub const UNKNOWN_OPCODE: Sense = Sense {
+        key: 5,
+        code: 0x20,
+        qualifier: 0,
+    };
 
     // An unknown element, the transport, or a transport's field other than 0.
-    pub const WRONG_ELEMENT: Sense = Sense { key: 5, code: 0x21, qualifier: 0x01 };
+    pub const WRONG_ELEMENT: Sense = Sense {
+        key: 5,
+        code: 0x21,
+        qualifier: 0x01,
+    };
 
-    pub const DESTINATION_FULL: Sense = Sense { key: 5, code: 0x3B, qualifier: 0x0D };
+    pub const DESTINATION_FULL: Sense = Sense {
+        key: 5,
+        code: 0x3B,
+        qualifier: 0x0D,
+    };
 
-    pub const SOURCE_EMPTY: Sense = Sense { key: 5, code: 0x3B, qualifier: 0x0E };
+    pub const SOURCE_EMPTY: Sense = Sense {
+        key: 5,
+        code: 0x3B,
+        qualifier: 0x0E,
+    };
 
     // A move from or to the drive while the tape is open.
-    pub const DRIVE_HELD: Sense = Sense { key: 5, code: 0x53, qualifier: 0x02 };
+    pub const DRIVE_HELD: Sense = Sense {
+        key: 5,
+        code: 0x53,
+        qualifier: 0x02,
+    };
 
     // Nothing is pending.
-    pub const NONE: Sense = Sense { key: 0, code: 0, qualifier: 0 };
+    pub const NONE: Sense = Sense {
+        key: 0,
+        code: 0,
+        qualifier: 0,
+    };
 }
 
 // The places that a move takes the cartridge from and to, for `moved`.

@@ -32,7 +32,7 @@ module _ (i : ℕ) (l : List ℕ) (inv : names_none_twice l ≡ not (some_again 
   empty_next h = some_next false (rw (eqb_yes h))
 
   module _ (n : length l ≡ 9) (some : get_or l i 0 ≡ 0 → ⊥) (b : Bool)
-    (r : b ≡ list_any (λ y. eqb y (get_or l i 0)) (take (9 - (i + 1)) (drop (i + 1) l))) where
+      (r : b ≡ list_any (λ y. eqb y (get_or l i 0)) (take (9 - (i + 1)) (drop (i + 1) l))) where
     again : is_again (8 - i) i l ≡ b
     unfolding is_again choose
     again =

@@ -1,107 +1,84 @@
 -- Laws for the proofs of functions: a loop that reports, one that writes from the front, and what the parts of a status come to.
 -- Assumes nothing.
 use Prim.Native.Nat.{ℕ, suc, ◌+◌, ◌-◌, ◌*◌, ◌≤◌, ◌<◌}
-use mathlib.Core.Bool.{Bool, true, false}
+use mathlib.Core.Bool.{true, false}
 use mathlib.Core.List.{List, [], ◌∷◌, ◌++◌, append-nil, append_assoc}
 use mathlib.Core.Path.{◌≡◌, refl, sym, ap, ◌∙◌}
 use native.Mathlib.Omega.{arith}
 use native.Mathlib.Numerals.{add-one}
-use lib.Dec.{eqb}
-use lib.ListN.{length, take, drop, get_or, set, length-append, length-set, drop_of_length-le}
+use lib.ListN.{length, take, drop, get_or, set, length-append, drop_of_length-le}
 use lib.Seq.{take-nil, take-length, take-append-le, take-suc-set, drop-cons, append_snoc}
-use borrow.Author.Tests.{eqb-true, eqb-false}
-use Rattle.xdr.specs.Choose.{choose, least}
+use Rattle.xdr.specs.Choose.{least}
 use Rattle.xdr.specs.Xdr.{be32s, overlay}
-use Rattle.xdr.proofs.Tests.{pick_if, pick_else, eqb_yes, eqb_no, least_right, least_take}
+use Rattle.xdr.proofs.Tests.{eqb_yes, eqb_no, least_right, least_take}
 use Rattle.xdr.proofs.Laws.{more, then_at, overlay_none, overlay_front, length_be32s}
 use Rattle.xdr_opaque.specs.Put.{Put}
-use Rattle.changer_elements.specs.Elements.{has_place, place_of}
-use Rattle.changer_elements.proofs.Laws.{by_cases, full_yes, full_no}
 use Rattle.changer_elements.specs.declared.Asked.{Asked}
-use Rattle.changer_elements.specs.Status.{elements, type_of, is_asked, those, reported, be16, flags_of, descriptor, descriptors, is_type, of_type}
+use Rattle.changer_elements.specs.Status.{elements, type_of, is_asked, those, reported, be16, descriptor, descriptors, is_type, of_type}
 use Rattle.changer_elements.specs.Status.{page, pages, first_of, status_of, status_data}
-use Rattle.changer_status.specs.Writers.{next_taken, Told, Few, HandsOver}
+use Rattle.changer_status.specs.Writers.{Few, HandsOver}
 use Rattle.changer_elements.proofs.Lists.{those_nil, those_yes, those_no, those_append, reported_few, reported_types}
 use Rattle.changer_elements.proofs.Bytes.{descriptors_length, descriptors_append, page_none, page_some, status_is, status_most, cut_length}
 
 -- ---- the elements to report, while i of ten are looked at: those that stand at the front of the list, and those still to come
-pub record Reporting (a : Asked) (list : List ℕ) (left count i : ℕ) : Type 0 where
+pub record Reporting (a : Asked) (list : List ℕ) (count i : ℕ) : Type 0 where
   pub done : i ≤ 10
   pub few : count ≤ i
-  pub long : length list ≡ 10
-  pub so_far : reported a ≡ take count list ++ take left (those (is_asked a) (drop i elements))
+  pub so_far : reported a ≡ take count list ++ take (a.number - count) (those (is_asked a) (drop i elements))
 
-pub reporting_start : (a : Asked) (list : List ℕ) → length list ≡ 10 → Reporting a list a.number 0 0
+pub reporting_start : (a : Asked) (list : List ℕ) → Reporting a list 0 0
 unfolding reported
-reporting_start a list h = record { done = omega arith; few = omega arith; long = h; so_far = refl }
+reporting_start a list = let all : a.number - 0 ≡ a.number = omega arith in record { done = omega arith; few = omega arith; so_far = rw all refl }
 
-taken : (b : Bool) {x : Bool} → choose b false x ≡ true → (b ≡ false) × (x ≡ true)
-unfolding choose
-taken true h = absurd (let z : ◌≡◌ {A = ℕ} 0 1 = cc in omega arith)
-taken false h = (refl, h)
-
-skipped : (b : Bool) {x : Bool} → choose b false x ≡ false → b ≡ false → x ≡ false
-unfolding choose
-skipped true h k = absurd (let z : ◌≡◌ {A = ℕ} 0 1 = (let w = k in cc) in omega arith)
-skipped false h k = h
-
-module _ (a : Asked) (list : List ℕ) (left count i e : ℕ) (r : Reporting a list left count i) (on : i < 10) (is : e ≡ get_or elements i 0) where
+module _ (a : Asked) (list : List ℕ) (count i e : ℕ) (r : Reporting a list count i) (on : i < 10) (is : e ≡ get_or elements i 0) where
   next_is : drop i elements ≡ e ∷ drop (i + 1) elements
   next_is = drop-cons elements i 0 on ∙ rw (add-one, ← is)
 
-  pub some_left : next_taken a left e ≡ true → left ≡ 0 → ⊥
-  unfolding next_taken
-  some_left h = eqb-false left 0 (taken (eqb left 0) h).0
-
-  pub reporting_more : next_taken a left e ≡ true → Reporting a (set list count e) (left - 1) (count + 1) (i + 1)
-  unfolding next_taken
-  reporting_more h =
-      let some : left ≡ 0 → ⊥ = eqb-false left 0 (taken (eqb left 0) h).0 in
-      let asked : is_asked a e ≡ true = (taken (eqb left 0) h).1 in
-      let k : left ≡ suc (left - 1) = omega arith in
-      let fits : count < length list = (let l = r.long in let f = r.few in omega arith) in
+  pub reporting_more : length list ≡ 10 → count < a.number → is_asked a e ≡ true → Reporting a (set list count e) (count + 1) (i + 1)
+  reporting_more long some asked =
+      let left : ℕ = a.number - (count + 1) in
+      let k : a.number - count ≡ suc left = omega arith in
+      let fits : count < length list = (let f = r.few in omega arith) in
       let rest : List ℕ = those (is_asked a) (drop (i + 1) elements) in
-      let come : take left (those (is_asked a) (drop i elements)) ≡ e ∷ take (left - 1) rest =
-      ap (λ (l : List ℕ). take left (those (is_asked a) l)) next_is
-      ∙ ap (take left) (those_yes (is_asked a) e (drop (i + 1) elements) asked)
+      let come : take (a.number - count) (those (is_asked a) (drop i elements)) ≡ e ∷ take left rest =
+      ap (λ (l : List ℕ). take (a.number - count) (those (is_asked a) l)) next_is
+      ∙ ap (take (a.number - count)) (those_yes (is_asked a) e (drop (i + 1) elements) asked)
       ∙ ap (λ (n : ℕ). take n (e ∷ rest)) k in
       let front : take (count + 1) (set list count e) ≡ take count list ++ (e ∷ []) = ap (λ (n : ℕ). take n (set list count e)) (add-one count) ∙ take-suc-set list count e fits in
       record {
         done = omega arith;
         few = (let f = r.few in omega arith);
-        long = length-set list count e ∙ r.long;
         so_far =
             r.so_far ∙ ap (λ (l : List ℕ). take count list ++ l) come
-            ∙ sym (append_snoc (take count list) e (take (left - 1) rest))
-            ∙ ap (λ (l : List ℕ). l ++ take (left - 1) rest) (sym front);
+            ∙ sym (append_snoc (take count list) e (take left rest))
+            ∙ ap (λ (l : List ℕ). l ++ take left rest) (sym front);
       }
 
-  none_left : left ≡ 0 → take left (those (is_asked a) (drop i elements)) ≡ take left (those (is_asked a) (drop (i + 1) elements))
-  none_left z = rw z
-
-  pub reporting_skip : next_taken a left e ≡ false → Reporting a list left count (i + 1)
-  unfolding next_taken
-  reporting_skip h =
-      let come : take left (those (is_asked a) (drop i elements)) ≡ take left (those (is_asked a) (drop (i + 1) elements)) =
-      by_cases (eqb left 0)
-      (λ z. none_left (eqb-true left 0 z))
-      (λ z. ap (λ (l : List ℕ). take left (those (is_asked a) l)) next_is
-      ∙ ap (take left) (those_no (is_asked a) e (drop (i + 1) elements) (skipped (eqb left 0) h z))) in
+  skipped : take (a.number - count) (those (is_asked a) (drop i elements)) ≡ take (a.number - count) (those (is_asked a) (drop (i + 1) elements)) →
+      Reporting a list count (i + 1)
+  skipped come =
       record {
         done = omega arith;
         few = (let f = r.few in omega arith);
-        long = r.long;
         so_far = r.so_far ∙ ap (λ (l : List ℕ). take count list ++ l) come;
       }
 
-pub reporting_end : (a : Asked) (list : List ℕ) (left count i : ℕ) → Reporting a list left count i → 10 ≤ i → Told a count list
-reporting_end a list left count i r h =
-    let none : take left (those (is_asked a) (drop i elements)) ≡ [] =
-    ap (λ (l : List ℕ). take left (those (is_asked a) l)) (drop_of_length-le elements h) ∙ ap (take left) (those_nil (is_asked a)) ∙ take-nil left in
-    record {
-      few = (let f = r.few in let d = r.done in omega arith);
-      list = sym (r.so_far ∙ ap (λ (l : List ℕ). take count list ++ l) none ∙ append-nil (take count list));
-    }
+  -- as many as the number allows are there
+  pub reporting_full : a.number ≤ count → Reporting a list count (i + 1)
+  reporting_full h = let none : a.number - count ≡ 0 = omega arith in skipped (rw none)
+
+  pub reporting_other : is_asked a e ≡ false → Reporting a list count (i + 1)
+  reporting_other h =
+      skipped
+      (ap (λ (l : List ℕ). take (a.number - count) (those (is_asked a) l)) next_is
+      ∙ ap (take (a.number - count)) (those_no (is_asked a) e (drop (i + 1) elements) h))
+
+pub reporting_end : (a : Asked) (list : List ℕ) (count i : ℕ) → Reporting a list count i → 10 ≤ i → take count list ≡ reported a
+reporting_end a list count i r h =
+    let none : take (a.number - count) (those (is_asked a) (drop i elements)) ≡ [] =
+    ap (λ (l : List ℕ). take (a.number - count) (those (is_asked a) l)) (drop_of_length-le elements h)
+    ∙ ap (take (a.number - count)) (those_nil (is_asked a)) ∙ take-nil (a.number - count) in
+    sym (r.so_far ∙ ap (λ (l : List ℕ). take count list ++ l) none ∙ append-nil (take count list))
 
 -- ---- a loop that writes a list of bytes from its front: what is left to write makes the whole of what stands there
 pub record Putting (at : ℕ) (whole rest l m : List ℕ) (next : ℕ) : Type 0 where
@@ -156,6 +133,27 @@ descriptors_next slots es k i h =
 pub descriptors_end : (slots es : List ℕ) (k i : ℕ) → length es ≤ i → descriptors slots (of_type k (drop i es)) ≡ []
 unfolding of_type descriptors
 descriptors_end slots es k i h = ap (λ (l : List ℕ). descriptors slots (those (is_type k) l)) (drop_of_length-le es h) ∙ ap (descriptors slots) (those_nil (is_type k))
+
+-- a loop that writes the descriptors of a type, at an element that is of it, and at one that is not
+module _ (slots es : List ℕ) (k i at next : ℕ) (whole l m : List ℕ) (p : Putting at whole (descriptors slots (of_type k (drop i es))) l m next)
+    (on : i < length es) where
+  is_next : type_of (get_or es i 0) ≡ k →
+      descriptors slots (of_type k (drop i es)) ≡ descriptor slots (get_or es i 0) ++ descriptors slots (of_type k (drop (i + 1) es))
+  is_next h = descriptors_next slots es k i on ∙ ap (λ (l : List ℕ). l ++ descriptors slots (of_type k (drop (i + 1) es))) (one_yes slots k (get_or es i 0) h)
+
+  pub putting_fits : type_of (get_or es i 0) ≡ k → at + length whole ≤ length l → next + 12 ≤ length m
+  unfolding descriptor be16
+  putting_fits h f = omega (arith, p.ends, p.long, ap length (is_next h))
+
+  pub putting_one : type_of (get_or es i 0) ≡ k → (next' : ℕ) (m' : List ℕ) → Put next (descriptor slots (get_or es i 0)) m next' m' →
+      length m' ≡ length m → Putting at whole (descriptors slots (of_type k (drop (i + 1) es))) l m' next'
+  putting_one h next' m' q n = putting_more at next next' whole _ (descriptor slots (get_or es i 0)) _ l m m' p (is_next h) q n
+
+  pub putting_other : (type_of (get_or es i 0) ≡ k → ⊥) → Putting at whole (descriptors slots (of_type k (drop (i + 1) es))) l m next
+  putting_other h =
+      let e : descriptors slots (of_type k (drop i es)) ≡ descriptors slots (of_type k (drop (i + 1) es)) =
+      descriptors_next slots es k i on ∙ ap (λ (l : List ℕ). l ++ descriptors slots (of_type k (drop (i + 1) es))) (one_no slots k (get_or es i 0) h) in
+      rw e at p
 
 -- ---- a page
 nil_of : (l : List ℕ) → length l ≡ 0 → l ≡ []
@@ -253,59 +251,6 @@ handed_over a slots out m whole n p h =
       few = omega (arith, status_most a slots);
     }
 
--- ---- values by a chain of choices
-module _ (slots : List ℕ) (e place : ℕ) where
-  pub flags_none : has_place e ≡ false → 0 ≡ flags_of slots e
-  unfolding flags_of
-  flags_none h = pick_else _ h refl
-
-  pub flags_empty : has_place e ≡ true → place ≡ place_of e → get_or slots place 0 ≡ 0 → 8 ≡ flags_of slots e
-  unfolding flags_of
-  flags_empty h p z = pick_if _ h (pick_else _ (full_no e place slots p z) refl)
-
-  pub flags_full : has_place e ≡ true → place ≡ place_of e → (get_or slots place 0 ≡ 0 → ⊥) → 9 ≡ flags_of slots e
-  unfolding flags_of
-  flags_full h p z = pick_if _ h (pick_if _ (full_yes e place slots p z) refl)
-
-pub first_none : (es : List ℕ) → length es ≡ 0 → 0 ≡ first_of es
-unfolding first_of
-first_none [] h = refl
-first_none (e ∷ es) h = absurd (omega arith)
-
-pub first_some : (es : List ℕ) → (length es ≡ 0 → ⊥) → get_or es 0 0 ≡ first_of es
-unfolding first_of
-first_some [] h = refl
-first_some (e ∷ es) h = refl
-
 -- a write of the same bytes, and one of none
 pub put_same : {at next : ℕ} {a b l m : List ℕ} → a ≡ b → Put at a l next m → Put at b l next m
 put_same e p = rw e at p
-
-pub put_none : (at : ℕ) (b l : List ℕ) → b ≡ [] → Put at b l at l
-put_none at b l e = record { end = omega (arith, ap length e); wrote = overlay_none at l ∙ ap (λ (x : List ℕ). overlay at x l) (sym e) }
-
--- an element's type, by what the code asks
-pub is_type_lem : {e w t k : ℕ} → w ≡ e → t ≡ type_of w → t ≡ k → type_of e ≡ k
-is_type_lem h t q = cc
-
-pub not_type : {e w t k : ℕ} → w ≡ e → t ≡ type_of w → (t ≡ k → ⊥) → type_of e ≡ k → ⊥
-not_type h t q s = q (cc)
-
-pub one_fits : (slots : List ℕ) (k e at n : ℕ) → type_of e ≡ k → at + length (descriptors slots (of_type k (e ∷ []))) ≤ n → at + 12 ≤ n
-unfolding descriptor be16
-one_fits slots k e at n h f = omega (arith, ap length (one_yes slots k e h))
-
-pub taken_as : (a : Asked) (left e : ℕ) {w : ℕ} {r b : Bool} → r ≡ next_taken a left w → w ≡ e → r ≡ b → next_taken a left e ≡ b
-taken_as a left e h k q = cc
-
-pub reporting_same : (a : Asked) (i : ℕ) {list list' : List ℕ} {left left' count count' : ℕ} → Reporting a list left count i →
-    list' ≡ list → left' ≡ left → count' ≡ count → Reporting a list' left' count' i
-reporting_same a i r h k m = rw (h, k, m) r
-
--- the elements at the front of a list are few, and their status is that of what is reported
-pub few_told : {a : Asked} {n : ℕ} {l : List ℕ} → Told a n l → Few (take n l)
-few_told {a} t = rw t.list (few_reported a)
-
-pub told_put : {a : Asked} {n at next : ℕ} {l out m : List ℕ} (slots : List ℕ) → Told a n l →
-    Put at (status_of slots (take n l)) out next m → Put at (status_of slots (reported a)) out next m
-told_put slots t p = rw t.list at p

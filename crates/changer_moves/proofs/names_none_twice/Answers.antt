@@ -13,16 +13,15 @@ returns-then-contains c =
     twice_here _ _ c.loop-place.invariant.1 c.loop-place-test.true (search rules) c.if-cartridge-ne0.true _ c.contains.ensures.value c.if-contains.true
 
 pub loop-place-preserved : goal.loop-place-preserved
-loop-place-preserved c =
-    (
-      omega arith,
-      elim c.else-cartridge-ne0.branch [
-        else-cartridge-ne0-via-then-cartridge-ne0+else-contains w ↦
-          once_next _ _ c.loop-place.invariant.1 c.loop-place-test.true (search rules) w.if-cartridge-ne0.true _ w.contains.ensures.value w.if-contains.false
-        | else-cartridge-ne0-via-else-cartridge-ne0 w ↦
-          empty_next _ _ c.loop-place.invariant.1 c.loop-place-test.true w.if-cartridge-ne0.false
-      ],
-    )
+loop-place-preserved c = (
+  omega arith,
+  elim c.else-cartridge-ne0.branch [
+    | else-cartridge-ne0-via-then-cartridge-ne0+else-contains w ↦
+        once_next _ _ c.loop-place.invariant.1 c.loop-place-test.true (search rules) w.if-cartridge-ne0.true _ w.contains.ensures.value w.if-contains.false
+    | else-cartridge-ne0-via-else-cartridge-ne0 w ↦
+        empty_next _ _ c.loop-place.invariant.1 c.loop-place-test.true w.if-cartridge-ne0.false
+  ],
+)
 
 pub returns : goal.returns
 unfolding some_again

@@ -1,36 +1,26 @@
-use Rattle.changer_status.proofs.Laws.{reporting_start, reporting_more, reporting_skip, reporting_end, reporting_same, taken_as, some_left}
-use native.Mathlib.Omega.{arith}
-use mathlib.Core.Logic.{⊎_elim}
-use mathlib.Core.Path.{refl}
-use Prim.Native.Nat.{◌-◌}
+use Rattle.std.proofs.Common.{refl, sym, ◌∙◌, rules}
+use Rattle.changer_status.proofs.Laws.{reporting_start, reporting_more, reporting_full, reporting_other, reporting_end}
 use Rattle.changer_status.proofs.report.Goals as goal
-use Rattle.changer_status.proofs.report.Goals.{then-takes, else-takes}
+use Rattle.changer_status.proofs.report.Goals.{then-count-asked+then-is_asked, else-count-asked, else-count-asked-via-then-count-asked+else-is_asked, else-count-asked-via-else-count-asked}
 
-pub loop-i-init : goal.loop-i-init
-loop-i-init c = reporting_start _ _ c.requires
+pub loop-element-init : goal.loop-element-init
+loop-element-init c = reporting_start _ _
 
-pub bounds-list-count : goal.bounds-list-count
-bounds-list-count c = let r = c.loop-i.invariant in omega (arith, r.long, r.few)
-
-pub overflow_sub-left : goal.overflow_sub-left
-overflow_sub-left c = let r = c.loop-i.invariant in
-    let on = c.loop-i-test.true in
-    let takes = taken_as _ _ _ c.takes.ensures c.wide.ensures.0 c.if-takes.true in
-    let some = some_left _ _ _ _ _ _ r on refl takes in
-    omega arith
-
-pub loop-i-preserved : goal.loop-i-preserved
-loop-i-preserved c = let r = c.loop-i.invariant in
-    let on = c.loop-i-test.true in
-    let is = c.takes.ensures in
-    let same = c.wide.ensures.0 in
-    elim c.if-takes.branch [
-      | then-takes w ↦ reporting_same _ _ (reporting_more _ _ _ _ _ _ r on refl (taken_as _ _ _ is same w.if-takes.true)) w.list-is w.left-is w.count-is
-      | else-takes w ↦ reporting_same _ _ (reporting_skip _ _ _ _ _ _ r on refl (taken_as _ _ _ is same w.if-takes.false)) w.list-is w.left-is w.count-is
+pub loop-element-preserved : goal.loop-element-preserved
+loop-element-preserved c =
+    let r = c.loop-element.invariant in
+    let on = c.loop-element-test.true in
+    elim c.if-count-asked.branch [
+      | then-count-asked+then-is_asked w ↦
+          rw (w.list-is, w.count-is)
+          (reporting_more _ _ _ _ _ r on refl (search rules) w.if-count-asked.true (sym w.is_asked.ensures ∙ w.if-is_asked.true))
+      | else-count-asked w ↦
+          rw (w.list-is, w.count-is)
+          (elim w.else-count-asked.branch [
+            | else-count-asked-via-then-count-asked+else-is_asked v ↦ reporting_other _ _ _ _ _ r on refl (sym v.is_asked.ensures ∙ v.if-is_asked.false)
+            | else-count-asked-via-else-count-asked v ↦ reporting_full _ _ _ _ _ r on refl v.if-count-asked.false
+          ])
     ]
 
-pub shape_of-list : goal.shape_of-list
-shape_of-list c = let r = c.loop-i.invariant in let p = c.requires in omega (arith, r.long)
-
 pub returns : goal.returns
-returns c = reporting_end _ _ _ _ _ c.loop-i.invariant c.loop-i-test.false
+returns c = reporting_end _ _ _ _ c.loop-element.invariant c.loop-element-test.false
