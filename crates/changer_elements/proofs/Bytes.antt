@@ -6,7 +6,7 @@ use native.Mathlib.Omega.{arith}
 use lib.Dec.{ltb}
 use lib.ListN.{length, length-append, length-take}
 use borrow.Author.Tests.{ltb-true, ltb-false}
-use Rattle.std.specs.Prelude.{Result, Ok}
+use Rattle.std.specs.Prelude.{Ok, Result}
 use Rattle.changer_elements.specs.declared.Sense.{Sense}
 use Rattle.xdr.specs.Choose.{least}
 use Rattle.xdr.proofs.Tests.{by_test}

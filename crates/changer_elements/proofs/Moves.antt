@@ -8,7 +8,7 @@ use native.Mathlib.Omega.{arith}
 use lib.ListN.{length, get_or}
 use lib.Dec.{eqb, ltb}
 use borrow.Author.Tests.{eqb-true, ltb-false, not-true}
-use Rattle.std.specs.Prelude.{Result, Ok, Err}
+use Rattle.std.specs.Prelude.{Err, Result, Ok}
 use Rattle.xdr.specs.Choose.{choose}
 use Rattle.xdr.proofs.Tests.{pick_if, pick_else, eqb_yes, eqb_no, leb_yes, leb_no, ltb_no, yes_not, yes, none, none_of, if_so, when, is, isnt}
 use Rattle.changer_elements.specs.declared.Sense.{Sense}

@@ -1,5 +1,5 @@
 -- Moves with their bytes written out, and what each comes to. They keep the definitions to 02 No. 7's words and order.
-use Rattle.std.specs.Prelude.{Result, Err, ℕ, true, false, List, [], ◌∷◌, ◌++◌, ◌≡◌, replicate, take}
+use Rattle.std.specs.Prelude.{ℕ, true, false, List, [], ◌∷◌, ◌++◌, ◌≡◌, replicate, take, Result, Err}
 use Rattle.changer_elements.specs.declared.Sense.{Sense}
 use Rattle.changer_elements.specs.declared.Places.{Places}
 use Rattle.changer_elements.specs.Slots.{names_none_twice}

@@ -1,6 +1,6 @@
 -- What holds of the slot list and of every move (02 No. 7): "from one that names none twice .., passed on from call to call, each
 -- cartridge is in exactly one slot or in the drive".
-use Rattle.std.specs.Prelude.{Err, ℕ, ◌+◌, ◌≤◌, ◌<◌, Bool, true, false, List, [], ◌∷◌, ◌≡◌, length, get_or}
+use Rattle.std.specs.Prelude.{ℕ, ◌+◌, ◌≤◌, ◌<◌, Bool, true, false, List, [], ◌∷◌, ◌≡◌, length, get_or, Err}
 use Rattle.changer_elements.specs.Elements.{transport, drive, first_slot, last_slot, places, has_place, place_of, cdb_bytes}
 use Rattle.changer_elements.specs.Slots.{names_none_twice, in_drive, times}
 use Rattle.changer_elements.specs.Move.{from_to, transport_field, source_field, destination_field, move_medium, slots_after}

@@ -1,7 +1,7 @@
 -- READ ELEMENT STATUS (B8h; 02 No. 7), "with the SCSI media changer layouts (12-byte descriptors by rising address from any
 -- start, no volume tags or source, access bits 1 but at the transport; cut to allocation and data-in length; unknown types have
 -- no elements)": which elements a CDB asks for, and the bytes that tell of them.
-use Rattle.std.specs.Prelude.{Result, Ok, Err, ℕ, ◌+◌, ◌*◌, ◌/◌, ◌%◌, Bool, true, false, List, [], ◌∷◌, ◌++◌, eqb, leb, ltb, length, take, get_or, replicate}
+use Rattle.std.specs.Prelude.{ℕ, ◌+◌, ◌*◌, ◌/◌, ◌%◌, Bool, true, false, List, [], ◌∷◌, ◌++◌, eqb, leb, ltb, length, take, get_or, replicate, Result, Ok, Err}
 use Rattle.xdr.specs.Choose.{choose, least}
 use Rattle.changer_elements.specs.Elements.{transport, drive, has_place, is_full, half, cdb_bytes}
 use Rattle.changer_elements.specs.Move.{short_cdb}

@@ -1,6 +1,6 @@
 -- READ ELEMENT STATUS with its bytes written out: what CDBs ask for, and what is told. They keep the definitions to SMC's layouts
 -- and to 02 No. 7's words.
-use Rattle.std.specs.Prelude.{Ok, Err, ℕ, List, [], ◌∷◌, ◌++◌, ◌≡◌, take, length}
+use Rattle.std.specs.Prelude.{ℕ, List, [], ◌∷◌, ◌++◌, ◌≡◌, take, length, Ok, Err}
 use Rattle.changer_elements.specs.declared.Asked.{Asked}
 use Rattle.changer_elements.specs.Status.{read_status, reported, status_data}
 

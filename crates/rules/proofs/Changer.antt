@@ -5,16 +5,14 @@ use mathlib.Core.List.{List}
 use mathlib.Core.Path.{◌≡◌, refl, sym, ap, ◌∙◌}
 use lib.Dec.{eqb}
 use lib.ListN.{get_or}
+use Rattle.std.specs.Prelude.{Err, Result, Ok}
 use Rattle.xdr.specs.Choose.{choose}
 use Rattle.xdr.proofs.Tests.{by_test, when, none_of, none, if_so, yes, yes_not}
+use Rattle.changer_elements.specs.declared.Places.{Places}
 use Rattle.changer_elements.specs.declared.Sense.{Sense}
 use Rattle.changer_elements.specs.declared.Asked.{Asked}
-use Rattle.changer_elements.specs.declared.MoveDone.{MoveDone}
-use Rattle.changer_elements.specs.declared.MoveDone.TheVariants as MoveDone
-use Rattle.changer_elements.specs.declared.StatusDone.{StatusDone}
-use Rattle.changer_elements.specs.declared.StatusDone.TheVariants as StatusDone
 use Rattle.changer_elements.specs.Slots.{moved, names_none_twice, in_drive}
-use Rattle.changer_elements.specs.Move.{move_medium, slots_after}
+use Rattle.changer_elements.specs.Move.{from_to, move_medium, slots_after}
 use Rattle.changer_elements.specs.Status.{read_status}
 use Rattle.changer_elements.proofs.Staying.{none_twice_after, drive_after}
 use Rattle.wire_requests.specs.Within.{bytes_at}
@@ -35,25 +33,25 @@ use Rattle.rules.proofs.JudgeLaws.{judged_by, accepts, carried}
 use Rattle.rules.proofs.Keeping.{clash}
 
 -- ---- an execute CDB, by what it comes to
-moves_to : (P : Outcome Changer → Type 0) (c : Changer) (o : MoveDone) → ((s : Sense) → P (checks c s))
-    → ((from to : ℕ) → o ≡ MoveDone.Moves from to → P (accept Reply.Cdb (changer_holds (moved from to c.slots) c))) → P (moves c o)
+moves_to : (P : Outcome Changer → Type 0) (c : Changer) (o : Result Places Sense) → ((s : Sense) → P (checks c s))
+    → ((from to : ℕ) → o ≡ from_to from to → P (accept Reply.Cdb (changer_holds (moved from to c.slots) c))) → P (moves c o)
 unfolding moves
-moves_to P c (MoveDone.Refused s) f g = f s
-moves_to P c (MoveDone.Moves from to) f g = g from to refl
+moves_to P c (Err s) f g = f s
+moves_to P c (Ok p) f g = g p.from p.to refl
 
-reports_to : (P : Outcome Changer → Type 0) (c : Changer) (o : StatusDone) → ((s : Sense) → P (checks c s))
-    → ((a : Asked) → o ≡ StatusDone.Reports a → P (accept Reply.Elements c)) → P (reports c o)
+reports_to : (P : Outcome Changer → Type 0) (c : Changer) (o : Result Asked Sense) → ((s : Sense) → P (checks c s))
+    → ((a : Asked) → o ≡ Ok a → P (accept Reply.Elements c)) → P (reports c o)
 unfolding reports
-reports_to P c (StatusDone.Refused s) f g = f s
-reports_to P c (StatusDone.Reports a) f g = g a refl
+reports_to P c (Err s) f g = f s
+reports_to P c (Ok a) f g = g a refl
 
 pub by_run : (P : Outcome Changer → Type 0) (tape : Bool) (c : Changer) (cdb : List ℕ) (room : ℕ)
     → P (accept Reply.Cdb c)
     → P (accept (Reply.Sense (sense_length cdb room) c.key c.code c.qualifier) (changer_refused 0 0 0 c))
     → ((s : Sense) → P (checks c s))
-    → ((from to : ℕ) → eqb (get_or cdb 0 0) 0xA5 ≡ true → move_medium cdb c.slots tape ≡ MoveDone.Moves from to
+    → ((from to : ℕ) → eqb (get_or cdb 0 0) 0xA5 ≡ true → move_medium cdb c.slots tape ≡ from_to from to
     → P (accept Reply.Cdb (changer_holds (moved from to c.slots) c)))
-    → ((a : Asked) → eqb (get_or cdb 0 0) 0xB8 ≡ true → read_status cdb room ≡ StatusDone.Reports a → P (accept Reply.Elements c))
+    → ((a : Asked) → eqb (get_or cdb 0 0) 0xB8 ≡ true → read_status cdb room ≡ Ok a → P (accept Reply.Elements c))
     → P (run_cdb tape c cdb room)
 unfolding run_cdb
 by_run P tape c cdb room ready sense check move report =
@@ -65,7 +63,7 @@ by_run P tape c cdb room ready sense check move report =
 -- ---- what a SCSI request leaves of the slot list
 -- it is the same, or that after a move
 pub by_slots : (P : List ℕ → Type 0) (tape : Bool) (c : Changer) (q : ScsiRequest) (body : List ℕ) → P c.slots
-    → ((cdb : List ℕ) (from to : ℕ) → moves_medium q body ≡ true → move_medium cdb c.slots tape ≡ MoveDone.Moves from to → P (moved from to c.slots))
+    → ((cdb : List ℕ) (from to : ℕ) → moves_medium q body ≡ true → move_medium cdb c.slots tape ≡ from_to from to → P (moved from to c.slots))
     → Accepts (λ _ next. P next.slots) (scsi_step tape c q body)
 unfolding scsi_step scsi_open scsi_clear scsi_state scsi_cdb checks moves_medium Accepts
 by_slots P tape c (ScsiRequest.Open name) body h f = accepts (λ _ next. P next.slots) _ _ _ (λ _. h)
@@ -80,7 +78,7 @@ pub slots_stay : (tape : Bool) (c : Changer) (q : ScsiRequest) (body : List ℕ)
     → Accepts (λ _ next. next.slots ≡ c.slots) (scsi_step tape c q body)
 slots_stay tape c q body h = by_slots (λ l. l ≡ c.slots) tape c q body refl (λ cdb from to e m. clash (moves_medium q body) h e)
 
-after_moved : (cdb slots : List ℕ) (tape : Bool) (from to : ℕ) → move_medium cdb slots tape ≡ MoveDone.Moves from to
+after_moved : (cdb slots : List ℕ) (tape : Bool) (from to : ℕ) → move_medium cdb slots tape ≡ from_to from to
     → slots_after slots (move_medium cdb slots tape) ≡ moved from to slots
 unfolding slots_after
 after_moved cdb slots tape from to m = ap (slots_after slots) m

@@ -6,6 +6,7 @@ use mathlib.Core.Path.{◌≡◌, refl, sym, ap, ◌∙◌}
 use native.Mathlib.Omega.{arith}
 use lib.Dec.{eqb, ltb}
 use lib.ListN.{length, get_or}
+use Rattle.std.specs.Prelude.{Err, Ok}
 use Rattle.xdr.specs.Choose.{choose, least}
 use Rattle.xdr.specs.Xdr.{same_bytes}
 use Rattle.xdr.proofs.Tests.{no, no_not, yes_not, eqb_yes, eqb_no, ltb_yes, ltb_no, isnt, by_test}
@@ -14,10 +15,8 @@ use Rattle.tape_image.specs.Image.{is_sound, count, faulty}
 use Rattle.tape_ops.specs.Operations.{mtio_step}
 use Rattle.changer_elements.specs.declared.Sense.{Sense}
 use Rattle.changer_elements.specs.declared.Asked.{Asked}
-use Rattle.changer_elements.specs.declared.MoveDone.TheVariants as MoveDone
-use Rattle.changer_elements.specs.declared.StatusDone.TheVariants as StatusDone
 use Rattle.changer_elements.specs.Slots.{moved, names_none_twice, in_drive}
-use Rattle.changer_elements.specs.Move.{move_medium}
+use Rattle.changer_elements.specs.Move.{from_to, move_medium}
 use Rattle.changer_elements.specs.Status.{asked_by, read_status, status_data}
 use Rattle.wire_layouts.specs.declared.Text.{Text}
 use Rattle.wire_requests.specs.Within.{bytes_at}
@@ -54,22 +53,22 @@ module _ (tape : Bool) (c : Changer) (cdb : Text) (room : ℕ) (body : List ℕ)
       let s : length bytes ≡ 0 → ⊥ = λ z. (let n = o.some in omega arith) in
       rw (o.opened, eqb_no s, ltb_no o.most)
 
-  unmoved : Opcode c bytes 0xA5 → (s : Sense) → move_medium bytes c.slots tape ≡ MoveDone.Refused s
+  unmoved : Opcode c bytes 0xA5 → (s : Sense) → move_medium bytes c.slots tape ≡ Err s
       → step ≡ checked c s
   unfolding run_cdb moves checks choose
   unmoved o s h = run_is o ∙ rw (run_cdb, o.first, h, checks, o.opened)
 
-  moving : Opcode c bytes 0xA5 → (from to : ℕ) → move_medium bytes c.slots tape ≡ MoveDone.Moves from to
+  moving : Opcode c bytes 0xA5 → (from to : ℕ) → move_medium bytes c.slots tape ≡ from_to from to
       → step ≡ accept Reply.Cdb (changer_of true c.key c.code c.qualifier (moved from to c.slots))
   unfolding run_cdb moves choose
   moving o from to h = run_is o ∙ rw (run_cdb, o.first, h, o.opened)
 
-  reporting : Opcode c bytes 0xB8 → (a : Asked) → read_status bytes room ≡ StatusDone.Reports a
+  reporting : Opcode c bytes 0xB8 → (a : Asked) → read_status bytes room ≡ Ok a
       → step ≡ accept Reply.Elements (changer_of true c.key c.code c.qualifier c.slots)
   unfolding run_cdb reports choose
   reporting o a h = run_is o ∙ rw (run_cdb, o.first, h, ← o.opened)
 
-  unreported : Opcode c bytes 0xB8 → (s : Sense) → read_status bytes room ≡ StatusDone.Refused s → step ≡ checked c s
+  unreported : Opcode c bytes 0xB8 → (s : Sense) → read_status bytes room ≡ Err s → step ≡ checked c s
   unfolding run_cdb reports checks choose
   unreported o s h = run_is o ∙ rw (run_cdb, o.first, h, checks, o.opened)
 

@@ -7,11 +7,11 @@ use mathlib.Core.List.{List, []}
 use lib.ListN.{length, get_or}
 use lib.Dec.{eqb}
 use borrow.Author.Tests.{eqb-true, ltb-false}
+use Rattle.std.specs.Prelude.{Ok}
 use Rattle.codes.specs.Codes.{sense_bytes, tcp_address, md5_auth, most_lent, store_length, challenge_length, most_status}
 use Rattle.xdr.specs.Choose.{choose, least}
 use Rattle.xdr.proofs.Tests.{by_test, least_right, yes}
 use Rattle.changer_elements.specs.declared.Asked.{Asked}
-use Rattle.changer_elements.specs.declared.StatusDone.TheVariants as StatusDone
 use Rattle.changer_elements.specs.Status.{read_status, reported, status_of, status_data}
 use Rattle.changer_elements.proofs.Bytes.{status_most, cut_length}
 use Rattle.wire_layouts.specs.AddressLists.{lendable}
@@ -100,7 +100,7 @@ status_sends a slots =
     let n = least_right a.cut (length (status_of slots (reported a))) in
     rw (cut_length a slots) (omega arith)
 
-shown_sends : (cdb : List ℕ) (room : ℕ) (slots : List ℕ) (a : Asked) → eqb (get_or cdb 0 0) 0xB8 ≡ true → read_status cdb room ≡ StatusDone.Reports a
+shown_sends : (cdb : List ℕ) (room : ℕ) (slots : List ℕ) (a : Asked) → eqb (get_or cdb 0 0) 0xB8 ≡ true → read_status cdb room ≡ Ok a
     → length (cdb_shown cdb room slots) ≤ most_status
 unfolding cdb_shown status_shown choose
 shown_sends cdb room slots a e h = rw (cdb_shown, e, h) (status_sends a slots)

@@ -8,14 +8,13 @@ use native.Mathlib.Omega.{arith}
 use lib.Dec.{eqb}
 use lib.ListN.{length, get_or}
 use borrow.Author.Tests.{eqb-true}
+use Rattle.std.specs.Prelude.{Err, Ok}
 use Rattle.xdr.specs.Choose.{choose}
 use Rattle.xdr.specs.Xdr.{be32, be32s, word}
 use Rattle.xdr.proofs.Tests.{ltb_yes, ltb_no, no, yes}
 use Rattle.xdr_opaque.specs.Opaque.{all_zero, opaque_at}
 use Rattle.xdr_opaque.specs.Put.{opaque}
 use Rattle.changer_elements.specs.declared.Sense.{Sense}
-use Rattle.changer_elements.specs.declared.MoveDone.TheVariants as MoveDone
-use Rattle.changer_elements.specs.declared.StatusDone.TheVariants as StatusDone
 use Rattle.changer_elements.specs.Slots.{moved, in_drive, times}
 use Rattle.changer_elements.specs.Move.{move_medium, short_cdb, slots_after}
 use Rattle.changer_elements.specs.MovesHold.{Movable, MoveCall, after_move, after_moves}
@@ -292,11 +291,11 @@ module _ (k : Kept) (l : Lent) (r : List ℕ) (cdb : Text) (room : ℕ) where
         refused = λ s h. checks_so a s (rules.unmoved (as_opcode a) s h);
       }
 
-  long_status : 12 ≤ length bytes → read_status bytes room ≡ StatusDone.Reports (asked_by bytes room)
+  long_status : 12 ≤ length bytes → read_status bytes room ≡ Ok (asked_by bytes room)
   unfolding read_status choose
   long_status h = rw (read_status, ltb_no h)
 
-  short_status : length bytes < 12 → read_status bytes room ≡ StatusDone.Refused short_cdb
+  short_status : length bytes < 12 → read_status bytes room ≡ Err short_cdb
   unfolding read_status choose
   short_status h = rw (read_status, ltb_yes h)
 

@@ -1,17 +1,15 @@
 -- 02 No. 7: what holds of the changer's requests, of tape open and of MTIO 6. It is said by the bytes of the CDB and
 -- of the name, by the fields of the parts and by the definitions of `changer_elements`, so that the definitions of
 -- requests are held against it.
-use Rattle.std.specs.Prelude.{ℕ, ◌≤◌, ◌<◌, Bool, true, false, List, [], ◌∷◌, ◌≡◌, eqb, length, get_or}
+use Rattle.std.specs.Prelude.{ℕ, ◌≤◌, ◌<◌, Bool, true, false, List, [], ◌∷◌, ◌≡◌, eqb, length, get_or, Ok, Err}
 use Rattle.codes.specs.Codes.{off_line, device_opened, not_open, io_error, illegal_arguments, no_tape_loaded, bad_file, no_device, illegal_state}
 use Rattle.xdr.specs.Choose.{least}
 use Rattle.tape_image.specs.Image.{is_sound, count}
 use Rattle.changer_elements.specs.declared.Sense.{Sense}
 use Rattle.changer_elements.specs.declared.Asked.{Asked}
-use Rattle.changer_elements.specs.declared.MoveDone.TheVariants as MoveDone
-use Rattle.changer_elements.specs.declared.StatusDone.TheVariants as StatusDone
 use Rattle.changer_elements.specs.Elements.{cdb_bytes}
 use Rattle.changer_elements.specs.Slots.{moved, names_none_twice, in_drive}
-use Rattle.changer_elements.specs.Move.{move_medium}
+use Rattle.changer_elements.specs.Move.{from_to, move_medium}
 use Rattle.changer_elements.specs.Status.{asked_by, read_status, status_data}
 use Rattle.wire_layouts.specs.declared.Text.{Text}
 use Rattle.wire_requests.specs.Within.{bytes_at}
@@ -58,21 +56,21 @@ pub record Opcode (c : Changer) (cdb : List ℕ) (code : ℕ) : Type 0 where
 pub record CdbRules (tape : Bool) (c : Changer) (cdb : Text) (room : ℕ) (body : List ℕ) : Type 0 where
   -- A5h: "Both keep the pending sense when they succeed"; a refused one replaces it with its own
   pub moves : Opcode c (bytes_at body cdb) 0xA5 → (from to : ℕ)
-      → move_medium (bytes_at body cdb) c.slots tape ≡ MoveDone.Moves from to
+      → move_medium (bytes_at body cdb) c.slots tape ≡ from_to from to
       → scsi_step tape c (ScsiRequest.Cdb cdb room) body
       ≡ accept Reply.Cdb (changer_of true c.key c.code c.qualifier (moved from to c.slots))
   pub unmoved : Opcode c (bytes_at body cdb) 0xA5 → (s : Sense)
-      → move_medium (bytes_at body cdb) c.slots tape ≡ MoveDone.Refused s
+      → move_medium (bytes_at body cdb) c.slots tape ≡ Err s
       → scsi_step tape c (ScsiRequest.Cdb cdb room) body ≡ checked c s
   -- B8h: it leaves the changer as it was, and is shown by the slots, "cut to allocation and data-in length"
   pub reports : Opcode c (bytes_at body cdb) 0xB8 → (a : Asked)
-      → read_status (bytes_at body cdb) room ≡ StatusDone.Reports a
+      → read_status (bytes_at body cdb) room ≡ Ok a
       → scsi_step tape c (ScsiRequest.Cdb cdb room) body
       ≡ accept Reply.Elements (changer_of true c.key c.code c.qualifier c.slots)
   pub shown : Opcode c (bytes_at body cdb) 0xB8 → cdb_bytes ≤ length (bytes_at body cdb)
       → scsi_shown (ScsiRequest.Cdb cdb room) body c.slots ≡ status_data (asked_by (bytes_at body cdb) room) c.slots
   pub unreported : Opcode c (bytes_at body cdb) 0xB8 → (s : Sense)
-      → read_status (bytes_at body cdb) room ≡ StatusDone.Refused s
+      → read_status (bytes_at body cdb) room ≡ Err s
       → scsi_step tape c (ScsiRequest.Cdb cdb room) body ≡ checked c s
   -- 01: "00h keeps what is pending"
   pub ready : Opcode c (bytes_at body cdb) 0x00

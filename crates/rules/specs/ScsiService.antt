@@ -1,5 +1,5 @@
 -- The requests of the SCSI interface (paper 01, "The changer"; 02 No. 7). They see the changer, and MOVE MEDIUM also whether the tape is open.
-use Rattle.std.specs.Prelude.{ℕ, Bool, true, false, not, List, [], ◌∷◌, length, get_or, eqb, ltb}
+use Rattle.std.specs.Prelude.{ℕ, Bool, true, false, not, List, [], ◌∷◌, length, get_or, eqb, ltb, Result, Ok, Err}
 use Rattle.codes.specs.Codes.{device_opened, not_open, illegal_arguments, no_device, sense_bytes, test_ready, request_sense, move_medium_code, element_status_code}
 use Rattle.xdr.specs.Choose.{choose, least}
 use Rattle.xdr.specs.Xdr.{same_bytes}
@@ -7,11 +7,9 @@ use Rattle.wire_requests.specs.Within.{bytes_at}
 use Rattle.wire_requests.specs.declared.ScsiRequest.{ScsiRequest}
 use Rattle.wire_requests.specs.declared.ScsiRequest.TheVariants.{Open, Close, State, Reset, Cdb}
 use Rattle.wire_replies.specs.declared.Reply.TheVariants as Reply
+use Rattle.changer_elements.specs.declared.Places.{Places}
+use Rattle.changer_elements.specs.declared.Asked.{Asked}
 use Rattle.changer_elements.specs.declared.Sense.{Sense}
-use Rattle.changer_elements.specs.declared.MoveDone.{MoveDone}
-use Rattle.changer_elements.specs.declared.MoveDone.TheVariants as MoveDone
-use Rattle.changer_elements.specs.declared.StatusDone.{StatusDone}
-use Rattle.changer_elements.specs.declared.StatusDone.TheVariants as StatusDone
 use Rattle.changer_elements.specs.Slots.{moved}
 use Rattle.changer_elements.specs.Move.{illegal, move_medium}
 use Rattle.changer_elements.specs.Status.{read_status, status_data}
@@ -48,13 +46,13 @@ abbrev pub unknown_opcode : Sense
 unknown_opcode = illegal 0x20 0
 
 -- MOVE MEDIUM and READ ELEMENT STATUS: "Both keep the pending sense when they succeed"
-unfoldable pub moves : Changer → MoveDone → Outcome Changer
-moves c (MoveDone.Refused sense) = checks c sense
-moves c (MoveDone.Moves from to) = accept Reply.Cdb (changer_holds (moved from to c.slots) c)
+unfoldable pub moves : Changer → Result Places Sense → Outcome Changer
+moves c (Err sense) = checks c sense
+moves c (Ok p) = accept Reply.Cdb (changer_holds (moved p.from p.to c.slots) c)
 
-unfoldable pub reports : Changer → StatusDone → Outcome Changer
-reports c (StatusDone.Refused sense) = checks c sense
-reports c (StatusDone.Reports asked) = accept Reply.Elements c
+unfoldable pub reports : Changer → Result Asked Sense → Outcome Changer
+reports c (Err sense) = checks c sense
+reports c (Ok asked) = accept Reply.Elements c
 
 -- "CDB 00h: status 0. 03h (REQUEST SENSE): the pending sense .., then cleared. Other opcodes: status 2, and the sense .. becomes pending and is
 -- returned as the extended sense, with no data-in; 03h returns it as data-in, with status 0. .. 00h keeps what is pending."
@@ -82,9 +80,9 @@ scsi_step tape c Reset body = scsi_clear c true
 scsi_step tape c (Cdb cdb room) body = scsi_cdb tape c (bytes_at body cdb) room
 
 -- ---- what a reply shows bytes of: the status of elements
-unfoldable pub status_shown : StatusDone → List ℕ → List ℕ
-status_shown (StatusDone.Refused sense) slots = []
-status_shown (StatusDone.Reports asked) slots = status_data asked slots
+unfoldable pub status_shown : Result Asked Sense → List ℕ → List ℕ
+status_shown (Err sense) slots = []
+status_shown (Ok asked) slots = status_data asked slots
 
 unfoldable pub cdb_shown : List ℕ → ℕ → List ℕ → List ℕ
 cdb_shown cdb room slots = choose (eqb (get_or cdb 0 0) element_status_code) (status_shown (read_status cdb room) slots) []

@@ -1,12 +1,11 @@
 -- 02 No. 7, of calls: what changes the slot list, what MOVE MEDIUM and READ ELEMENT STATUS are told, and tape open
 -- with an empty drive. It is said by the session's fields and by the bytes that are sent, and not by the definitions
 -- of a call, so that these are held against it.
-use Rattle.std.specs.Prelude.{ℕ, ◌+◌, ◌%◌, ◌^◌, ◌≤◌, ◌<◌, true, false, List, [], ◌∷◌, ◌++◌, ◌≡◌, eqb, length, get_or}
+use Rattle.std.specs.Prelude.{ℕ, ◌+◌, ◌%◌, ◌^◌, ◌≤◌, ◌<◌, true, false, List, [], ◌∷◌, ◌++◌, ◌≡◌, eqb, length, get_or, Err}
 use Rattle.codes.specs.Codes.{no_tape_loaded, off_line}
 use Rattle.xdr.specs.Xdr.{be32}
 use Rattle.xdr_opaque.specs.Put.{opaque}
 use Rattle.changer_elements.specs.declared.Sense.{Sense}
-use Rattle.changer_elements.specs.declared.MoveDone.TheVariants as MoveDone
 use Rattle.changer_elements.specs.Elements.{places, place_of, cdb_bytes}
 use Rattle.changer_elements.specs.Slots.{moved, names_none_twice, in_drive, times}
 use Rattle.changer_elements.specs.Move.{source_field, destination_field, move_medium}
@@ -78,7 +77,7 @@ pub record MoveAsked (k : Kept) (l : Lent) (r : List ℕ) (cdb : Text) : Type 0 
       × (body_in (answered k l r).reply ≡ cdb_reply 0 [] [])
   -- "status 2 with sense": it is told and becomes pending, and the slots stay
   pub refused : (s : Sense)
-      → move_medium (bytes_at (body_of r) cdb) k.session.changer.slots k.session.tape.opened ≡ MoveDone.Refused s
+      → move_medium (bytes_at (body_of r) cdb) k.session.changer.slots k.session.tape.opened ≡ Err s
       → ((answered k l r).next.session.changer
       ≡ changer_of true s.key s.code s.qualifier k.session.changer.slots)
       × (body_in (answered k l r).reply ≡ cdb_reply 2 [] (sense_bytes s.key s.code s.qualifier))

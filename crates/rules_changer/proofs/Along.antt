@@ -9,9 +9,8 @@ use lib.Dec.{eqb}
 use lib.ListN.{length, get_or}
 use borrow.Author.Tests.{eq-eqb}
 use Rattle.xdr.specs.Choose.{choose}
-use Rattle.changer_elements.specs.declared.MoveDone.TheVariants as MoveDone
 use Rattle.changer_elements.specs.Slots.{moved, names_none_twice, in_drive, times}
-use Rattle.changer_elements.specs.Move.{move_medium, slots_after}
+use Rattle.changer_elements.specs.Move.{from_to, move_medium, slots_after}
 use Rattle.changer_elements.specs.MovesHold.{InOnePlace, MoveCall, after_move, after_moves}
 use Rattle.changer_elements.proofs.MovesHold.{elements_hold}
 use Rattle.changer_elements.proofs.Staying.{none_twice_after, drive_after}
@@ -38,7 +37,7 @@ use Rattle.rules_changer.specs.Along.{slots_in, OpenAlong, open_end, open_on, Is
 -- ---- one call
 -- what the list is after a call: as it was, or after a move with the tape as it is
 module _ (P : List ℕ → Type 0) (k : Kept) (stays : P (slots_in k))
-    (moves : (cdb : List ℕ) (from to : ℕ) → move_medium cdb (slots_in k) k.session.tape.opened ≡ MoveDone.Moves from to → P (moved from to (slots_in k)))
+    (moves : (cdb : List ℕ) (from to : ℕ) → move_medium cdb (slots_in k) k.session.tape.opened ≡ from_to from to → P (moved from to (slots_in k)))
   where
     abbrev Next : Kept → Type 0
     Next n = P (slots_in n)
