@@ -1,7 +1,7 @@
 // The code of the slot list and of moves: `changer_elements` has the definitions.
 #![tactic(auto)]
 
-ghost use Rattle.std.specs.Prelude.{◌≡◌, true, ◌+◌, ◌<◌, ◌≤◌, length};
+ghost use Rattle.std.specs.Prelude.{◌≡◌, true, ◌+◌, ◌<◌, ◌≤◌, length, IfOk};
 ghost use Rattle.changer_elements.specs.Elements.{has_place, place_of, half};
 ghost use Rattle.changer_elements.specs.Slots.{names_none_twice, moved};
 ghost use Rattle.changer_elements.specs.Move.{is_movable, is_held, judge_move, move_medium};
@@ -85,7 +85,8 @@ fn judge_move(
     slots: [u32; 9],
     opened: bool,
 ) -> Result<Places, Sense>
-    ensures { result ≡ judge_move transport source destination slots opened }
+    ensures outcome { result ≡ judge_move transport source destination slots opened }
+    ensures within { IfOk result (λ p. (p.from ≤ 8) × (p.to ≤ 8)) }
 {
     if !is_movable(transport, source, destination) {
         return Err(Sense::WRONG_ELEMENT);
@@ -107,7 +108,8 @@ fn judge_move(
 // MOVE MEDIUM, judged; opened is whether the tape is.
 #[tactic(auto, using(changer_elements::proofs::Laws::fields_are), unfolding(changer_elements::specs::Move::move_medium, xdr::specs::Choose::choose))]
 pub fn move_medium(cdb: &[u8], slots: [u32; 9], opened: bool) -> Result<Places, Sense>
-    ensures { result ≡ move_medium cdb.now slots opened }
+    ensures outcome { result ≡ move_medium cdb.now slots opened }
+    ensures within { IfOk result (λ p. (p.from ≤ 8) × (p.to ≤ 8)) }
 {
     if cdb.len() < changer_elements::CDB_BYTES {
         return Err(Sense::SHORT_CDB);

@@ -1,2 +1,0 @@
--- The laws of what a request tells.
-pub mod Telling
