@@ -1,59 +1,39 @@
 // The requests of CONNECT and CONFIG, and what asks for a login.
 #![tactic(auto)]
 
-ghost use Rattle.std.specs.Prelude.{◌≡◌, List, ℕ};
+ghost use Rattle.std.specs.Prelude.{◌≡◌};
 ghost use Rattle.wire_requests.specs.Within.{bytes_at, Within, texts_within};
 ghost use Rattle.wire_requests.specs.declared.Request.TheVariants as Request;
-ghost use Rattle.rules_parts.specs.declared.types.Login.{Login};
 ghost use Rattle.rules.specs.Connection.{connect_open, right_digest, client_auth, connect_step, auth_attributes, config_step};
 ghost use Rattle.rules.specs.Answer.{needs_login, is_locked, is_close};
-ghost use Rattle.serve_connect.specs.Done.{changed, outcome_of};
+ghost use Rattle.rules.specs.Served.{outcome_of};
 
+use codes::NdmpError;
+use rules::{Accepted, Served};
 use rules_parts::types::Login;
 use wire_layouts::Text;
 use wire_replies::Reply;
 use wire_requests::{ConfigRequest, ConnectRequest, Request};
 
-// What a request changes of what the connection knows. It stands for the login after it, since no enum holds an array.
-#[derive(Clone, Copy)]
-pub enum LoginChange {
-    Nothing,
-    LoggedIn,
-    Challenged,
-}
-
-// A refusal, or a reply and what changes with it.
-#[derive(Clone, Copy)]
-pub enum LoginDone {
-    Refuse(u32),
-    Accept(Reply, LoginChange),
-}
-
-// What the connection knows after a change, with the challenge that was lent.
-pub fn changed(g: Login, challenge: &[u8; 64], change: LoginChange) -> Login
-    ensures { result ≡ changed g challenge.now change }
-{
-    match change {
-        LoginChange::Nothing => g,
-        LoginChange::LoggedIn => g.logged_in(),
-        LoginChange::Challenged => g.challenged_by(challenge),
-    }
-}
-
 // CONNECT open, in a session that has answered no request yet, or has.
-fn open(fresh: bool, version: u32) -> LoginDone
-    ensures { (g : Login) (challenge : List ℕ) → outcome_of g challenge result ≡ connect_open fresh g version }
+#[tactic(auto, unfolding(xdr::specs::Choose::choose, rules::specs::Judge::judge, rules::specs::Connection::connect_open))]
+fn open(fresh: bool, g: Login, version: u32) -> Served<Login>
+    ensures { outcome_of result ≡ connect_open fresh g version }
 {
     if !fresh {
-        return LoginDone::Refuse(codes::ILLEGAL_STATE);
+        return Err(NdmpError::IllegalState);
     }
     if version != codes::VERSION_FOUR {
-        return LoginDone::Refuse(codes::ILLEGAL_ARGUMENTS);
+        return Err(NdmpError::IllegalArguments);
     }
-    LoginDone::Accept(Reply::Plain, LoginChange::Nothing)
+    Ok(Accepted {
+        reply: Reply::Plain,
+        next: g,
+    })
 }
 
 // Whether an MD5 login is right, judged by the challenge that the client was given last.
+#[tactic(auto, unfolding(xdr::specs::Choose::choose, rules::specs::Connection::right_digest))]
 fn is_digest_right(g: Login, accounts: &[u8], body: &[u8], id: Text, digest: Text) -> bool
     requires { Within body.now id × Within body.now digest }
     ensures { result ≡ right_digest g accounts.now (bytes_at body.now id) (bytes_at body.now digest) }
@@ -61,105 +41,104 @@ fn is_digest_right(g: Login, accounts: &[u8], body: &[u8], id: Text, digest: Tex
     if !g.challenged {
         return false;
     }
-    let challenge = g.challenge;
-    let id_at = id.start;
-    let id_end = id_at + id.len;
-    let at = digest.start;
-    let end = at + digest.len;
-    wire_accounts::lets_in_by_md5(accounts, &body[id_at..id_end], &challenge, &body[at..end])
+    wire_accounts::lets_in_by_md5(accounts, id.of(body), &g.challenge, digest.of(body))
 }
 
 // A login, right or wrong.
-fn auth(right: bool) -> LoginDone
-    ensures { (g : Login) (challenge : List ℕ) → outcome_of g challenge result ≡ client_auth g right }
+#[tactic(auto, unfolding(xdr::specs::Choose::choose, rules::specs::Judge::judge, rules::specs::Connection::client_auth))]
+fn auth(g: Login, right: bool) -> Served<Login>
+    ensures { outcome_of result ≡ client_auth g right }
 {
     if !right {
-        return LoginDone::Refuse(codes::NOT_AUTHORIZED);
+        return Err(NdmpError::NotAuthorized);
     }
-    LoginDone::Accept(Reply::Plain, LoginChange::LoggedIn)
+    Ok(Accepted {
+        reply: Reply::Plain,
+        next: g.logged_in(),
+    })
 }
 
 // A request of CONNECT, with the accounts.
-pub fn serve(fresh: bool, g: Login, q: ConnectRequest, body: &[u8], accounts: &[u8]) -> LoginDone
+#[tactic(auto, unfolding(rules::specs::Connection::connect_step, wire_requests::specs::Within::texts_within))]
+pub fn serve(
+    fresh: bool,
+    g: Login,
+    q: ConnectRequest,
+    body: &[u8],
+    accounts: &[u8],
+) -> Served<Login>
     requires { texts_within body.now (Request.Connect q) }
-    ensures { (challenge : List ℕ) → outcome_of g challenge result ≡ connect_step fresh g accounts.now q body.now }
+    ensures { outcome_of result ≡ connect_step fresh g accounts.now q body.now }
 {
     match q {
-        ConnectRequest::Open(version) => open(fresh, version),
+        ConnectRequest::Open(version) => open(fresh, g, version),
         ConnectRequest::Md5Auth(id, digest) => {
-            let right = is_digest_right(g, accounts, body, id, digest);
-            auth(right)
+            auth(g, is_digest_right(g, accounts, body, id, digest))
         }
-        ConnectRequest::OtherAuth => LoginDone::Refuse(codes::ILLEGAL_ARGUMENTS),
-        ConnectRequest::Close => LoginDone::Accept(Reply::Plain, LoginChange::Nothing),
+        ConnectRequest::OtherAuth => Err(NdmpError::IllegalArguments),
+        ConnectRequest::Close => Ok(Accepted {
+            reply: Reply::Plain,
+            next: g,
+        }),
     }
 }
 
 // The attributes of an auth type: those of MD5 are the challenge, and every other type is refused.
-fn attributes(auth: u32) -> LoginDone
-    ensures { (g : Login) (challenge : List ℕ) → outcome_of g challenge result ≡ auth_attributes g challenge auth }
+#[tactic(auto, unfolding(xdr::specs::Choose::choose, rules::specs::Connection::auth_attributes))]
+fn attributes(g: Login, challenge: &[u8; 64], auth: u32) -> Served<Login>
+    ensures { outcome_of result ≡ auth_attributes g challenge.now auth }
 {
-    if auth == codes::MD5_AUTH {
-        return LoginDone::Accept(Reply::Challenge, LoginChange::Challenged);
+    if auth != codes::MD5_AUTH {
+        return Err(NdmpError::IllegalArguments);
     }
-    LoginDone::Refuse(codes::ILLEGAL_ARGUMENTS)
+    Ok(Accepted {
+        reply: Reply::Challenge,
+        next: g.challenged_by(challenge),
+    })
 }
 
-// A request of CONFIG. It does not look at the challenge that it gives.
-pub fn config(g: Login, q: ConfigRequest) -> LoginDone
-    ensures { (challenge : List ℕ) → outcome_of g challenge result ≡ config_step g challenge q }
+// A request of CONFIG, with the challenge to give.
+#[tactic(auto, unfolding(rules::specs::Connection::config_step))]
+pub fn config(g: Login, challenge: &[u8; 64], q: ConfigRequest) -> Served<Login>
+    ensures { outcome_of result ≡ config_step g challenge.now q }
 {
     match q {
-        ConfigRequest::ConnectionType => LoginDone::Accept(
-            Reply::ConnectionTypes,
-            LoginChange::Nothing,
-        ),
-        ConfigRequest::AuthAttributes(auth) => attributes(auth),
-        ConfigRequest::ServerInfo => {
-            LoginDone::Accept(Reply::ServerInfo(g.authorized), LoginChange::Nothing)
-        }
+        ConfigRequest::ConnectionType => Ok(Accepted {
+            reply: Reply::ConnectionTypes,
+            next: g,
+        }),
+        ConfigRequest::AuthAttributes(auth) => attributes(g, challenge, auth),
+        ConfigRequest::ServerInfo => Ok(Accepted {
+            reply: Reply::ServerInfo(g.authorized),
+            next: g,
+        }),
     }
 }
 
 // Whether a request of CONNECT closes the session, and so gets no reply.
+#[tactic(auto, unfolding(rules::specs::Answer::is_close))]
 pub fn is_close(q: ConnectRequest) -> bool
     ensures { result ≡ is_close (Request.Connect q) }
 {
-    match q {
-        ConnectRequest::Open(_) => false,
-        ConnectRequest::Md5Auth(_, _) => false,
-        ConnectRequest::OtherAuth => false,
-        ConnectRequest::Close => true,
-    }
+    matches!(q, ConnectRequest::Close)
 }
 
 // Whether a request is refused before auth.
+#[tactic(auto, unfolding(rules::specs::Answer::needs_login))]
 fn needs_login(q: Request) -> bool
     ensures { result ≡ needs_login q }
 {
     match q {
-        Request::Connect(_) => false,
-        Request::Config(c) => match c {
-            ConfigRequest::ConnectionType => true,
-            ConfigRequest::AuthAttributes(_) => false,
-            ConfigRequest::ServerInfo => false,
-        },
-        Request::Scsi(_) => true,
-        Request::Tape(_) => true,
-        Request::Data(_) => true,
-        Request::Mover(_) => true,
-        Request::Joint(_) => true,
-        Request::Unknown => false,
-        Request::Bad => false,
+        Request::Connect(_) | Request::Unknown | Request::Bad => false,
+        Request::Config(c) => matches!(c, ConfigRequest::ConnectionType),
+        _ => true,
     }
 }
 
 // Whether a request wants a login that the client has not made.
+#[tactic(auto, unfolding(xdr::specs::Choose::choose, rules::specs::Answer::is_locked))]
 pub fn is_locked(g: Login, q: Request) -> bool
     ensures { result ≡ is_locked g q }
 {
-    if g.authorized {
-        return false;
-    }
-    needs_login(q)
+    !g.authorized && needs_login(q)
 }
