@@ -40,9 +40,8 @@ use Rattle.rules.specs.Answer.{Kept, Lent, Answered, Done, silent, guarded, answ
 use Rattle.rules.specs.Answer.{held, room_of, is_locked, is_close, closing, outcome}
 use Rattle.rules.proofs.Guarding.{when_stopped, when_goes, roomy, stored}
 use Rattle.rules.proofs.Sending.{scsi_sends}
-use Rattle.serve_changer.specs.declared.ChangerChange.{ChangerChange}
-use Rattle.serve_changer.specs.declared.ScsiDone.TheVariants as ScsiDone
-use Rattle.serve_changer.specs.Done.{Tells}
+use Rattle.serve_changer.specs.declared.Accepted.TheVariants.{Replies}
+use Rattle.serve_changer.specs.Done.{Shows}
 use Rattle.rules.proofs.Calls.{judged_locked, judged_free}
 use Rattle.rules_parts.specs.declared.types.Answer.{Answer}
 use Rattle.call_sending.specs.Call.{CallTold}
@@ -149,9 +148,9 @@ pub shows_as : (r : List ℕ) (time : ℕ) (reply : Reply) (k : Kept) {a : Answe
 shows_as r time reply k e c = rw e at c
 
 -- of the changer: a reply that changes something shows none, and the status of elements shows what was written
-pub change_sends : (tape : Bool) (c : Changer) (q : ScsiRequest) (body : List ℕ) (reply : Reply) (change : ChangerChange)
-    → Tells c (scsi_step tape c q body) (scsi_shown q body c.slots) (ScsiDone.Accept reply change) → Sendable reply []
-change_sends tape c q body reply change t =
+pub change_sends : (tape : Bool) (c : Changer) (q : ScsiRequest) (body : List ℕ) (reply : Reply) (next : Changer)
+    → Shows c (scsi_step tape c q body) (scsi_shown q body c.slots) (Replies reply next) → Sendable reply []
+change_sends tape c q body reply next t =
     rw t.1 at (accepted_says (λ (r : Reply) _. Sendable r (scsi_shown q body c.slots)) _ _ _ (sym t.0) (scsi_sends tape c q body))
 
 pub status_sends : (a : Asked) (slots : List ℕ) (n : ℕ) (l : List ℕ) → HandsOver a slots n l → Sendable Reply.Elements (take n l)

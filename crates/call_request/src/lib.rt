@@ -22,14 +22,14 @@ ghost use Rattle.rules.specs.Joint.{joint_step};
 ghost use Rattle.rules.specs.Connection.{connect_step};
 ghost use Rattle.rules.specs.Answer.{held, closing, replying, tape_part, with_data, with_part, with_tape, with_changer, with_login, with_ends, request_in, outcome, is_unread, settled, is_close, judged, answered};
 ghost use Rattle.rules.specs.Calls.{opening};
-ghost use Rattle.serve_connect.specs.Done.{outcome_of};
+ghost use Rattle.rules.specs.Served.{outcome_of};
 ghost use Rattle.call_sending.specs.Call.{CallTold, Ready};
 ghost use Rattle.call_request.specs.Call.{lent, Sends};
 
 use changer_elements::Asked;
-use rules_parts::types::{Answer, Session};
-use serve_changer::ScsiDone;
-use serve_connect::LoginDone;
+use rules::Served;
+use rules_parts::types::{Answer, Login, Session};
+use serve_changer::Accepted;
 use serve_data::DataDone;
 use serve_joint::JointDone;
 use serve_mover::MoverDone;
@@ -117,10 +117,8 @@ fn status_reply(s: Session, asked: Asked, input: &[u8], time: u32, out: &mut [u8
     requires { Ready input.now out.old }
     ensures { (image variables : List ℕ) → CallTold (replying input.now time Reply.Elements (status_data asked s.changer.slots) (held s image variables)) result image variables out.old out.new }
 {
-    let c = s.changer;
-    let slots = c.slots;
     let mut status = [0u8; 152];
-    let n = changer_status::write_status(&mut status, asked, slots);
+    let n = changer_status::write_status(&mut status, asked, s.changer.slots);
     call_sending::finish(s, input, time, Reply::Elements, &status[..n], out)
 }
 
@@ -129,20 +127,12 @@ fn scsi_call(s: Session, q: ScsiRequest, input: &[u8], time: u32, out: &mut [u8]
     requires { Ready input.now out.old × texts_within (body_of input.now) (Request.Scsi q) }
     ensures { (image variables : List ℕ) → CallTold (settled (held s image variables) time input.now (Request.Scsi q) (onto (with_changer (held s image variables) (scsi_shown q (body_of input.now) s.changer.slots)) (scsi_step s.tape.opened s.changer q (body_of input.now)))) result image variables out.old out.new }
 {
-    let c = s.changer;
-    let t = s.tape;
-    let done = serve_changer::serve(t.opened, c, q, &input[28..]);
-    match done {
-        ScsiDone::Refuse(e) => call_sending::refuse(s, e, input, time, out),
-        ScsiDone::Accept(reply, change) => {
-            let next = serve_changer::changed(c, change);
-            let g = s.login;
-            let d = s.source;
-            let m = s.mover;
-            let session = s.with_parts(g, d, m, t, next);
-            call_sending::finish(session, input, time, reply, b"", out)
+    match serve_changer::serve(s.tape.opened, s.changer, q, &input[28..]) {
+        Ok(Accepted::Replies(reply, next)) => {
+            call_sending::finish(s.with_changer(next), input, time, reply, b"", out)
         }
-        ScsiDone::Reports(asked) => status_reply(s, asked, input, time, out),
+        Ok(Accepted::Reports(asked)) => status_reply(s, asked, input, time, out),
+        Err(e) => call_sending::refuse(s, e.number(), input, time, out),
     }
 }
 
@@ -232,42 +222,34 @@ fn joint_call(
     }
 }
 
-// What CONNECT or CONFIG came to, answered: the challenge is what a client may be given, and shown what the reply may show.
+// What CONNECT or CONFIG came to, answered, with what the reply may show.
 #[inline(never)]
 fn login_call(
     s: Session,
-    done: LoginDone,
-    challenge: &[u8; 64],
+    done: Served<Login>,
     shown: &[u8],
     input: &[u8],
     time: u32,
     out: &mut [u8],
 ) -> Answer
-    requires { Ready input.now out.old × Accepts (Sends shown.now) (outcome_of s.login challenge.now done) }
-    ensures { (image variables : List ℕ) (q : Request) → is_unread q ≡ false → CallTold (settled (held s image variables) time input.now q (onto (with_login (held s image variables) shown.now) (outcome_of s.login challenge.now done))) result image variables out.old out.new }
+    requires { Ready input.now out.old × Accepts (Sends shown.now) (outcome_of done) }
+    ensures { (image variables : List ℕ) (q : Request) → is_unread q ≡ false → CallTold (settled (held s image variables) time input.now q (onto (with_login (held s image variables) shown.now) (outcome_of done))) result image variables out.old out.new }
 {
     match done {
-        LoginDone::Refuse(e) => call_sending::refuse(s, e, input, time, out),
-        LoginDone::Accept(reply, change) => {
-            let g = s.login;
-            let next = serve_connect::changed(g, challenge, change);
-            let d = s.source;
-            let m = s.mover;
-            let t = s.tape;
-            let c = s.changer;
-            let session = s.with_parts(next, d, m, t, c);
-            call_sending::finish(session, input, time, reply, shown, out)
+        Ok(accepted) => {
+            let session = s.with_login(accepted.next);
+            call_sending::finish(session, input, time, accepted.reply, shown, out)
         }
+        Err(e) => call_sending::refuse(s, e.number(), input, time, out),
     }
 }
 
-// CONNECT; an accepted close has no reply. It gives no challenge, so it may be handed any.
+// CONNECT; an accepted close has no reply.
 #[inline(never)]
 fn connect_call(
     s: Session,
     q: ConnectRequest,
     accounts: &[u8],
-    challenge: &[u8; 64],
     input: &[u8],
     time: u32,
     out: &mut [u8],
@@ -278,9 +260,8 @@ fn connect_call(
     if serve_connect::is_close(q) {
         return call_sending::shut(s);
     }
-    let g = s.login;
-    let done = serve_connect::serve(s.first, g, q, &input[28..], accounts);
-    login_call(s, done, challenge, b"", input, time, out)
+    let done = serve_connect::serve(s.first, s.login, q, &input[28..], accounts);
+    login_call(s, done, b"", input, time, out)
 }
 
 // A record that is no request of any service, refused in the header.
@@ -310,11 +291,10 @@ fn serve_call(
     ensures { CallTold (choose (is_close q) (closing (held s image.old variables.old)) (settled (held s image.old variables.old) time input.now q (outcome (held s image.old variables.old) (lent accounts.now challenge.now addresses.now made time out.old) input.now q))) result image.new variables.new out.old out.new }
 {
     match q {
-        Request::Connect(x) => connect_call(s, x, accounts, challenge, input, time, out),
+        Request::Connect(x) => connect_call(s, x, accounts, input, time, out),
         Request::Config(x) => {
-            let g = s.login;
-            let done = serve_connect::config(g, x);
-            login_call(s, done, challenge, challenge, input, time, out)
+            let done = serve_connect::config(s.login, challenge, x);
+            login_call(s, done, challenge, input, time, out)
         }
         Request::Scsi(x) => scsi_call(s, x, input, time, out),
         Request::Tape(x) => tape_call(s, x, image, input, time, out),

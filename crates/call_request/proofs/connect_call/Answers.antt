@@ -17,7 +17,7 @@ serve-done-requires c = let st = c in
 
 pub login_call-requires : goal.login_call-requires
 login_call-requires c = let st = c in
-    (st.requires.0, rw (c.serve-done.ensures st.args.challenge.now) (connect_sends _ _ _ _ _))
+    (st.requires.0, rw c.serve-done.ensures (connect_sends _ _ _ _ _))
 
 pub returns : goal.returns
 unfolding is_unread
@@ -25,5 +25,5 @@ returns c = let c8 = c in
     λ image variables.
     let a = c8.args in
     call_else _ (sym c8.is_close.ensures ∙ c8.if-is_close.false)
-    (rw (c.serve-done.ensures a.challenge.now, body_is a.input.now) at
+    (rw (c.serve-done.ensures, body_is a.input.now) at
     (c.login_call.ensures image variables (Request.Connect a.q) refl))

@@ -17,7 +17,7 @@ pub login_call-requires : goal.login_call-requires
 login_call-requires c = let st = c in
     let challenge = st.args.challenge.now in
     let whole : length challenge ≤ challenge_length = search rules in
-    (st.requires.0, rw (c.config-done.ensures challenge) (config_sends _ challenge _ whole))
+    (st.requires.0, rw c.config-done.ensures (config_sends _ challenge _ whole))
 
 pub scsi_call-requires : goal.scsi_call-requires
 scsi_call-requires c = let c8 = c in
@@ -63,7 +63,7 @@ unfolding outcome is_close is_unread choose
 returns-in-Config c = let c8 = c in
     let a = c8.args in
     rw c8.in-Config.is
-    (rw (c.config-done.ensures a.challenge.now) at
+    (rw c.config-done.ensures at
     (c.login_call.ensures a.image.now a.variables.now (Request.Config c8.in-Config.x) refl))
 
 pub returns-in-Scsi : goal.returns-in-Scsi
