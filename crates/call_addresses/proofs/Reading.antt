@@ -8,7 +8,6 @@ use lib.Dec.{eqb, leb}
 use lib.ListN.{length}
 use borrow.Author.Tests.{le-leb, eq-eqb, ne_eqb, eqb-true, leb-true}
 use Rattle.codes.specs.Codes.{local_address, tcp_address, most_addresses}
-use Rattle.std.specs.Prelude.{Option, Some, None}
 use Rattle.xdr.specs.Choose.{choose}
 use Rattle.xdr.specs.Xdr as xdr
 use Rattle.xdr.proofs.Tests.{by_test}
@@ -32,12 +31,12 @@ use Rattle.wire_layouts.specs.declared.Scan.{Scan}
 use Rattle.wire_layouts.specs.declared.Addresses.{Addresses}
 use Rattle.wire_layouts.proofs.AddressLists.{addresses_given}
 use Rattle.wire_layouts.proofs.AddressTypes.{type_judged}
-use Rattle.wire_requests.specs.Bodies.{connect_fields, layout_of, joint_of, request_of, or_bad, scanned_by, decoded}
+use Rattle.wire_requests.specs.Bodies.{connect_fields, layout_of, joint_of, request_of, or_bad, decoded}
 use Rattle.wire_requests.specs.RoundTrip.{Known}
 use Rattle.wire_requests.specs.declared.JointRequest.TheVariants as JointRequest
 use Rattle.wire_requests.specs.declared.Request.{Request}
 use Rattle.wire_requests.specs.declared.Request.TheVariants.{Connect, Config, Scsi, Tape, Data, Mover, Joint, Unknown, Bad}
-use Rattle.wire_requests.proofs.Laws.{by_layout}
+use Rattle.wire_requests.proofs.Laws.{by_layout, decoded_has}
 use Rattle.call_addresses.specs.Reading.{by_type, of_joint, of_request, of_frame, addresses_in, request_in, Asks, ListGiven}
 
 -- ---- the code: the request of a number is that of the message that it names
@@ -122,20 +121,20 @@ own_joint JointKind.MoverAbort k = tt
 own_joint JointKind.MoverClose k = tt
 own_joint JointKind.MoverConnect k = refl
 
-own_read : (m : Message) (o : Option Scan) → Own m (or_bad (request_of m) o)
+own_row : (m : Message) (k : Scan) → Own m (request_of m k)
 unfolding Own
-own_read m None = tt
-own_read (Message.Connect q) (Some k) = tt
-own_read (Message.Config q) (Some k) = tt
-own_read (Message.Scsi q) (Some k) = tt
-own_read (Message.Tape q) (Some k) = tt
-own_read (Message.Data q) (Some k) = tt
-own_read (Message.Mover q) (Some k) = tt
-own_read (Message.Joint q) (Some k) = own_joint q k
-own_read Message.Unknown (Some k) = tt
+own_row (Message.Connect q) k = tt
+own_row (Message.Config q) k = tt
+own_row (Message.Scsi q) k = tt
+own_row (Message.Tape q) k = tt
+own_row (Message.Data q) k = tt
+own_row (Message.Mover q) k = tt
+own_row (Message.Joint q) k = own_joint q k
+own_row Message.Unknown k = tt
 
 own_known : (m : Message) (b : List ℕ) → Known m → Own m (decoded m b)
-own_known m b h = rw (by_layout m b h) (own_read m (scanned_by m b))
+unfolding Own
+own_known m b h = decoded_has (Own m) m b h (own_row m) tt
 
 own : (m : Message) (b : List ℕ) → Own m (decoded m b)
 unfolding Own decoded

@@ -15,7 +15,8 @@ use Rattle.wire_frame.specs.Messages.{look, row_of, message_of}
 use Rattle.wire_frame.specs.declared.MoverKind.TheVariants as MoverKind
 use Rattle.wire_frame.specs.declared.JointKind.TheVariants as JointKind
 use Rattle.wire_frame.specs.declared.Message.TheVariants as Message
-use Rattle.wire_requests.specs.Bodies.{decoded, mover_body, joint_body}
+use Rattle.wire_requests.specs.Bodies.{decoded}
+use Rattle.wire_requests.proofs.Laws.{decoded_has}
 use Rattle.wire_requests.specs.declared.DataRequest.{DataRequest}
 use Rattle.wire_requests.specs.declared.DataRequest.TheVariants as DataRequest
 use Rattle.wire_requests.specs.declared.MoverRequest.{MoverRequest}
@@ -332,22 +333,18 @@ listening_first address =
 module _ (P : Request → Type 0) (b : List ℕ) where
   listen_read : ((mode address : ℕ) → P (Request.Mover (MoverRequest.Listen mode address))) → P Request.Bad
       → P (decoded (Message.Mover MoverKind.Listen) b)
-  unfolding decoded mover_body
-  listen_read h z = by_test P _ _ _ (λ _. h _ _) (λ _. z)
+  listen_read h z = decoded_has P (Message.Mover MoverKind.Listen) b tt (λ _. h _ _) z
 
   continue_read : P (Request.Mover MoverRequest.Continue) → P Request.Bad → P (decoded (Message.Mover MoverKind.Continue) b)
-  unfolding decoded mover_body
-  continue_read h z = by_test P _ _ _ (λ _. h) (λ _. z)
+  continue_read h z = decoded_has P (Message.Mover MoverKind.Continue) b tt (λ _. h) z
 
   window_read : ((offset length : ℕ) → P (Request.Mover (MoverRequest.Window offset length))) → P Request.Bad
       → P (decoded (Message.Mover MoverKind.Window) b)
-  unfolding decoded mover_body
-  window_read h z = by_test P _ _ _ (λ _. h _ _) (λ _. z)
+  window_read h z = decoded_has P (Message.Mover MoverKind.Window) b tt (λ _. h _ _) z
 
   connect_read : ((mode address count : ℕ) → P (Request.Joint (JointRequest.MoverConnect mode address count))) → P Request.Bad
       → P (decoded (Message.Joint JointKind.MoverConnect) b)
-  unfolding decoded joint_body
-  connect_read h z = by_test P _ _ _ (λ _. h _ _ _) (λ _. z)
+  connect_read h z = decoded_has P (Message.Joint JointKind.MoverConnect) b tt (λ _. h _ _ _) z
 
 -- ---- the four requests, on a session that has a record size
 module _ (k : Kept) (l : Lent) (r : List ℕ) (n : 1 ≤ k.session.mover.size) where
