@@ -28,7 +28,8 @@ use Rattle.rules_parts.specs.declared.types.Session.{Session}
 use Rattle.rules_parts.specs.Names.{least_room}
 use Rattle.rules.specs.Judge.{test, Outcome, refuse, accept, judge, onto}
 use Rattle.rules_parts.specs.Parts.{holds_tape}
-use Rattle.rules.specs.TapeService.{Loaded, loaded, after_mtio, is_refusal, protects, tape_mtio, device_step, with_loaded, tape_step}
+use Rattle.tape_ops.specs.Answers.{is_refusal}
+use Rattle.rules.specs.TapeService.{Loaded, loaded, after_mtio, protects, tape_mtio, device_step, with_loaded, tape_step}
 use Rattle.rules.specs.Relation.{keeps}
 use Rattle.rules.specs.Answer.{Lent, held, Answered, guarded, room_of, answered, requested, judged, is_close, settled, verdict, is_locked, outcome}
 use Rattle.rules.specs.Answer.{noticed, silent, closing, tape_part, with_tape, request_in}

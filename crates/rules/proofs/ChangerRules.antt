@@ -31,7 +31,8 @@ use Rattle.rules_parts.specs.declared.types.Session.{Session}
 use Rattle.rules_parts.specs.Parts.{closed_tape, holds_tape, data_partnered, mover_partnered, with_parts}
 use Rattle.rules.specs.Judge.{Outcome, refuse, accept, judge, onto, Accepts}
 use Rattle.rules.specs.ScsiService.{changer0, scsi_open, scsi_clear, scsi_state, sense_length, checks, moves, reports, run_cdb, scsi_cdb, scsi_step, status_shown, cdb_shown, scsi_shown, moves_medium}
-use Rattle.rules.specs.TapeService.{Loaded, tape0, tape_open, tape_close, tape_state, is_refusal, protects, moved_to, after_mtio, tape_mtio, tape_write, tape_read, device_step, TapePart, with_loaded, tape_step}
+use Rattle.tape_ops.specs.Answers.{is_refusal}
+use Rattle.rules.specs.TapeService.{Loaded, tape0, tape_open, tape_close, tape_state, protects, moved_to, after_mtio, tape_mtio, tape_write, tape_read, device_step, TapePart, with_loaded, tape_step}
 use Rattle.rules.specs.Relation.{data_wrong, mover_wrong, drive_wrong, slots_wrong, same_flag, keeps}
 use Rattle.rules.specs.Changer.{changer_name, tape_name, changer_of, checked, Opcode, CdbRules, DeviceRules, IsMove, SlotRules, ShelfRules, part_of, OpenRules, Free, Holding, listens, runs, OffRules, DriveRules, ChangerRules}
 use Rattle.rules.proofs.JudgeLaws.{accepts, carried, accepts_map}

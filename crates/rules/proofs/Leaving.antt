@@ -43,7 +43,8 @@ use Rattle.wire_replies.proofs.Numbers as numbers
 use Rattle.rules_parts.specs.declared.types.Tape.{Tape}
 use Rattle.rules.specs.Judge.{test, Outcome, refuse, accept, judge, onto, Accepts, Refuses}
 use Rattle.rules_parts.specs.Parts.{with_parts, after_message, challenged_by, holds_tape}
-use Rattle.rules.specs.TapeService.{moved_to, after_mtio, is_refusal, protects, tape_open, tape_close, tape_state, tape_mtio, tape_write, tape_read}
+use Rattle.tape_ops.specs.Answers.{is_refusal}
+use Rattle.rules.specs.TapeService.{moved_to, after_mtio, protects, tape_open, tape_close, tape_state, tape_mtio, tape_write, tape_read}
 use Rattle.rules.specs.TapeService.{device_step, with_loaded, with_mover, tape_step, mover_part_step}
 use Rattle.rules.specs.Connection.{connect_open, client_auth, connect_step, auth_attributes, config_step}
 use Rattle.rules.specs.Answer.{Kept, Lent, held, Answered, answered, judged, is_close, settled, verdict, needs_login, is_locked, outcome, refusing, is_unread}

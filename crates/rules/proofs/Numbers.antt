@@ -47,7 +47,8 @@ use Rattle.codes.specs.Codes.{md5_auth, longest_record, device_opened, permissio
 use Rattle.rules.specs.Judge.{test, refuse, accept, judge, Accepts, Refuses}
 use Rattle.rules.specs.DataService.{data_state, data_listen, data_start, data_environment, data_stop, data_step}
 use Rattle.rules.specs.MoverService.{mover_state, mover_listen, mover_continue, mover_stop, set_window, mover_read, set_size, mover_step}
-use Rattle.rules.specs.TapeService.{Loaded, moved_to, after_mtio, is_refusal, tape_open, tape_close, tape_state, tape_mtio, tape_write, tape_read, device_step, with_loaded, with_mover, tape_step, mover_part_step}
+use Rattle.tape_ops.specs.Answers.{is_refusal}
+use Rattle.rules.specs.TapeService.{Loaded, moved_to, after_mtio, tape_open, tape_close, tape_state, tape_mtio, tape_write, tape_read, device_step, with_loaded, with_mover, tape_step, mover_part_step}
 use Rattle.rules.specs.ScsiService.{scsi_open, scsi_clear, scsi_state, checks, run_cdb, scsi_cdb, scsi_step}
 use Rattle.rules.specs.Addresses.{listening}
 use Rattle.rules.specs.Joint.{data_connect, mover_connect, data_abort, mover_abort, mover_close, joint_step}

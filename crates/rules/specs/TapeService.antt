@@ -1,10 +1,11 @@
 -- The requests of the tape interface (paper 01, "Data and mover states" and "The cartridge"). They see the mover, the tape and the image, and of the
 -- changer which cartridge is in the drive, or 0 (02 No. 7).
 use Rattle.std.specs.Prelude.{ℕ, Bool, true, false, not, List, [], ◌∷◌, eqb, ltb}
-use Rattle.codes.specs.Codes.{write_marks, off_line, device_opened, permission_denied, not_open, illegal_arguments, no_tape_loaded, at_mark_code, at_end_code, bad_file, no_device, illegal_state}
+use Rattle.codes.specs.Codes.{write_marks, off_line, device_opened, permission_denied, not_open, illegal_arguments, no_tape_loaded, bad_file, no_device, illegal_state}
 use Rattle.xdr.specs.Choose.{choose}
 use Rattle.xdr.specs.Xdr.{same_bytes}
 use Rattle.tape_image.specs.Image.{is_sound}
+use Rattle.tape_ops.specs.Answers.{is_refusal}
 use Rattle.tape_ops.specs.Operations.{write_step, read_part, mtio_step, standing_at}
 use Rattle.wire_requests.specs.Within.{bytes_at}
 use Rattle.wire_requests.specs.declared.TapeRequest.{TapeRequest}
@@ -41,10 +42,6 @@ tape_open drive t l named mode =
     judge
     (test (ltb read_write mode) illegal_arguments ∷ test (not named) no_device ∷ test t.opened device_opened ∷ test (eqb drive 0) no_tape_loaded ∷ test (not (is_sound l)) bad_file ∷ [])
     (accept Reply.Plain (loaded (record { opened = true; writable = eqb mode read_write; position = 0 }) l))
-
--- "12, 13: tape outcomes": what the cartridge gives beside 0 and these is a refusal
-unfoldable pub is_refusal : ℕ → Bool
-is_refusal e = choose (eqb e 0) false (choose (eqb e at_mark_code) false (not (eqb e at_end_code)))
 
 -- "6: SCSI or TAPE request but open, its device not open"; "TAPE requests but get state and open: 19 while the mover is in LISTEN or ACTIVE";
 -- "5: tape open read-only: write, MTIO 5"; and the cartridge's own number, unless it is an outcome

@@ -27,7 +27,8 @@ use Rattle.rules.specs.MoverService.{offset_wrong, mover_listen, mover_continue,
 use Rattle.rules_parts.specs.Parts.{window_end, is_past_top, length_wrong, data_joined, mover_joined, data_partnered, mover_partnered, address_wrong, holds_tape, unwritable}
 use Rattle.rules.specs.Relation.{data_wrong, numbers_wrong, window_wrong, start_wrong, hold_wrong, strays, resume_wrong, place_wrong, origin_wrong, mover_wrong, same_flag, drive_wrong, slots_wrong, keeps}
 use Rattle.changer_elements.specs.Slots.{named, is_again, some_again, names_none_twice}
-use Rattle.rules.specs.TapeService.{tape0, tape_open, is_refusal, protects, after_mtio, tape_mtio, tape_write, device_step, tape_step, mover_part_step}
+use Rattle.tape_ops.specs.Answers.{is_refusal}
+use Rattle.rules.specs.TapeService.{tape0, tape_open, protects, after_mtio, tape_mtio, tape_write, device_step, tape_step, mover_part_step}
 use Rattle.rules_moves.specs.Events.{moved_to_tape, moved_from_tape}
 use Rattle.rules_moves.specs.Moves.{idle, stream_ends, scant, window_used, filling, to_tape, outside, seek_from, amount, reading, on_found, seeking, from_tape, fed_with, halts_with}
 use Rattle.rules_moves.specs.Sequence.{Asked, step, runs, is_heard, mover_asked, data_asked, joint_asked, asked, move_shown, seen}

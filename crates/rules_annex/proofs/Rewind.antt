@@ -15,7 +15,8 @@ use Rattle.wire_requests.specs.declared.Request.TheVariants as Request
 use Rattle.wire_replies.specs.declared.Reply.{Reply}
 use Rattle.rules_parts.specs.declared.types.Tape.{Tape}
 use Rattle.rules.specs.Judge.{is_accepted, Accepts}
-use Rattle.rules.specs.TapeService.{Loaded, is_refusal, after_mtio, tape_mtio, device_step, with_loaded, tape_step}
+use Rattle.tape_ops.specs.Answers.{is_refusal}
+use Rattle.rules.specs.TapeService.{Loaded, after_mtio, tape_mtio, device_step, with_loaded, tape_step}
 use Rattle.rules.specs.Answer.{Kept, Lent, answered, is_close, verdict, outcome, request_in, Done, tape_part, with_tape}
 use Rattle.rules.specs.Order.{Call}
 use Rattle.rules.proofs.JudgeLaws.{accepts, accepts_map, carried}

@@ -37,7 +37,8 @@ use Rattle.changer_elements.specs.Move.{is_movable, is_held, judge_move, move_me
 use Rattle.changer_elements.specs.Status.{type_of, allocation, asked_by, read_status, is_asked, those, reported, be16, be24, flags_of, descriptor, descriptors, is_type, of_type, page_of, pages, first_of, status_of, status_data}
 use Rattle.rules.specs.ScsiService.{changer0, scsi_open, scsi_clear, scsi_state, sense_length, checks, moves, reports, run_cdb, scsi_cdb, scsi_step, status_shown, cdb_shown, scsi_shown, moves_medium}
 use Rattle.rules.specs.Order.{range_of, service_of, is_move, route_of}
-use Rattle.rules.specs.TapeService.{tape0, tape_close, tape_open, is_refusal, protects, after_mtio, tape_state, tape_mtio, device_step, tape_step, mover_part_step}
+use Rattle.tape_ops.specs.Answers.{is_refusal}
+use Rattle.rules.specs.TapeService.{tape0, tape_close, tape_open, protects, after_mtio, tape_state, tape_mtio, device_step, tape_step, mover_part_step}
 use Rattle.rules_moves.specs.Cases.{words_bytes, wire, wide, run_line, run_case, kept_after, no_variables, begins, notices, expect, streamed}
 use Rattle.rules_parts.specs.Parts.{closed_tape}
 use Rattle.rules_moves.specs.RecoverCases.{small}

@@ -25,7 +25,8 @@ use Rattle.rules.specs.Judge.{judge, onto}
 use Rattle.rules.specs.Addresses.{listening}
 use Rattle.rules.specs.Connection.{connect_open, connect_step}
 use Rattle.rules.specs.MoverService.{offset_wrong, mover_listen, busy, elsewhere, set_window, set_size, mover_step}
-use Rattle.rules.specs.TapeService.{tape0, tape_open, tape_close, is_refusal, protects, after_mtio, tape_state, tape_mtio, tape_write, tape_read, device_step, tape_step, mover_part_step}
+use Rattle.tape_ops.specs.Answers.{is_refusal}
+use Rattle.rules.specs.TapeService.{tape0, tape_open, tape_close, protects, after_mtio, tape_state, tape_mtio, tape_write, tape_read, device_step, tape_step, mover_part_step}
 use Rattle.rules.specs.Relation.{data_wrong, numbers_wrong, window_wrong, start_wrong, hold_wrong, strays, resume_wrong, place_wrong}
 use Rattle.rules.specs.Relation.{origin_wrong, mover_wrong, same_flag, drive_wrong, slots_wrong, keeps}
 use Rattle.rules.specs.Answer.{guarded, room_of, noticed, outcome, needs_login, is_locked, verdict, is_unread, refusing, settled, is_close, judged, requested, answered}

@@ -31,7 +31,8 @@ use Rattle.rules_parts.specs.Parts.{window_end, is_past_top, length_wrong, told_
 use Rattle.rules.specs.Relation.{data_wrong, numbers_wrong, window_wrong, start_wrong, hold_wrong, strays, resume_wrong, place_wrong}
 use Rattle.rules.specs.Relation.{origin_wrong, mover_wrong, same_flag, drive_wrong, slots_wrong, keeps}
 use Rattle.changer_elements.specs.Slots.{named, is_again, some_again, names_none_twice}
-use Rattle.rules.specs.TapeService.{tape0, tape_open, is_refusal, protects, after_mtio, tape_state, tape_mtio, device_step, tape_step, mover_part_step}
+use Rattle.tape_ops.specs.Answers.{is_refusal}
+use Rattle.rules.specs.TapeService.{tape0, tape_open, protects, after_mtio, tape_state, tape_mtio, device_step, tape_step, mover_part_step}
 use Rattle.rules_moves.specs.Cases.{words_bytes, wire, wide, run_line, notices, expect, streamed}
 use Rattle.rules_moves.specs.Events.{moved_to_tape, moved_from_tape, method_ended, connection_made, connection_lost}
 use Rattle.rules_moves.specs.RecoverCases.{recover_cases, RecoverCasesHold}
