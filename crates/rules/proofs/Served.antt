@@ -30,10 +30,15 @@ unfolding choose
 passed_by ts us o n h t = rw (judge_first ts us o n, ← h) t
 
 -- a test that a request has of its own, behind those
-pub last_applies : {A : Type 0} {b : Bool} {e : ℕ} (o : Outcome A) → b ≡ true → refuse e ≡ judge (test b e ∷ []) o
+pub applies : {A : Type 0} {b : Bool} {e : ℕ} (ts : List Test) (o : Outcome A) → b ≡ true → refuse e ≡ judge (test b e ∷ ts) o
 unfolding judge choose
-last_applies o h = rw h
+applies ts o h = rw h
 
-pub last_passed : {A : Type 0} {b : Bool} (e : ℕ) {r o : Outcome A} → b ≡ false → r ≡ o → r ≡ judge (test b e ∷ []) o
+pub passes : {A : Type 0} {b : Bool} (e : ℕ) (ts : List Test) {r : Outcome A} (o : Outcome A) → b ≡ false → r ≡ judge ts o → r ≡ judge (test b e ∷ ts) o
 unfolding judge choose
-last_passed e h t = rw h t
+passes e ts o h t = rw h t
+
+-- behind the last test
+pub judged : {A : Type 0} {r o : Outcome A} → r ≡ o → r ≡ judge [] o
+unfolding judge
+judged t = t

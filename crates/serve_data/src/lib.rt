@@ -10,19 +10,15 @@ ghost use Rattle.wire_requests.specs.declared.Request.TheVariants as Request;
 ghost use Rattle.rules.specs.DataService.{dump, pairs_of, has_run, data_state, data_listen, data_start, data_environment, data_stop, data_step, variables_after};
 ghost use Rattle.serve_data.specs.Done.{Tells};
 
+use codes::NdmpError;
+use rules::{Accepted, Served};
 use rules_parts::types::Data;
 use wire_layouts::Text;
 use wire_replies::{DataView, Reply};
 use wire_requests::{DataRequest, Pairs};
 
-// A refusal, or a reply and the data end after it.
-#[derive(Clone, Copy)]
-pub enum DataDone {
-    Refuse(u32),
-    Accept(Reply, Data),
-}
-
-fn get_state(d: Data) -> DataDone
+#[tactic(auto, unfolding(rules::specs::Judge::judge, rules::specs::DataService::data_state))]
+fn get_state(d: Data) -> Served<Data>
     ensures { (v : List ℕ) → Tells (data_state d) result v v v }
 {
     let view = DataView {
@@ -32,34 +28,29 @@ fn get_state(d: Data) -> DataDone
         address: d.address,
         processed: d.processed,
     };
-    DataDone::Accept(Reply::DataState(view), d)
+    Ok(Accepted {
+        reply: Reply::DataState(view),
+        next: d,
+    })
 }
 
-fn listen(d: Data, address: u32, list: &[u8]) -> DataDone
+#[tactic(auto, unfolding(xdr::specs::Choose::choose, rules::specs::Judge::judge, rules::specs::DataService::data_listen))]
+fn listen(d: Data, address: u32, list: &[u8]) -> Served<Data>
     ensures { (v : List ℕ) → Tells (data_listen d address list.now) result v v v }
 {
     if d.state != Data::IDLE {
-        return DataDone::Refuse(codes::ILLEGAL_STATE);
+        return Err(NdmpError::IllegalState);
     }
     if serve_address::is_listen_wrong(address, list) {
-        return DataDone::Refuse(codes::ILLEGAL_ARGUMENTS);
+        return Err(NdmpError::IllegalArguments);
     }
     let reply = serve_address::listening(address);
     let next = d.goes(Data::LISTEN, address);
-    DataDone::Accept(reply, next)
-}
-
-// Whether the method of a start request is `dump`.
-fn is_dump(body: &[u8], name: Text) -> bool
-    requires { Within body.now name }
-    ensures { result ≡ same_bytes (bytes_at body.now name) dump }
-{
-    let start = name.start;
-    let end = start + name.len;
-    xdr::same(&body[start..end], b"dump")
+    Ok(Accepted { reply, next })
 }
 
 // A start: it is judged first, and its pairs are kept where it is accepted.
+#[tactic(auto, unfolding(xdr::specs::Choose::choose, rules::specs::Judge::judge, rules::specs::DataService::data_start, rules::specs::DataService::dump))]
 fn start(
     d: Data,
     operation: u32,
@@ -67,64 +58,78 @@ fn start(
     name: Text,
     pairs: Pairs,
     variables: &mut [u8],
-) -> DataDone
+) -> Served<Data>
     requires { Within body.now name × (length variables.old ≡ store_length) }
     ensures { Tells (data_start d operation (same_bytes (bytes_at body.now name) dump) (fits (pairs_of body.now pairs))) result (storing (pairs_of body.now pairs) variables.old) variables.old variables.new }
 {
-    let named = is_dump(body, name);
-    let fitting = wire_storing::fit(body, pairs.start, pairs.count);
     if d.state != Data::CONNECTED {
-        return DataDone::Refuse(codes::ILLEGAL_STATE);
+        return Err(NdmpError::IllegalState);
     }
-    if !named {
-        return DataDone::Refuse(codes::ILLEGAL_ARGUMENTS);
+    if !xdr::same(name.of(body), b"dump") {
+        return Err(NdmpError::IllegalArguments);
     }
-    if !fitting {
-        return DataDone::Refuse(codes::NO_MEMORY);
+    if !wire_storing::fit(body, pairs.start, pairs.count) {
+        return Err(NdmpError::NoMemory);
     }
     wire_storing::keep(variables, body, pairs.start, pairs.count);
     let next = d.starts(operation);
-    DataDone::Accept(Reply::Plain, next)
+    Ok(Accepted {
+        reply: Reply::Plain,
+        next,
+    })
 }
 
 // Whether the data end runs or ran.
+#[tactic(auto, unfolding(xdr::specs::Choose::choose, rules::specs::DataService::has_run))]
 fn has_run(state: u32) -> bool
     ensures { result ≡ has_run state }
 {
-    if state == Data::ACTIVE {
-        return true;
-    }
-    state == Data::HALTED
+    state == Data::ACTIVE || state == Data::HALTED
 }
 
 // The environment: the reply shows the store, whoever wrote it, where it is laid out as one.
-fn get_environment(d: Data, variables: &[u8]) -> DataDone
+#[tactic(auto, unfolding(xdr::specs::Choose::choose, rules::specs::Judge::judge, rules::specs::DataService::data_environment))]
+fn get_environment(d: Data, variables: &[u8]) -> Served<Data>
     ensures { Tells (data_environment d variables.now) result variables.now variables.now variables.now }
 {
     if !has_run(d.state) {
-        return DataDone::Refuse(codes::ILLEGAL_STATE);
+        return Err(NdmpError::IllegalState);
     }
     if !wire_storing::is_laid(variables) {
-        return DataDone::Refuse(codes::IO_ERROR);
+        return Err(NdmpError::IoError);
     }
-    DataDone::Accept(Reply::Environment, d)
+    Ok(Accepted {
+        reply: Reply::Environment,
+        next: d,
+    })
 }
 
 // A stop: its end's variables are reset, those of the environment too.
-fn stop(d: Data, variables: &mut [u8]) -> DataDone
+#[tactic(auto, unfolding(xdr::specs::Choose::choose, rules::specs::Judge::judge, rules::specs::DataService::data_stop))]
+fn stop(d: Data, variables: &mut [u8]) -> Served<Data>
     requires { length variables.old ≡ store_length }
     ensures { Tells (data_stop d) result (emptied variables.old) variables.old variables.new }
 {
     if d.state != Data::HALTED {
-        return DataDone::Refuse(codes::ILLEGAL_STATE);
+        return Err(NdmpError::IllegalState);
     }
     wire_storing::empty(variables);
     let next = Data::rests();
-    DataDone::Accept(Reply::Plain, next)
+    Ok(Accepted {
+        reply: Reply::Plain,
+        next,
+    })
 }
 
 // A request of the data interface, the list that a listen by TCP is lent, and the store.
-pub fn serve(d: Data, q: DataRequest, body: &[u8], list: &[u8], variables: &mut [u8]) -> DataDone
+#[tactic(auto, unfolding(rules::specs::DataService::data_step, rules::specs::DataService::variables_after, wire_requests::specs::Within::texts_within))]
+pub fn serve(
+    d: Data,
+    q: DataRequest,
+    body: &[u8],
+    list: &[u8],
+    variables: &mut [u8],
+) -> Served<Data>
     requires { texts_within body.now (Request.Data q) × (length variables.old ≡ store_length) }
     ensures { Tells (data_step d q body.now list.now variables.old) result (variables_after q body.now variables.old) variables.old variables.new }
 {

@@ -1,19 +1,16 @@
-use Rattle.serve_tape.proofs.Leaving.{refused}
+use mathlib.Core.List.{[]}
+use mathlib.Core.Path.{refl, sym}
+use Rattle.std.proofs.lemmas.Result.{err_from_is_err_and}
 use Rattle.rules.specs.TapeService.{tape_close}
-use Rattle.rules.specs.Judge.{judge}
-use mathlib.Core.Path.{sym}
-use Rattle.xdr.proofs.Tests.{picking}
+use Rattle.rules.proofs.Served.{refused_by, passed_by, judged}
 use Rattle.serve_tape.proofs.close_tape.Goals as goal
 
--- Each test that applies is the list's; where none does the tape is closed.
-pub returns-then-not-t : goal.returns-then-not-t
-unfolding tape_close judge
-returns-then-not-t c = λ l. refused (search picking depth 8)
-
-pub returns-then-holds_tape : goal.returns-then-holds_tape
-unfolding tape_close judge
-returns-then-holds_tape c = λ l. refused (search picking depth 8)
+pub returns-in_err-judge_held : goal.returns-in_err-judge_held
+unfolding tape_close
+returns-in_err-judge_held c =
+    let p = err_from_is_err_and c.from_residual.result c.from_residual.ensures.1 in
+    λ l. rw (p.1, p.2) (sym (refused_by _ [] _ _ refl c.in_err-judge_held.ensures), refl)
 
 pub returns : goal.returns
-unfolding tape_close judge
-returns c = λ l. sym (search picking depth 10)
+unfolding tape_close
+returns c = λ l. sym (passed_by _ [] _ refl c.in_ok-judge_held.ensures (judged refl))

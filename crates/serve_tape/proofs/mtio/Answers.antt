@@ -1,33 +1,32 @@
-use Rattle.tape_spacing.specs.declared.Spaced.{Spaced}
-use Rattle.serve_tape.proofs.Leaving.{refused, left}
-use Rattle.tape_ops.proofs.Promises.{promises}
+use mathlib.Core.Path.{refl, sym}
+use Rattle.std.proofs.lemmas.Result.{err_from_is_err_and}
+use Rattle.xdr.proofs.Tests.{asked}
 use Rattle.rules.specs.TapeService.{tape_mtio}
-use Rattle.rules.specs.Judge.{judge}
-use mathlib.Core.Path.{sym}
-use Rattle.xdr.proofs.Tests.{picking}
+use Rattle.rules.proofs.Served.{refused_by, passed_by, applies, passes, judged}
 use Rattle.serve_tape.proofs.mtio.Goals as goal
 
--- Each test on the way is that of the definition; where the cartridge refuses, its law says that the image is left.
-pub returns-then-not-t : goal.returns-then-not-t
-unfolding tape_mtio judge
-returns-then-not-t c = refused (search picking depth 8)
-
-pub returns-then-holds_tape : goal.returns-then-holds_tape
-unfolding tape_mtio judge
-returns-then-holds_tape c = refused (search picking depth 8)
+pub returns-in_err-judge_held : goal.returns-in_err-judge_held
+unfolding tape_mtio
+returns-in_err-judge_held c =
+    let p = err_from_is_err_and c.from_residual.result c.from_residual.ensures.1 in
+    rw (p.1, p.2) (sym (refused_by _ _ _ _ refl c.in_err-judge_held.ensures), refl)
 
 pub returns-then-is_protected : goal.returns-then-is_protected
-unfolding tape_mtio judge
-returns-then-is_protected c = refused (search picking depth 10)
+unfolding tape_mtio
+returns-then-is_protected c =
+    (sym (passed_by _ _ _ refl c.in_ok-judge_held.ensures (applies _ _ (asked c.is_protected.ensures c.if-is_protected.true))), refl)
 
-pub returns-then-is_refusal : goal.returns-then-is_refusal
-unfolding tape_mtio judge
-returns-then-is_refusal c = let a = c.args in
-    let e = c.mtio-s.ensures in
-    let leaves = (promises.leave a.image.now a.t.position).mtio a.op a.times in
-    (rw (← e.is) (sym (search picking depth 14)), left (λ (s : Spaced). s.error) _ _ _ _ _ e c.is_refusal.ensures c.if-is_refusal.true leaves)
+pub returns-in_err-s : goal.returns-in_err-s
+unfolding tape_mtio
+returns-in_err-s c =
+    let p = err_from_is_err_and c.from_residual-in_err-s.result c.from_residual-in_err-s.ensures.1 in
+    let e = c.in_err-s.ensures in
+    rw (p.1, p.2, ← e.0.is)
+    (sym (passed_by _ _ _ refl c.in_ok-judge_held.ensures (passes _ _ _ (asked c.is_protected.ensures c.if-is_protected.false) (applies _ _ e.2))), e.1)
 
 pub returns : goal.returns
-unfolding tape_mtio judge
-returns c = let e = c.mtio-s.ensures in
-    rw (c.after_mtio-next.ensures, ← e.is, e.image) (sym (search picking depth 14))
+unfolding tape_mtio
+returns c =
+    let e = c.in_ok-s.ensures in
+    rw (c.after_mtio-next.ensures, ← e.0.is, e.0.image)
+    (sym (passed_by _ _ _ refl c.in_ok-judge_held.ensures (passes _ _ _ (asked c.is_protected.ensures c.if-is_protected.false) (passes _ _ _ e.1 (judged refl)))))

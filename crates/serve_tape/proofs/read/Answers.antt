@@ -1,23 +1,26 @@
-use Rattle.serve_tape.proofs.Leaving.{refused}
+use mathlib.Core.Path.{refl, sym}
+use Rattle.std.proofs.lemmas.Result.{err_from_is_err_and}
 use Rattle.rules.specs.TapeService.{tape_read}
-use Rattle.rules.specs.Judge.{judge}
-use mathlib.Core.Path.{sym}
-use Rattle.xdr.proofs.Tests.{picking}
+use Rattle.rules.proofs.Served.{refused_by, passed_by, applies, passes, judged}
 use Rattle.serve_tape.proofs.read.Goals as goal
 
--- Each test that applies is the list's, the cartridge's own number last; where none does the bytes are its part.
-pub returns-then-not-t : goal.returns-then-not-t
-unfolding tape_read judge
-returns-then-not-t c = refused (search picking depth 8)
+pub returns-in_err-judge_held : goal.returns-in_err-judge_held
+unfolding tape_read
+returns-in_err-judge_held c =
+    let p = err_from_is_err_and c.from_residual.result c.from_residual.ensures.1 in
+    rw (p.1, p.2) (sym (refused_by _ _ _ _ refl c.in_err-judge_held.ensures), refl)
 
-pub returns-then-holds_tape : goal.returns-then-holds_tape
-unfolding tape_read judge
-returns-then-holds_tape c = refused (search picking depth 8)
-
-pub returns-then-is_refusal : goal.returns-then-is_refusal
-unfolding tape_read judge
-returns-then-is_refusal c = rw (← c.read-s.ensures) (refused (search picking depth 14))
+pub returns-in_err-s : goal.returns-in_err-s
+unfolding tape_read
+returns-in_err-s c =
+    let p = err_from_is_err_and c.from_residual-in_err-s.result c.from_residual-in_err-s.ensures.1 in
+    let e = c.in_err-s.ensures in
+    rw (p.1, p.2, ← e.0.is)
+    (sym (passed_by _ _ _ refl c.in_ok-judge_held.ensures (passes _ _ _ (refl) (applies _ _ e.2))), refl)
 
 pub returns : goal.returns
-unfolding tape_read judge
-returns c = rw (← c.read-s.ensures, c.moved_to-next.ensures) (sym (search picking depth 14))
+unfolding tape_read
+returns c =
+    let e = c.in_ok-s.ensures in
+    rw (c.moved_to-next.ensures, ← e.0.is, e.0.image)
+    (sym (passed_by _ _ _ refl c.in_ok-judge_held.ensures (passes _ _ _ (refl) (passes _ _ _ e.1 (judged refl)))))

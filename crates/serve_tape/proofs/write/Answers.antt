@@ -1,33 +1,30 @@
-use Rattle.tape_ops.specs.declared.Wrote.{Wrote}
-use Rattle.serve_tape.proofs.Leaving.{refused, left}
-use Rattle.tape_ops.proofs.Promises.{promises}
+use mathlib.Core.Path.{refl, sym}
+use Rattle.std.proofs.lemmas.Result.{err_from_is_err_and}
 use Rattle.rules.specs.TapeService.{tape_write}
-use Rattle.rules.specs.Judge.{judge}
-use mathlib.Core.Path.{sym}
-use Rattle.xdr.proofs.Tests.{picking}
+use Rattle.rules.proofs.Served.{refused_by, passed_by, applies, passes, judged}
 use Rattle.serve_tape.proofs.write.Goals as goal
 
--- Each test on the way is that of the definition; where the cartridge refuses, its law says that the image is left.
+pub returns-in_err-judge_held : goal.returns-in_err-judge_held
+unfolding tape_write
+returns-in_err-judge_held c =
+    let p = err_from_is_err_and c.from_residual.result c.from_residual.ensures.1 in
+    rw (p.1, p.2) (sym (refused_by _ _ _ _ refl c.in_err-judge_held.ensures), refl)
+
 pub returns-then-not-t : goal.returns-then-not-t
-unfolding tape_write judge
-returns-then-not-t c = refused (search picking depth 8)
+unfolding tape_write
+returns-then-not-t c = (sym (passed_by _ _ _ refl c.in_ok-judge_held.ensures (applies _ _ c.if-not-t.true)), refl)
 
-pub returns-then-holds_tape : goal.returns-then-holds_tape
-unfolding tape_write judge
-returns-then-holds_tape c = refused (search picking depth 8)
-
-pub returns-then-not-t-2 : goal.returns-then-not-t-2
-unfolding tape_write judge
-returns-then-not-t-2 c = refused (search picking depth 10)
-
-pub returns-then-is_refusal : goal.returns-then-is_refusal
-unfolding tape_write judge
-returns-then-is_refusal c = let a = c.args in
-    let e = c.write-s.ensures in
-    let leaves = (promises.leave a.image.now a.t.position).write a.bytes.now in
-    (rw (← e.is) (sym (search picking depth 14)), left (λ (s : Wrote). s.error) _ _ _ _ _ e c.is_refusal.ensures c.if-is_refusal.true leaves)
+pub returns-in_err-s : goal.returns-in_err-s
+unfolding tape_write
+returns-in_err-s c =
+    let p = err_from_is_err_and c.from_residual-in_err-s.result c.from_residual-in_err-s.ensures.1 in
+    let e = c.in_err-s.ensures in
+    rw (p.1, p.2, ← e.0.is)
+    (sym (passed_by _ _ _ refl c.in_ok-judge_held.ensures (passes _ _ _ c.if-not-t.false (applies _ _ e.2))), e.1)
 
 pub returns : goal.returns
-unfolding tape_write judge
-returns c = let e = c.write-s.ensures in
-    rw (c.moved_to-next.ensures, ← e.is, e.image) (sym (search picking depth 14))
+unfolding tape_write
+returns c =
+    let e = c.in_ok-s.ensures in
+    rw (c.moved_to-next.ensures, ← e.0.is, e.0.image)
+    (sym (passed_by _ _ _ refl c.in_ok-judge_held.ensures (passes _ _ _ c.if-not-t.false (passes _ _ _ e.1 (judged refl)))))

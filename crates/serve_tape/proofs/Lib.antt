@@ -1,2 +1,0 @@
--- The laws of what a refusal leaves.
-pub mod Leaving
