@@ -17,9 +17,8 @@ ghost use Rattle.rules_moves.specs.SessionLeft.{SessionLeft};
 use rules_parts::types::{Data, Mover, Tape};
 
 // What a move comes to: the bytes taken or handed over; why the data end and the mover halted and why the mover paused, each 0 where it
-// did not; and the parts of the session after it.
-#[repr(C)]
-#[derive(Clone, Copy)]
+// did not; and the parts of the session after it. The reasons are NDMP's, in which 0 is none, as in the session that C hands in.
+#[derive(Clone, Copy, Debug, PartialEq, Eq)]
 pub struct Move {
     pub count: usize,
     pub dwhy: u32,
@@ -31,7 +30,7 @@ pub struct Move {
 }
 
 // What a walk over the tape's entries comes to: the record that is sought, the position after a mark, or the end.
-#[derive(Clone, Copy)]
+#[derive(Clone, Copy, Debug, PartialEq, Eq)]
 pub enum Found {
     Target(usize),
     Mark(usize),

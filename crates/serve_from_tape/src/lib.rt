@@ -10,80 +10,79 @@ ghost use Rattle.serve_from_tape.specs.Facts.{Seekable};
 
 use rules_moves::{Found, Move};
 use rules_parts::types::{Data, Mover, Tape};
+use serve_moves::Parts;
 
 // Hands over what is asked for of record i.
-fn read_record(i: usize, d: Data, m: Mover, t: Tape, image: &[u8], dest: &mut [u8]) -> Move
-    requires { Seekable m image.now × (m.offset ≤ m.seek) × (i < count image.now) }
-    ensures { HandedAs (reading i d m t image.now dest.old) result dest.new }
+fn read_record(i: usize, p: Parts, image: &[u8], dest: &mut [u8]) -> Move
+    requires { Seekable p.mover image.now × (p.mover.offset ≤ p.mover.seek) × (i < count image.now) }
+    ensures { HandedAs (reading i p.source p.mover p.tape image.now dest.old) result dest.new }
 {
-    let size = m.size as usize;
     let len = tape_image::entry_len(image, i);
-    if len != size {
-        return serve_moves::halt_with(Data::CONNECT_ERROR, Mover::MEDIA_ERROR, d, m, t);
+    if len != p.mover.size as usize {
+        return p.halt(Data::CONNECT_ERROR, Mover::MEDIA_ERROR);
     }
-    let into = serve_seeking::into_record(m);
-    let n = serve_seeking::amount(m, dest.len());
+    let into = serve_seeking::into_record(p.mover);
+    let n = serve_seeking::amount(p.mover, dest.len());
     let begin = serve_seeking::record_start(image, i) + into;
     let end = begin + n;
     xdr::copy_bytes(dest, 0, &image[begin..end]);
-    serve_moves::hand_over(n, i, d, m, t)
+    p.hand_over(n, i)
 }
 
 // The mover pauses, and the tape stands at a position.
-fn pause_there(why: u32, position: usize, d: Data, m: Mover, t: Tape) -> Move
-    ensures { result ≡ pauses why d m (moved_to position t) }
+fn pause_there(why: u32, position: usize, p: Parts) -> Move
+    ensures { result ≡ pauses why p.source p.mover (moved_to position p.tape) }
 {
-    let tape = Tape {
-        opened: t.opened,
-        writable: t.writable,
-        position,
+    let there = Parts {
+        tape: Tape {
+            position,
+            ..p.tape
+        },
+        ..p
     };
-    serve_moves::pause_at(why, d, m, tape)
+    there.pause(why)
 }
 
 // A move after its tests: the walk, and what it comes to.
-fn walk_back(d: Data, m: Mover, t: Tape, image: &[u8], dest: &mut [u8]) -> Move
-    requires { Seekable m image.now × (m.offset ≤ m.seek) }
-    ensures { HandedAs (on_found (sought m image.now) d m t image.now dest.old) result dest.new }
+fn walk_back(p: Parts, image: &[u8], dest: &mut [u8]) -> Move
+    requires { Seekable p.mover image.now × (p.mover.offset ≤ p.mover.seek) }
+    ensures { HandedAs (on_found (sought p.mover image.now) p.source p.mover p.tape image.now dest.old) result dest.new }
 {
+    let m = p.mover;
     let n = tape_image::count(image);
     let k = (m.seek - m.offset) / (m.size as u64);
-    let found = serve_seeking::find_record(image, n, m.origin, k);
-    match found {
-        Found::Target(i) => read_record(i, d, m, t, image, dest),
-        Found::Mark(j) => pause_there(Mover::END_OF_FILE, j, d, m, t),
-        Found::End => pause_there(Mover::END_OF_MEDIUM, n, d, m, t),
+    match serve_seeking::find_record(image, n, m.origin, k) {
+        Found::Target(i) => read_record(i, p, image, dest),
+        Found::Mark(j) => pause_there(Mover::END_OF_FILE, j, p),
+        Found::End => pause_there(Mover::END_OF_MEDIUM, n, p),
     }
 }
 
 // The test of the seek position, and the walk.
-fn seek_back(d: Data, m: Mover, t: Tape, image: &[u8], dest: &mut [u8]) -> Move
-    requires { Seekable m image.now }
-    ensures { HandedAs (seeking d m t image.now dest.old) result dest.new }
+fn seek_back(p: Parts, image: &[u8], dest: &mut [u8]) -> Move
+    requires { Seekable p.mover image.now }
+    ensures { HandedAs (seeking p.source p.mover p.tape image.now dest.old) result dest.new }
 {
+    let m = p.mover;
     if serve_seeking::is_outside(m.seek, m.offset, m.length) {
-        return serve_moves::pause_at(Mover::SEEK, d, m, t);
+        return p.pause(Mover::SEEK);
     }
-    walk_back(d, m, t, image, dest)
+    walk_back(p, image, dest)
 }
 
 // One move from tape, of a session that keeps the relation.
-pub fn from_tape(d: Data, m: Mover, t: Tape, image: &[u8], dest: &mut [u8]) -> Move
-    requires { mover_wrong m t ≡ false }
-    ensures { HandedAs (from_tape d m t image.now dest.old) result dest.new }
+pub fn from_tape(p: Parts, image: &[u8], dest: &mut [u8]) -> Move
+    requires { mover_wrong p.mover p.tape ≡ false }
+    ensures { HandedAs (from_tape p.source p.mover p.tape image.now dest.old) result dest.new }
 {
-    if serve_moves::is_idle(Mover::FROM_TAPE, Data::RECOVER, d, m) {
-        return serve_moves::no_move(d, m, t);
+    if p.is_idle(Mover::FROM_TAPE, Data::RECOVER) {
+        return p.stay();
     }
-    let position = t.position;
-    if tape_sound::is_faulty(image, position) {
-        return serve_moves::halt_with(Data::CONNECT_ERROR, Mover::MEDIA_ERROR, d, m, t);
+    if tape_sound::is_faulty(image, p.tape.position) {
+        return p.halt(Data::CONNECT_ERROR, Mover::MEDIA_ERROR);
     }
-    if m.left == 0 {
-        return serve_moves::no_move(d, m, t);
+    if p.mover.left == 0 || dest.is_empty() {
+        return p.stay();
     }
-    if dest.len() == 0 {
-        return serve_moves::no_move(d, m, t);
-    }
-    seek_back(d, m, t, image, dest)
+    seek_back(p, image, dest)
 }

@@ -13,18 +13,12 @@ use rules_moves::Found;
 use rules_parts::types::Mover;
 
 // Whether the seek position is outside the window.
+#[tactic(auto, unfolding(rules_moves::specs::Moves::outside, xdr::specs::Choose::choose))]
 pub fn is_outside(seek: u64, offset: u64, length: u64) -> bool
     requires { window_end offset length ≤ top }
     ensures { result ≡ outside seek offset length }
 {
-    let end = Mover::window_end(offset, length);
-    if seek < offset {
-        return true;
-    }
-    if seek < end {
-        return false;
-    }
-    true
+    seek < offset || Mover::window_end(offset, length) <= seek
 }
 
 // Walks from an origin over k records to the one after them, in a table of n entries.
@@ -32,24 +26,17 @@ pub fn find_record(image: &[u8], n: usize, origin: usize, k: u64) -> Found
     requires { Table image.now n × (origin ≤ n) }
     ensures { result ≡ seek_from image.now (n - origin) origin k }
 {
-    let mut at = origin;
     let mut left = k;
-    let mut rest = n - origin;
-    loop {
-        if rest == 0 {
-            break Found::End;
-        }
-        let len = tape_image::entry_len(image, at);
-        if len == 0 {
-            break Found::Mark(at + 1);
+    for at in origin..n {
+        if tape_image::entry_len(image, at) == 0 {
+            return Found::Mark(at + 1);
         }
         if left == 0 {
-            break Found::Target(at);
+            return Found::Target(at);
         }
-        at += 1;
         left -= 1;
-        rest -= 1;
     }
+    Found::End
 }
 
 // Where the bytes of record i begin.
@@ -69,13 +56,11 @@ pub fn into_record(m: Mover) -> usize
 }
 
 // How much is handed over where there is room for so much.
+#[tactic(auto, unfolding(rules_moves::specs::Moves::amount, xdr::specs::Choose::least, xdr::specs::Choose::choose))]
 pub fn amount(m: Mover, room: usize) -> usize
     requires { (1 ≤ m.size) × (m.offset ≤ m.seek) }
     ensures { Amount m room result }
 {
-    let size = m.size as usize;
-    let into = into_record(m);
-    let rest = size - into;
-    let some = xdr::lesser_len(m.left as usize, rest);
-    xdr::lesser_len(some, room)
+    let rest = m.size as usize - into_record(m);
+    (m.left as usize).min(rest).min(room)
 }

@@ -1,4 +1,0 @@
-use Rattle.serve_moves.proofs.halt_both.Goals as goal
-
-pub returns : goal.returns
-returns c = cc

@@ -1,4 +1,0 @@
-use Rattle.serve_moves.proofs.pause_at.Goals as goal
-
-pub returns : goal.returns
-returns c = cc
