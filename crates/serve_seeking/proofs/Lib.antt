@@ -1,3 +1,2 @@
--- `Walk` has the walk to a record, `Window` the seek position in it or outside.
+-- `Walk` has the walk to a record, case by case.
 pub mod Walk
-pub mod Window

@@ -6,12 +6,20 @@ ghost use Rattle.tape_ops.specs.Step.{Told};
 ghost use Rattle.rules_parts.specs.Names.{top};
 ghost use Rattle.rules_parts.specs.Parts.{window_end};
 ghost use Rattle.rules.specs.Relation.{mover_wrong};
-ghost use Rattle.rules_moves.specs.Moves.{window_used, filling, to_tape};
+ghost use Rattle.rules_moves.specs.Moves.{scant, window_used, filling, to_tape};
 ghost use Rattle.serve_to_tape.specs.Fillable.{Fillable};
 
 use rules_moves::Move;
 use rules_parts::types::{Data, Mover};
 use serve_moves::Parts;
+
+// The stream part is less than a record, and more is to come.
+#[tactic(auto, unfolding(rules_moves::specs::Moves::scant, xdr::specs::Choose::choose))]
+fn is_scant(last: bool, n: usize, size: usize) -> bool
+    ensures { result ≡ scant last n size }
+{
+    !last && n < size
+}
 
 // The window is used up: its end is reached, or a whole record more would pass it.
 #[tactic(auto, unfolding(rules_moves::specs::Moves::window_used, xdr::specs::Choose::choose))]
@@ -24,6 +32,7 @@ fn is_used(m: Mover) -> bool
 }
 
 // Rules (4) to (7), with the tape at a position of a sound image.
+#[tactic(auto, unfolding(rules_moves::specs::Moves::filling, xdr::specs::Choose::choose))]
 fn fill_tape(p: Parts, image: &mut [u8], stream: &[u8], last: bool) -> Move
     requires { Fillable p.mover image.old p.tape.position }
     ensures { Told (filling p.source p.mover p.tape image.old stream.now last) result image.new }
@@ -33,7 +42,7 @@ fn fill_tape(p: Parts, image: &mut [u8], stream: &[u8], last: bool) -> Move
     if is_used(p.mover) {
         return p.pause(Mover::END_OF_WINDOW);
     }
-    if !last && stream.len() < size {
+    if is_scant(last, stream.len(), size) {
         return p.stay();
     }
     if !tape_writing::write_filled(image, p.tape.position, &stream[..part], size) {
@@ -43,6 +52,7 @@ fn fill_tape(p: Parts, image: &mut [u8], stream: &[u8], last: bool) -> Move
 }
 
 // One move to tape.
+#[tactic(auto, unfolding(rules_moves::specs::Moves::to_tape, rules_moves::specs::Moves::stream_ends, xdr::specs::Choose::choose))]
 pub fn to_tape(p: Parts, image: &mut [u8], stream: &[u8], last: bool) -> Move
     requires { mover_wrong p.mover p.tape ≡ false }
     ensures { Told (to_tape p.source p.mover p.tape image.old stream.now last) result image.new }
