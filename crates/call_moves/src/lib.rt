@@ -11,6 +11,7 @@ ghost use Rattle.call_moves.specs.Told.{MoveTold, event};
 
 use rules_moves::Move;
 use rules_parts::types::{Answer, Moved, Session};
+use serve_moves::Parts;
 use wire_replies::Notice;
 
 // The session with a move's parts, and the notices of what it came to: data first, mover second.
@@ -47,24 +48,21 @@ fn tell(s: Session, mv: Move, time: u32, out: &mut [u8]) -> Answer
 pub fn end_method(s: Session, ok: bool, time: u32, out: &mut [u8]) -> Answer
     ensures { (image variables : List ℕ) → CallTold (method_ended (held s image variables) (stamped time (length out.old)) ok) result image variables out.old out.new }
 {
-    let mv = serve_moves::method_end(ok, s.source, s.mover, s.tape);
-    tell(s, mv, time, out)
+    tell(s, Parts::of(s).method_end(ok), time, out)
 }
 
 // A connection by TCP was made, with the mover or else with the data end.
 pub fn made(s: Session, mover: bool, time: u32, out: &mut [u8]) -> Answer
     ensures { (image variables : List ℕ) → CallTold (connection_made (held s image variables) (stamped time (length out.old)) mover) result image variables out.old out.new }
 {
-    let mv = serve_moves::made_at(mover, s.source, s.mover, s.tape);
-    tell(s, mv, time, out)
+    tell(s, Parts::of(s).made_at(mover), time, out)
 }
 
 // A connection by TCP was lost, of the mover or else of the data end.
 pub fn lost(s: Session, mover: bool, time: u32, out: &mut [u8]) -> Answer
     ensures { (image variables : List ℕ) → CallTold (connection_lost (held s image variables) (stamped time (length out.old)) mover) result image variables out.old out.new }
 {
-    let mv = serve_moves::lost_at(mover, s.source, s.mover, s.tape);
-    tell(s, mv, time, out)
+    tell(s, Parts::of(s).lost_at(mover), time, out)
 }
 
 // Nothing is moved or sent, and nothing changes.
@@ -98,7 +96,7 @@ fn feed(s: Session, image: &mut [u8], stream: &[u8], last: bool, time: u32, out:
     requires { (keeps s ≡ true) × (least_room ≤ length out.old) }
     ensures { (variables : List ℕ) → MoveTold (feeding (held s image.old variables) (stamped time (length out.old)) stream.now last) result image.new variables [] out.old out.new }
 {
-    let mv = serve_to_tape::to_tape(s.source, s.mover, s.tape, image, stream, last);
+    let mv = serve_to_tape::to_tape(Parts::of(s), image, stream, last);
     report(s, mv, time, out)
 }
 
@@ -124,7 +122,7 @@ fn hand(s: Session, image: &[u8], dest: &mut [u8], time: u32, out: &mut [u8]) ->
     requires { (keeps s ≡ true) × (least_room ≤ length out.old) }
     ensures { (variables : List ℕ) → MoveTold (handing (held s image.now variables) (stamped time (length out.old)) dest.old) result image.now variables dest.new out.old out.new }
 {
-    let mv = serve_from_tape::from_tape(s.source, s.mover, s.tape, image, dest);
+    let mv = serve_from_tape::from_tape(Parts::of(s), image, dest);
     report(s, mv, time, out)
 }
 

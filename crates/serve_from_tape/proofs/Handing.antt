@@ -1,4 +1,4 @@
--- From the tests on the way to a `return` and from what callees give to what a move from tape says there. Assumes nothing.
+-- From what callees give to what a move from tape says of a record, and the facts that the tests leave. Assumes nothing.
 use Prim.Native.Nat.{ℕ, ◌+◌, ◌-◌, ◌≤◌, ◌<◌}
 use mathlib.Core.List.{List}
 use mathlib.Core.Bool.{Bool, true, false}
@@ -8,7 +8,7 @@ use lib.ListN.{length, take, drop}
 use borrow.Author.Tests.{ltb-false, eq-eqb, ne_eqb}
 use Rattle.xdr.specs.Choose.{choose}
 use Rattle.xdr.specs.Xdr.{overlay}
-use Rattle.xdr.proofs.Tests.{asked, tests, none_of}
+use Rattle.xdr.proofs.Tests.{none_of}
 use Rattle.tape_image.specs.Image.{count, entry_len, entry_start, entry_bytes, body_at, faulty}
 use Rattle.tape_image.proofs.Laws.{placed}
 use Rattle.tape_ops.proofs.Reading.{entry_part_lem}
@@ -26,34 +26,8 @@ use Rattle.rules_moves.specs.declared.Found.{Found}
 use Rattle.rules_moves.specs.Moves.{idle, outside, halts_with, hands, pauses, in_record, amount, sought, reading, on_found, Handing, untouched, HandedAs}
 use Rattle.serve_from_tape.specs.Facts.{Seekable}
 
--- ---- the rule set for the tests of a move from tape
-pub handed_if : {b : Bool} {x : Handing} (y : Handing) {r : Move} {l : List ℕ} → b ≡ true → HandedAs x r l → HandedAs (choose b x y) r l
-unfolding choose
-handed_if y h t = rw h t
-
-pub handed_else : {b : Bool} (x : Handing) {y : Handing} {r : Move} {l : List ℕ} → b ≡ false → HandedAs y r l → HandedAs (choose b x y) r l
-unfolding choose
-handed_else x h t = rw h t
-
-pub handed_same : {q r : Move} {l : List ℕ} → r ≡ q → HandedAs (untouched l q) r l
+handed_same : {q r : Move} {l : List ℕ} → r ≡ q → HandedAs (untouched l q) r l
 handed_same h = record { is = h; dest = refl }
-
-pub ruleset handing = (handed_if, handed_else, handed_same, asked, tests)
-
--- ---- what the walk came to
-module _ (d : Data) (m : Mover) (t : Tape) (l b : List ℕ) where
-  pub on_target : (i : ℕ) (r : Move) (b' : List ℕ) → sought m l ≡ Found.Target i → HandedAs (reading i d m t l b) r b'
-      → HandedAs (on_found (sought m l) d m t l b) r b'
-  unfolding on_found
-  on_target i r b' e h = rw e h
-
-  pub on_mark : (j : ℕ) (r : Move) → sought m l ≡ Found.Mark j → r ≡ pauses end_of_file d m (moved_to j t) → HandedAs (on_found (sought m l) d m t l b) r b
-  unfolding on_found
-  on_mark j r e h = rw e (handed_same h)
-
-  pub on_end : (r : Move) → sought m l ≡ Found.End → r ≡ pauses end_of_medium d m (moved_to (count l) t) → HandedAs (on_found (sought m l) d m t l b) r b
-  unfolding on_found
-  on_end r e h = rw e (handed_same h)
 
 -- ---- what is read of a record: nothing where its length is another, else the bytes from the place in it on
 module _ (i : ℕ) (d : Data) (m : Mover) (t : Tape) (l b : List ℕ) where

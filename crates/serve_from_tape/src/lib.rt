@@ -34,16 +34,14 @@ fn pause_there(why: u32, position: usize, p: Parts) -> Move
     ensures { result ≡ pauses why p.source p.mover (moved_to position p.tape) }
 {
     let there = Parts {
-        tape: Tape {
-            position,
-            ..p.tape
-        },
+        tape: Tape { position, ..p.tape },
         ..p
     };
     there.pause(why)
 }
 
 // A move after its tests: the walk, and what it comes to.
+#[tactic(auto, unfolding(rules_moves::specs::Moves::on_found))]
 fn walk_back(p: Parts, image: &[u8], dest: &mut [u8]) -> Move
     requires { Seekable p.mover image.now × (p.mover.offset ≤ p.mover.seek) }
     ensures { HandedAs (on_found (sought p.mover image.now) p.source p.mover p.tape image.now dest.old) result dest.new }
@@ -59,6 +57,7 @@ fn walk_back(p: Parts, image: &[u8], dest: &mut [u8]) -> Move
 }
 
 // The test of the seek position, and the walk.
+#[tactic(auto, using(crate::proofs::Handing::inside), unfolding(rules_moves::specs::Moves::seeking, xdr::specs::Choose::choose))]
 fn seek_back(p: Parts, image: &[u8], dest: &mut [u8]) -> Move
     requires { Seekable p.mover image.now }
     ensures { HandedAs (seeking p.source p.mover p.tape image.now dest.old) result dest.new }
@@ -71,6 +70,7 @@ fn seek_back(p: Parts, image: &[u8], dest: &mut [u8]) -> Move
 }
 
 // One move from tape, of a session that keeps the relation.
+#[tactic(auto, unfolding(rules_moves::specs::Moves::from_tape, xdr::specs::Choose::choose))]
 pub fn from_tape(p: Parts, image: &[u8], dest: &mut [u8]) -> Move
     requires { mover_wrong p.mover p.tape ≡ false }
     ensures { HandedAs (from_tape p.source p.mover p.tape image.now dest.old) result dest.new }

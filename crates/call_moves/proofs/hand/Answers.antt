@@ -8,14 +8,16 @@ use Rattle.call_moves.proofs.hand.Goals as goal
 
 -- The move by its definition, put into the report.
 pub from_tape-mv-requires : goal.from_tape-mv-requires
-from_tape-mv-requires c = (kept_facts c.args.s c.requires.0).mover
+from_tape-mv-requires c = rw (c.of.ensures.mover, c.of.ensures.tape) (kept_facts c.args.s c.requires.0).mover
 
 pub returns : goal.returns
 returns c = λ variables.
     let c8 = c in
     let a = c8.args in
+    let o = c.of.ensures in
+    let mv = rw (o.source, o.mover, o.tape) at c.from_tape-mv.ensures in
     moved_as (held a.s a.image.now variables) (stamped a.time (length a.out.now))
     c.from_tape-mv.result _ a.image.now
     a.image.now _ _ _ _ _ _ _ _
-    c.from_tape-mv.ensures.is refl c.from_tape-mv.ensures.dest
+    mv.is refl mv.dest
     (c.report.ensures a.image.now _ variables _)

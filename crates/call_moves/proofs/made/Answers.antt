@@ -3,5 +3,5 @@ use Rattle.call_moves.proofs.made.Goals as goal
 
 pub returns : goal.returns
 unfolding connection_made
-returns c = λ image variables. rw c.made_at-mv.ensures at
+returns c = λ image variables. rw (c.made_at.ensures, c.of.ensures.source, c.of.ensures.mover, c.of.ensures.tape) at
     (c.tell.ensures image variables)
