@@ -4,6 +4,7 @@
 
 ghost use Rattle.std.specs.Prelude.{◌≡◌, Bool, true, false, List, [], ℕ, ◌+◌, ◌≤◌, length, eqb};
 ghost use Rattle.codes.specs.Codes.{store_length};
+ghost use Rattle.codes.specs.Errors.{number_of};
 ghost use Rattle.xdr.specs.Choose.{choose};
 ghost use Rattle.xdr.specs.Xdr.{word};
 ghost use Rattle.changer_elements.specs.Slots.{in_drive};
@@ -27,13 +28,10 @@ ghost use Rattle.call_sending.specs.Call.{CallTold, Ready};
 ghost use Rattle.call_request.specs.Call.{lent, Sends};
 
 use changer_elements::Asked;
+use codes::NdmpError;
 use rules::Served;
 use rules_parts::types::{Answer, Login, Session};
 use serve_changer::Accepted;
-use serve_data::DataDone;
-use serve_joint::JointDone;
-use serve_mover::MoverDone;
-use serve_tape::TapeDone;
 use wire_frame::Unframed;
 use wire_replies::Reply;
 use wire_requests::{
@@ -41,47 +39,26 @@ use wire_requests::{
 };
 
 // The room of a request call: the output's where the store is as long as it must be, and else none.
+#[tactic(auto, unfolding(xdr::specs::Choose::choose))]
 fn room_of(stored: usize, room: usize) -> usize
     ensures { result ≡ choose (eqb stored store_length) room 0 }
 {
     if stored == codes::STORE_LENGTH {
-        return room;
+        room
+    } else {
+        0
     }
-    0
 }
 
-// Whether the reply to a data request shows the store.
-fn shows_store(q: DataRequest) -> bool
-    ensures { (list variables : List ℕ) → choose result variables list ≡ data_shown q list variables }
+// What the reply to an accepted data request shows bytes of: an environment the store, others the list.
+#[tactic(auto, unfolding(rules::specs::DataService::data_shown))]
+fn shown_of<'a>(q: DataRequest, list: &'a [u8], variables: &'a [u8]) -> &'a [u8]
+    ensures { result.now ≡ data_shown q list.now variables.now }
 {
     match q {
-        DataRequest::State => false,
-        DataRequest::Backup(_, _) => false,
-        DataRequest::Recover(_, _) => false,
-        DataRequest::Environment => true,
-        DataRequest::Stop => false,
-        DataRequest::Listen(_) => false,
+        DataRequest::Environment => variables,
+        _ => list,
     }
-}
-
-// The reply to an accepted data request: that of an environment shows the store, others the list.
-fn data_reply(
-    next: Session,
-    q: DataRequest,
-    input: &[u8],
-    time: u32,
-    reply: Reply,
-    addresses: &[u8],
-    variables: &[u8],
-    out: &mut [u8],
-) -> Answer
-    requires { Ready input.now out.old × Sendable reply (data_shown q addresses.now variables.now) }
-    ensures { (image store : List ℕ) → CallTold (replying input.now time reply (data_shown q addresses.now variables.now) (held next image store)) result image store out.old out.new }
-{
-    if shows_store(q) {
-        return call_sending::finish(next, input, time, reply, variables, out);
-    }
-    call_sending::finish(next, input, time, reply, addresses, out)
 }
 
 #[inline(never)]
@@ -97,18 +74,13 @@ fn data_call(
     requires { Ready input.now out.old × texts_within (body_of input.now) (Request.Data q) × (length variables.old ≡ store_length) }
     ensures { (image : List ℕ) → CallTold (settled (held s image variables.old) time input.now (Request.Data q) (onto (with_data (held s image variables.old) q (body_of input.now) addresses.now) (data_step s.source q (body_of input.now) addresses.now variables.old))) result image variables.new out.old out.new }
 {
-    let d = s.source;
-    let done = serve_data::serve(d, q, &input[28..], addresses, variables);
-    match done {
-        DataDone::Refuse(e) => call_sending::refuse(s, e, input, time, out),
-        DataDone::Accept(reply, next) => {
-            let g = s.login;
-            let m = s.mover;
-            let t = s.tape;
-            let c = s.changer;
-            let session = s.with_parts(g, next, m, t, c);
-            data_reply(session, q, input, time, reply, addresses, variables, out)
+    match serve_data::serve(s.source, q, &input[28..], addresses, variables) {
+        Ok(accepted) => {
+            let session = s.with_source(accepted.next);
+            let shown = shown_of(q, addresses, variables);
+            call_sending::finish(session, input, time, accepted.reply, shown, out)
         }
+        Err(e) => call_sending::refuse(s, e.number(), input, time, out),
     }
 }
 
@@ -148,19 +120,13 @@ fn tape_call(
     requires { Ready input.now out.old × texts_within (body_of input.now) (Request.Tape q) }
     ensures { (variables : List ℕ) → CallTold (settled (held s image.old variables) time input.now (Request.Tape q) (onto (with_tape (held s image.old variables)) (tape_step (in_drive s.changer.slots) (tape_part (held s image.old variables)) q (body_of input.now)))) result image.new variables out.old out.new }
 {
-    let m = s.mover;
-    let t = s.tape;
-    let c = s.changer;
-    let slots = c.slots;
-    let done = serve_tape::serve(slots[0], m.state, t, image, q, &input[28..]);
-    match done {
-        TapeDone::Refuse(e) => call_sending::refuse(s, e, input, time, out),
-        TapeDone::Accept(reply, next) => {
-            let g = s.login;
-            let d = s.source;
-            let session = s.with_parts(g, d, m, next, c);
-            call_sending::finish(session, input, time, reply, image, out)
+    let drive = s.changer.slots[0];
+    match serve_tape::serve(drive, s.mover.state, s.tape, image, q, &input[28..]) {
+        Ok(accepted) => {
+            let session = s.with_tape(accepted.next);
+            call_sending::finish(session, input, time, accepted.reply, image, out)
         }
+        Err(e) => call_sending::refuse(s, e.number(), input, time, out),
     }
 }
 
@@ -176,18 +142,12 @@ fn mover_call(
     requires { Ready input.now out.old }
     ensures { (image variables : List ℕ) → CallTold (settled (held s image variables) time input.now (Request.Mover q) (onto (with_part (held s image variables) addresses.now) (mover_part_step (tape_part (held s image variables)) q addresses.now))) result image variables out.old out.new }
 {
-    let m = s.mover;
-    let t = s.tape;
-    let done = serve_mover::serve(m, t, q, addresses);
-    match done {
-        MoverDone::Refuse(e) => call_sending::refuse(s, e, input, time, out),
-        MoverDone::Accept(reply, next) => {
-            let g = s.login;
-            let d = s.source;
-            let c = s.changer;
-            let session = s.with_parts(g, d, next, t, c);
-            call_sending::finish(session, input, time, reply, addresses, out)
+    match serve_mover::serve(s.mover, s.tape, q, addresses) {
+        Ok(accepted) => {
+            let session = s.with_mover(accepted.next);
+            call_sending::finish(session, input, time, accepted.reply, addresses, out)
         }
+        Err(e) => call_sending::refuse(s, e.number(), input, time, out),
     }
 }
 
@@ -204,21 +164,14 @@ fn joint_call(
     requires { Ready input.now out.old }
     ensures { (image variables : List ℕ) → CallTold (settled (held s image variables) time input.now (Request.Joint q) (onto (with_ends (held s image variables)) (joint_step s.source s.mover s.tape q made))) result image variables out.old out.new }
 {
-    let d = s.source;
-    let m = s.mover;
-    let t = s.tape;
-    let done = serve_joint::serve(d, m, t, q, made);
-    match done {
-        JointDone::Refuse(e) => call_sending::refuse(s, e, input, time, out),
-        JointDone::Accept(reply, ends) => {
-            let g = s.login;
-            let source = ends.source;
-            let mover = ends.mover;
-            let c = s.changer;
-            let session = s.with_parts(g, source, mover, t, c);
-            let sent = call_sending::finish(session, input, time, reply, b"", out);
+    match serve_joint::serve(s.source, s.mover, s.tape, q, made) {
+        Ok(accepted) => {
+            let ends = accepted.next;
+            let session = s.with_source(ends.source).with_mover(ends.mover);
+            let sent = call_sending::finish(session, input, time, accepted.reply, b"", out);
             call_sending::halts(sent, time, ends.dwhy, ends.mwhy, out)
         }
+        Err(e) => call_sending::refuse(s, e.number(), input, time, out),
     }
 }
 
@@ -266,11 +219,11 @@ fn connect_call(
 
 // A record that is no request of any service, refused in the header.
 #[inline(never)]
-fn header_call(s: Session, error: u32, input: &[u8], time: u32, out: &mut [u8]) -> Answer
+fn header_call(s: Session, error: NdmpError, input: &[u8], time: u32, out: &mut [u8]) -> Answer
     requires { Ready input.now out.old }
-    ensures { (image variables : List ℕ) → CallTold (replying input.now time (Reply.Header error) [] (held s image variables)) result image variables out.old out.new }
+    ensures { (image variables : List ℕ) → CallTold (replying input.now time (Reply.Header (number_of error)) [] (held s image variables)) result image variables out.old out.new }
 {
-    call_sending::finish(s, input, time, Reply::Header(error), b"", out)
+    call_sending::finish(s, input, time, Reply::Header(error.number()), b"", out)
 }
 
 // A request that is not locked, at its service.
@@ -301,8 +254,8 @@ fn serve_call(
         Request::Data(x) => data_call(s, x, addresses, variables, input, time, out),
         Request::Mover(x) => mover_call(s, x, addresses, input, time, out),
         Request::Joint(x) => joint_call(s, x, made, input, time, out),
-        Request::Unknown => header_call(s, codes::NOT_SUPPORTED, input, time, out),
-        Request::Bad => header_call(s, codes::UNDECODABLE, input, time, out),
+        Request::Unknown => header_call(s, NdmpError::NotSupported, input, time, out),
+        Request::Bad => header_call(s, NdmpError::Undecodable, input, time, out),
     }
 }
 
@@ -323,12 +276,10 @@ fn framed_call(
     requires { Ready input.now out.old × (message ≡ word input.now 16) × (length variables.old ≡ store_length) }
     ensures { CallTold (judged (held s image.old variables.old) (lent accounts.now challenge.now addresses.now made time out.old) input.now (request_in input.now)) result image.new variables.new out.old out.new }
 {
-    let row = wire_frame::row_of(message);
-    let kind = row.kind;
+    let kind = wire_frame::row_of(message).kind;
     let q = wire_decoding::decode(kind, &input[28..]);
-    let g = s.login;
-    if serve_connect::is_locked(g, q) {
-        return call_sending::refuse(s, codes::NOT_AUTHORIZED, input, time, out);
+    if serve_connect::is_locked(s.login, q) {
+        return call_sending::refuse(s, NdmpError::NotAuthorized.number(), input, time, out);
     }
     serve_call(
         s, q, accounts, challenge, addresses, made, image, variables, input, time, out,
@@ -365,8 +316,17 @@ pub fn request(
     match wire_frame::read_frame(input) {
         Ok(frame) => {
             framed_call(
-                s, frame.message, accounts, challenge, addresses, made, image, variables, input,
-                time, out,
+                s,
+                frame.message,
+                accounts,
+                challenge,
+                addresses,
+                made,
+                image,
+                variables,
+                input,
+                time,
+                out,
             )
         }
         Err(Unframed::Broken) => call_sending::shut(s),

@@ -14,7 +14,6 @@ ghost use Rattle.rules.specs.Rmt.{rmt_request, in_record, bare, said, told, rmt_
 ghost use Rattle.call_sending.specs.Call.{CallTold};
 
 use rules_parts::types::{Answer, Session};
-use serve_tape::TapeDone;
 use wire_replies::Reply;
 use wire_requests::{Request, TapeRequest};
 use wire_rmt::Command;
@@ -100,19 +99,13 @@ fn work(s: Session, q: TapeRequest, image: &mut [u8], command: &[u8], out: &mut 
     requires { (least_room ≤ length out.old) × texts_within command.now (Request.Tape q) }
     ensures { (variables : List ℕ) → CallTold (replied (held s image.old variables) (outcome (held s image.old variables) bare (in_record command.now) (Request.Tape q))) result image.new variables out.old out.new }
 {
-    let m = s.mover;
-    let t = s.tape;
-    let c = s.changer;
-    let slots = c.slots;
-    let done = serve_tape::serve(slots[0], m.state, t, image, q, command);
-    match done {
-        TapeDone::Refuse(e) => refuse(s, e, out),
-        TapeDone::Accept(reply, next) => {
-            let g = s.login;
-            let d = s.source;
-            let session = s.with_parts(g, d, m, next, c);
-            tell(session, reply, image, out)
+    let drive = s.changer.slots[0];
+    match serve_tape::serve(drive, s.mover.state, s.tape, image, q, command) {
+        Ok(accepted) => {
+            let session = s.with_tape(accepted.next);
+            tell(session, accepted.reply, image, out)
         }
+        Err(e) => refuse(s, e.number(), out),
     }
 }
 
