@@ -38,6 +38,16 @@ use wire_requests::{
     ConnectRequest, DataRequest, JointRequest, MoverRequest, Request, ScsiRequest, TapeRequest,
 };
 
+// What is lent with a request for its answer: the accounts, the challenge to give a client that asks for one, the list that a listen by TCP answers,
+// and whether the connection of a connect by TCP was made.
+#[derive(Clone, Copy)]
+struct Lent<'a> {
+    accounts: &'a [u8],
+    challenge: &'a [u8; 64],
+    addresses: &'a [u8],
+    made: bool,
+}
+
 // The room of a request call: the output's where the store is as long as it must be, and else none.
 #[tactic(auto, unfolding(xdr::specs::Choose::choose))]
 fn room_of(stored: usize, room: usize) -> usize
@@ -230,10 +240,7 @@ fn header_call(s: Session, error: NdmpError, input: &[u8], time: u32, out: &mut 
 fn serve_call(
     s: Session,
     q: Request,
-    accounts: &[u8],
-    challenge: &[u8; 64],
-    addresses: &[u8],
-    made: bool,
+    l: Lent,
     image: &mut [u8],
     variables: &mut [u8],
     input: &[u8],
@@ -241,8 +248,14 @@ fn serve_call(
     out: &mut [u8],
 ) -> Answer
     requires { Ready input.now out.old × texts_within (body_of input.now) q × (length variables.old ≡ store_length) }
-    ensures { CallTold (choose (is_close q) (closing (held s image.old variables.old)) (settled (held s image.old variables.old) time input.now q (outcome (held s image.old variables.old) (lent accounts.now challenge.now addresses.now made time out.old) input.now q))) result image.new variables.new out.old out.new }
+    ensures { CallTold (choose (is_close q) (closing (held s image.old variables.old)) (settled (held s image.old variables.old) time input.now q (outcome (held s image.old variables.old) (lent l.entry.accounts.now l.entry.challenge.now l.entry.addresses.now l.entry.made time out.old) input.now q))) result image.new variables.new out.old out.new }
 {
+    let Lent {
+        accounts,
+        challenge,
+        addresses,
+        made,
+    } = l;
     match q {
         Request::Connect(x) => connect_call(s, x, accounts, input, time, out),
         Request::Config(x) => {
@@ -263,10 +276,7 @@ fn serve_call(
 fn framed_call(
     s: Session,
     message: u32,
-    accounts: &[u8],
-    challenge: &[u8; 64],
-    addresses: &[u8],
-    made: bool,
+    l: Lent,
     image: &mut [u8],
     variables: &mut [u8],
     input: &[u8],
@@ -274,16 +284,14 @@ fn framed_call(
     out: &mut [u8],
 ) -> Answer
     requires { Ready input.now out.old × (message ≡ word input.now 16) × (length variables.old ≡ store_length) }
-    ensures { CallTold (judged (held s image.old variables.old) (lent accounts.now challenge.now addresses.now made time out.old) input.now (request_in input.now)) result image.new variables.new out.old out.new }
+    ensures { CallTold (judged (held s image.old variables.old) (lent l.entry.accounts.now l.entry.challenge.now l.entry.addresses.now l.entry.made time out.old) input.now (request_in input.now)) result image.new variables.new out.old out.new }
 {
     let kind = wire_frame::row_of(message).kind;
     let q = wire_decoding::decode(kind, &input[28..]);
     if serve_connect::is_locked(s.login, q) {
         return call_sending::refuse(s, NdmpError::NotAuthorized.number(), input, time, out);
     }
-    serve_call(
-        s, q, accounts, challenge, addresses, made, image, variables, input, time, out,
-    )
+    serve_call(s, q, l, image, variables, input, time, out)
 }
 
 // A new session with a slot list: the notice of the connection status is its message 1.
@@ -315,19 +323,13 @@ pub fn request(
     }
     match wire_frame::read_frame(input) {
         Ok(frame) => {
-            framed_call(
-                s,
-                frame.message,
+            let l = Lent {
                 accounts,
                 challenge,
                 addresses,
                 made,
-                image,
-                variables,
-                input,
-                time,
-                out,
-            )
+            };
+            framed_call(s, frame.message, l, image, variables, input, time, out)
         }
         Err(Unframed::Broken) => call_sending::shut(s),
         Err(Unframed::NotRequest) => call_sending::quiet(0, s),

@@ -14,7 +14,7 @@ returns-then-is_locked c =
     let image = a.image.now in
     let variables = a.variables.now in
     let k = held a.s image variables in
-    let l = lent a.accounts.now a.challenge.now a.addresses.now a.made a.time a.out.now in
+    let l = lent a.l.accounts.now a.l.challenge.now a.l.addresses.now a.l.made a.time a.out.now in
     call_locked k l a.input.now _ (request_is a.input.now (body_is a.input.now) c.requires.1 c.row_of-kind.ensures refl c.decode-q.ensures)
     (sym c.is_locked.ensures ∙ c.if-is_locked.true) (rw c.number.ensures at (c.refuse.ensures image variables))
 
@@ -27,6 +27,6 @@ pub returns : goal.returns
 returns c =
     let a = c.args in
     let k = held a.s a.image.now a.variables.now in
-    let l = lent a.accounts.now a.challenge.now a.addresses.now a.made a.time a.out.now in
+    let l = lent a.l.accounts.now a.l.challenge.now a.l.addresses.now a.l.made a.time a.out.now in
     call_free k l a.input.now _ (request_is a.input.now (body_is a.input.now) c.requires.1 c.row_of-kind.ensures refl c.decode-q.ensures)
     (sym c.is_locked.ensures ∙ c.if-is_locked.false) c.serve_call.ensures

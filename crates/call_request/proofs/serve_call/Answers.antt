@@ -15,7 +15,7 @@ connect_call-requires c = let c8 = c in
 
 pub login_call-requires : goal.login_call-requires
 login_call-requires c = let st = c in
-    let challenge = st.args.challenge.now in
+    let challenge = st.args.l.challenge.now in
     let whole : length challenge ≤ challenge_length = search rules in
     (st.requires.0, rw c.config-done.ensures (config_sends _ challenge _ whole))
 
