@@ -4,14 +4,14 @@ use mathlib.Core.Bool.{true, false}
 use mathlib.Core.Path.{◌≡◌, refl, sym, ◌∙◌}
 use mathlib.Core.List.{List, [], ◌∷◌, ◌++◌, append_assoc, append-nil}
 use native.Mathlib.Omega.{arith}
-use lib.ListN.{length, take, drop, length-append, length-take}
+use lib.ListN.{length, take, drop, length-append}
 use Rattle.std.specs.Prelude.{◌||◌}
 use Rattle.std.specs.List.{list_any}
 use Rattle.xdr.specs.Choose.{choose}
 use Rattle.xdr.specs.Xdr.{word, same_bytes}
 use Rattle.xdr.proofs.Laws.{overlay_none}
 use Rattle.xdr_opaque.specs.Put.{Put, opaque}
-use Rattle.xdr_opaque.proofs.Laws.{then, put, length_opaque}
+use Rattle.xdr_opaque.proofs.Laws.{then, put}
 use Rattle.wire_pairs.specs.Pairs.{Pair, pair, separator_name, separator, is_named, with_separator, pair_bytes}
 use Rattle.wire_pairs.specs.Store.{laid_from, is_laid, Left, kept_from, kept_pairs, environment_of}
 use Rattle.wire_pairs.proofs.Sizes.{laid_one, laid_none, laid_pairs, length_kept_pairs}

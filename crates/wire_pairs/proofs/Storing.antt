@@ -73,9 +73,9 @@ module _ (s : List ℕ) where
 -- ---- the pairs of a body
 -- the text that a reader found at an offset
 module _ (b : List ℕ) (at : ℕ) where
-  pub text_read : (o : Opaque) → Some o ≡ opaque_at b at → (take o.len (drop o.start b) ≡ text_at b at) × (o.next ≡ next_at b at)
+  pub text_read : (o : Opaque) → Some o ≡ opaque_at b at → (take (o.start + o.len - o.start) (drop o.start b) ≡ text_at b at) × (o.next ≡ next_at b at)
   unfolding text_in behind
-  text_read o e = (rw (← e), rw (← e))
+  text_read o e = let k : o.start + o.len - o.start ≡ o.len = omega arith in (rw (k, ← e), rw (← e))
 
   pub text_missing : None ≡ opaque_at b at → ([] ≡ text_at b at) × (at ≡ next_at b at)
   unfolding text_in behind
@@ -88,11 +88,11 @@ unfolding pairs_from
 pairs_next b zero at h = absurd (omega arith)
 pairs_next b (suc n) at h = let e : suc n - 1 ≡ n = omega arith in rw e
 
-pairs_none : (b : List ℕ) (n at : ℕ) → n ≤ 0 → pairs_from b n at ≡ []
+pub pairs_none : (b : List ℕ) (n at : ℕ) → n ≤ 0 → pairs_from b n at ≡ []
 unfolding pairs_from
 pairs_none b n at h = let e : n ≡ 0 = omega arith in rw e
 
-length_pairs : (b : List ℕ) (n at : ℕ) → length (pairs_from b n at) ≡ n
+pub length_pairs : (b : List ℕ) (n at : ℕ) → length (pairs_from b n at) ≡ n
 unfolding pairs_from
 length_pairs b zero at = refl
 length_pairs b (suc n) at = ap suc (length_pairs b n (next_at b (next_at b at)))
@@ -136,22 +136,22 @@ module _ (b : List ℕ) (n at : ℕ) where
       (omega arith, omega arith)
 
 -- none is left
-size_none : (b : List ℕ) (n at : ℕ) → n ≤ 0 → text_bytes (pairs_from b n at) ≡ 0
+size_none : (ps : List Pair) → ps ≡ [] → text_bytes ps ≡ 0
 unfolding text_bytes
-size_none b n at h = rw (pairs_none b n at h)
+size_none ps h = rw h
 
-pub fits_end : (b : List ℕ) (n at room k x : ℕ) → n ≤ most_listed → room + (4 + 16 * n + text_bytes (pairs_from b n at)) ≡ store_length + text_bytes (pairs_from b k x)
-    → k ≤ 0 → fits (pairs_from b n at) ≡ true
-fits_end b n at room k x h e z = let s = size_none b k x z in fits_all b n at h (omega arith)
+pub fits_end : (b : List ℕ) (n at room : ℕ) (ps : List Pair) → n ≤ most_listed → room + (4 + 16 * n + text_bytes (pairs_from b n at)) ≡ store_length + text_bytes ps
+    → ps ≡ [] → fits (pairs_from b n at) ≡ true
+fits_end b n at room ps h e z = let s = size_none ps z in fits_all b n at h (omega arith)
 
-module _ (b : List ℕ) (n at : ℕ) (h : n ≤ 0) (to : ℕ) (out : List ℕ) where
-  pub words_none : (from : ℕ) → overlay to (be32s (pair_words from (pairs_from b n at))) out ≡ out
+module _ (ps : List Pair) (h : ps ≡ []) (to : ℕ) (out : List ℕ) where
+  pub words_none : (from : ℕ) → overlay to (be32s (pair_words from ps)) out ≡ out
   unfolding pair_words be32s
-  words_none from = rw (pairs_none b n at h) (sym (overlay_none to out))
+  words_none from = rw h (sym (overlay_none to out))
 
-  pub texts_none : overlay to (pair_texts (pairs_from b n at)) out ≡ out
+  pub texts_none : overlay to (pair_texts ps) out ≡ out
   unfolding pair_texts
-  texts_none = rw (pairs_none b n at h) (sym (overlay_none to out))
+  texts_none = rw h (sym (overlay_none to out))
 
 -- ---- written
 -- the count, the words and the texts, written one after another, are a store

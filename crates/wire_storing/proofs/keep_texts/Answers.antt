@@ -1,66 +1,26 @@
 use mathlib.Core.Path.{refl, sym, ◌∙◌}
 use native.Mathlib.Omega.{arith}
-use borrow.Author.Rules.{rules}
 use Rattle.wire_pairs.proofs.Storing.{texts_none}
-use Rattle.wire_storing.proofs.Turns.{size_next, texts_next, texts_length}
+use Rattle.wire_storing.proofs.Turns.{size_next, texts_next}
 use Rattle.wire_storing.proofs.keep_texts.Goals as goal
 
-pub loop-left-init : goal.loop-left-init
-loop-left-init c = (search rules, search rules, refl)
+pub loop-name-init : goal.loop-name-init
+loop-name-init c = rw c.into_iter-name-iterator.ensures.into_iter_gives (record { room = c.requires; wrote = refl })
 
-pub keep_text-requires : goal.keep_text-requires
-keep_text-requires c = let g = c.before in
-    let l = g.before.before.before in
-    let p = g.text_at-name.ensures in
-    let q = g.text_at-value.ensures in
-    let e = size_next p q l.loop-left.left g.loop-left-test.true in
-    (omega arith, omega (arith, l.loop-left.invariant.0, l.loop-left.invariant.1, e))
+pub put_bytes-to-requires : goal.put_bytes-to-requires
+put_bytes-to-requires c = let e = size_next c.in-Some.ensures.steps in omega (arith, c.loop-name.invariant.room)
 
-pub overflow_add-to : goal.overflow_add-to
-overflow_add-to c = let g = c.before.before.before.before.before.before in
-    let l = g.before.before.before in
-    let p = g.text_at-name.ensures in
-    let q = g.text_at-value.ensures in
-    let e = size_next p q l.loop-left.left g.loop-left-test.true in
-    omega (arith, l.loop-left.invariant.1, e)
+pub put_bytes-to-requires-in-loop-name : goal.put_bytes-to-requires-in-loop-name
+put_bytes-to-requires-in-loop-name c = let e = size_next c.in-Some.ensures.steps in omega (arith, c.loop-name.invariant.room, c.put_bytes-to.ensures.end)
 
-pub keep_text-requires-in-loop-left : goal.keep_text-requires-in-loop-left
-keep_text-requires-in-loop-left c = let g = c.before.before.before.before.before.before in
-    let l = g.before.before.before in
-    let p = g.text_at-name.ensures in
-    let q = g.text_at-value.ensures in
-    let e = size_next p q l.loop-left.left g.loop-left-test.true in
-    (omega arith, omega (arith, l.loop-left.invariant.0, l.loop-left.invariant.1, e))
-
-pub overflow_add-to-in-loop-left : goal.overflow_add-to-in-loop-left
-overflow_add-to-in-loop-left c = let g = c.before.before.before.before.before.before.before.before.before.before.before in
-    let l = g.before.before.before in
-    let p = g.text_at-name.ensures in
-    let q = g.text_at-value.ensures in
-    let e = size_next p q l.loop-left.left g.loop-left-test.true in
-    omega (arith, l.loop-left.invariant.1, e)
-
-pub overflow_add-to-in-loop-left-2 : goal.overflow_add-to-in-loop-left-2
-overflow_add-to-in-loop-left-2 c = let g = c.before.before.before.before.before.before.before.before.before.before.before in
-    let l = g.before.before.before in
-    let p = g.text_at-name.ensures in
-    let q = g.text_at-value.ensures in
-    let e = size_next p q l.loop-left.left g.loop-left-test.true in
-    omega (arith, l.loop-left.invariant.1, e)
-
-pub loop-left-preserved : goal.loop-left-preserved
-loop-left-preserved c = let g = c.before.before.before.before.before.before.before.before.before.before.before in
-    let l = g.before.before.before in
-    let p = g.text_at-name.ensures in
-    let q = g.text_at-value.ensures in
-    let h = g.loop-left-test.true in
-    let k = c.keep_text.ensures in
-    let m = c.keep_text-in-loop-left.ensures in (
-      texts_length p q l.loop-left.left h _ _ _ _ _ l.loop-left.invariant.0 l.loop-left.invariant.1 k m,
-      omega (arith, l.loop-left.invariant.1, size_next p q l.loop-left.left h),
-      texts_next p q l.loop-left.left h _ _ _ _ _ l.loop-left.invariant.2 k m,
-    )
+pub loop-name-preserved : goal.loop-name-preserved
+loop-name-preserved c =
+    let i = c.loop-name.invariant in
+    let s = c.in-Some.ensures.steps in
+    let e = size_next s in
+    let p = c.put_bytes-to.ensures in
+    let q = c.put_bytes-to-in-loop-name.ensures in
+    record { room = omega (arith, i.room, p.end, q.end); wrote = texts_next s i.wrote p q }
 
 pub returns : goal.returns
-returns c = let l = c.before in
-    sym (l.loop-left.invariant.2 ∙ texts_none _ _ _ (omega arith) _ _)
+returns c = sym (c.loop-name.invariant.wrote ∙ texts_none _ c.in-None.ensures.steps.0 _ _)

@@ -1,49 +1,41 @@
 use mathlib.Core.Path.{refl, sym, ◌∙◌}
 use native.Mathlib.Omega.{arith}
-use borrow.Author.Rules.{rules}
+use Rattle.xdr.proofs.Laws.{length_be32s}
 use Rattle.wire_pairs.proofs.Storing.{words_none}
-use Rattle.wire_storing.proofs.Turns.{size_next, words_next}
+use Rattle.wire_storing.proofs.Turns.{size_next, count_next, words_next}
 use Rattle.wire_storing.proofs.keep_words.Goals as goal
 
-pub loop-left-init : goal.loop-left-init
-loop-left-init c = (search rules, search rules, search rules, refl)
+pub loop-name-init : goal.loop-name-init
+loop-name-init c =
+    let p = c.requires in
+    rw c.into_iter-name-iterator.ensures.into_iter_gives (record { room = p.0; texts = omega (arith, p.1); wrote = refl })
 
-pub overflow_cast-words-in-loop-left : goal.overflow_cast-words-in-loop-left
-overflow_cast-words-in-loop-left c = let g = c.before.before in
-    let l = g.before.before.before in
-    let e = size_next g.text_at-name.ensures g.text_at-value.ensures l.loop-left.left g.loop-left-test.true in
-    omega (arith, l.loop-left.invariant.2, e)
+pub overflow_add-second : goal.overflow_add-second
+overflow_add-second c = let e = size_next c.in-Some.ensures.steps in omega (arith, c.loop-name.invariant.texts)
 
-pub overflow_cast-words-in-loop-left-2 : goal.overflow_cast-words-in-loop-left-2
-overflow_cast-words-in-loop-left-2 c = let g = c.before.before in
-    let l = g.before.before.before in
-    let e = size_next g.text_at-name.ensures g.text_at-value.ensures l.loop-left.left g.loop-left-test.true in
-    omega (arith, l.loop-left.invariant.2, e)
+pub overflow_cast-words-in-loop-name : goal.overflow_cast-words-in-loop-name
+overflow_cast-words-in-loop-name c = let e = size_next c.in-Some.ensures.steps in omega (arith, c.loop-name.invariant.texts)
 
-pub overflow_cast-words-in-loop-left-3 : goal.overflow_cast-words-in-loop-left-3
-overflow_cast-words-in-loop-left-3 c = let g = c.before.before.before in
-    let l = g.before.before.before in
-    let e = size_next g.text_at-name.ensures g.text_at-value.ensures l.loop-left.left g.loop-left-test.true in
-    omega (arith, l.loop-left.invariant.2, e)
+pub overflow_cast-words-in-loop-name-2 : goal.overflow_cast-words-in-loop-name-2
+overflow_cast-words-in-loop-name-2 c = let e = size_next c.in-Some.ensures.steps in omega (arith, c.loop-name.invariant.texts)
+
+pub overflow_cast-words-in-loop-name-3 : goal.overflow_cast-words-in-loop-name-3
+overflow_cast-words-in-loop-name-3 c = let e = size_next c.in-Some.ensures.steps in omega (arith, c.loop-name.invariant.texts)
 
 pub overflow_add-from : goal.overflow_add-from
-overflow_add-from c = let g = c.before.before.before.before.before.before.before.before.before in
-    let l = g.before.before.before in
-    let e = size_next g.text_at-name.ensures g.text_at-value.ensures l.loop-left.left g.loop-left-test.true in
-    omega (arith, l.loop-left.invariant.2, e)
+overflow_add-from c = let e = size_next c.in-Some.ensures.steps in omega (arith, c.loop-name.invariant.texts)
 
-pub loop-left-preserved : goal.loop-left-preserved
-loop-left-preserved c = let g = c.before.before.before.before.before.before.before.before.before in
-    let l = g.before.before.before in
-    let p = g.text_at-name.ensures in
-    let q = g.text_at-value.ensures in
-    let h = g.loop-left-test.true in (
-      search rules,
-      search rules,
-      omega (arith, l.loop-left.invariant.2, size_next p q l.loop-left.left h),
-      words_next p q l.loop-left.left h _ _ _ _ _ l.loop-left.invariant.3 c.write_words.ensures,
-    )
+pub loop-name-preserved : goal.loop-name-preserved
+loop-name-preserved c =
+    let i = c.loop-name.invariant in
+    let s = c.in-Some.ensures.steps in
+    let e = size_next s in
+    let n = count_next s in
+    record {
+      room = omega (arith, i.room, simp length_be32s at c.put_words-to.ensures.end);
+      texts = omega (arith, i.texts);
+      wrote = words_next s _ i.wrote c.put_words-to.ensures;
+    }
 
 pub returns : goal.returns
-returns c = let l = c.before in
-    sym (l.loop-left.invariant.3 ∙ words_none _ _ _ (omega arith) _ _ _)
+returns c = sym (c.loop-name.invariant.wrote ∙ words_none _ c.in-None.ensures.steps.0 _ _ _)
