@@ -35,7 +35,7 @@ pub fn pairs_behind(t: Text, count: u32) -> Pairs
     ensures { result ≡ pairs_at (behind_text t) count }
 {
     Pairs {
-        start: t.start + (t.len + 3) / 4 * 4 + 4,
+        start: t.start + t.len.next_multiple_of(4) + 4,
         count,
     }
 }

@@ -45,7 +45,8 @@ pub enum Field {
     Tag(u32),
 }
 
-// What is kept of the fields of a body that decodes, each at its number.
+// What is kept of the fields of a body that decodes, each at its number. An array for each kind: a decoder takes what its layout says stands
+// there, with no case for the other kinds.
 #[derive(Clone, Copy)]
 pub struct Scan {
     pub words: [u32; 5],
@@ -53,7 +54,7 @@ pub struct Scan {
     pub texts: [Text; 5],
 }
 
-// The addresses of a list: a host and a port each, as many as count says.
+// The addresses of a list: a host and a port each, as many as count says. The C interface fixes this form.
 #[repr(C)]
 #[derive(Clone, Copy)]
 pub struct Addresses {

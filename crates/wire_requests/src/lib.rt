@@ -16,7 +16,7 @@ pub enum ConnectRequest {
     Close,
 }
 
-// The auth attributes are asked of an auth type.
+// The auth attributes are asked of an auth type. Types and modes stay numbers: any word may stand there, and the rules judge it.
 #[derive(Clone, Copy)]
 pub enum ConfigRequest {
     ConnectionType,
@@ -84,7 +84,8 @@ pub enum JointRequest {
     MoverConnect(u32, u32, u32),
 }
 
-// A decoded request; Unknown is a message that is not handled, Bad a body that does not decode.
+// A decoded request; Unknown is a message that is not handled, Bad a body that does not decode. They stay requests: the rules judge them as such
+// (is_unread).
 #[derive(Clone, Copy)]
 pub enum Request {
     Connect(ConnectRequest),

@@ -25,6 +25,8 @@ const NAME: [Part; 6] = [
 
 const HOST_PORT: [Part; 2] = [Part::Word, Part::Port];
 
+// A body and an offset stay two parameters: the offset goes on, and the body is the same.
+
 // Nothing kept yet.
 fn nothing() -> Scan
     ensures { result ≡ empty_scan }
