@@ -1,10 +1,10 @@
--- A request by what a scan kept, and the types that say how a body is scanned. Assumes nothing.
+-- A text that a scan kept, and the types that say how a body is scanned. Assumes nothing.
 use Prim.Native.Nat.{ℕ, ◌+◌, ◌≤◌}
 use mathlib.Core.Bool.{Bool, true, false}
-use mathlib.Core.Path.{◌≡◌, refl, sym, ap}
+use mathlib.Core.Path.{◌≡◌, sym}
 use mathlib.Core.List.{List, map}
 use lib.ListN.{length}
-use Rattle.std.specs.Prelude.{Option, Some, None, option_map}
+use Rattle.std.specs.Prelude.{Option, Some}
 use Rattle.xdr.specs.Choose.{choose}
 use Rattle.wire_layouts.specs.Layout.{Field}
 use Rattle.wire_layouts.specs.Scans.{scanned, field_of}
@@ -12,13 +12,6 @@ use Rattle.wire_layouts.specs.declared.Field as code
 use Rattle.wire_layouts.specs.declared.Scan.{Scan}
 use Rattle.wire_layouts.proofs.Within.{texts_in}
 use Rattle.wire_requests.specs.Bodies.{text_of}
-
--- what is made of what a scan kept, and that nothing is made of no scan
-pub of_scan : {R : Type 0} (f : Scan → R) (k : Scan) (s : Option Scan) → Some k ≡ s → Some (f k) ≡ option_map f s
-of_scan f k s e = ap (option_map f) e
-
-pub of_none : {R : Type 0} (f : Scan → R) (s : Option Scan) → None ≡ s → None ≡ option_map f s
-of_none f s e = ap (option_map f) e
 
 -- a text that a scan kept lies within the body
 pub kept_within : (fs : List Field) (b : List ℕ) (k : Scan) (i : ℕ) → Some k ≡ scanned fs b → (text_of k i).start + (text_of k i).len ≤ length b

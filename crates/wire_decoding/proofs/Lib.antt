@@ -1,2 +1,2 @@
--- `Laws` has what is made of a scan, and by which letters a body with an address is scanned.
+-- `Laws` has that the texts of a scan lie within the body, and by which layout a body with an address is scanned.
 pub mod Laws
