@@ -1,19 +1,18 @@
 -- The laws of the image's definitions. Assumes nothing.
-use Prim.Native.Nat.{ℕ, zero, suc, ◌+◌, ◌-◌, ◌*◌, ◌≤◌, ◌<◌}
+use Prim.Native.Nat.{ℕ, zero, suc, ◌+◌, ◌-◌, ◌≤◌, ◌<◌}
 use mathlib.Core.List.{List}
 use mathlib.Core.Bool.{Bool, true, false, ◌&&◌}
 use mathlib.Core.Path.{◌≡◌, refl, sym, ap, ◌∙◌}
 use native.Mathlib.Omega.{arith}
 use native.Mathlib.Nat.{zero-add, add-zero}
 use native.Mathlib.Numerals.{add-one}
-use lib.ListN.{length, get_or}
+use lib.ListN.{get_or}
 use lib.Dec.{leb, ltb, eqb}
-use borrow.Author.Tests.{leb-true, eqb-true, le-leb, lt-leb, eq-eqb, ne_eqb, ltb-false, lt-ltb, le-ltb}
+use borrow.Author.Tests.{leb-true, eqb-true, le-leb, eq-eqb, ltb-false, le-ltb}
 use Rattle.codes.specs.Codes.{longest_record}
 use Rattle.xdr.specs.Choose.{choose, all_of}
-use Rattle.xdr.specs.Xdr.{word}
 use Rattle.xdr.proofs.Tests.{and_l, and_r, all_get}
-use Rattle.tape_image.specs.Image.{capacity, count, used, entry_len, entry_start, body_at, Table}
+use Rattle.tape_image.specs.Image.{capacity, count, used, entry_len, entry_start, Table}
 use Rattle.tape_image.specs.Image.{header_tests, header_ok, table_ok, is_sound, faulty}
 use Rattle.tape_image.specs.Sound.{Header, Entry, Sound, Placed, sum_before}
 
@@ -32,7 +31,7 @@ header_facts l h =
       bytes = leb-true _ _ (g 7);
     }
 
-pub header_holds : (l : List ℕ) → Header l → true ≡ header_ok l
+header_holds : (l : List ℕ) → Header l → true ≡ header_ok l
 unfolding header_ok all_of
 header_holds l f =
     simp (le-leb _ _ f.whole, eq-eqb _ _ f.first, le-leb _ _ f.some, le-leb _ _ f.few, le-leb _ _ f.table, le-leb _ _ f.body, le-leb _ _ f.entries, le-leb _ _ f.bytes)
@@ -51,23 +50,9 @@ table_end l total n i s h =
     let e : n - i ≡ 0 = omega arith in
     rw e
 
-module _ (l : List ℕ) (total n i s : ℕ) (h : i < n) where
-  pub table_long : longest_record < entry_len l i → table_ok l total (n - i) i s ≡ false
-  table_long p = rw (table_step, lt-leb _ _ p)
-
-  pub table_gap : entry_len l i ≤ longest_record → (entry_start l i ≡ s → ⊥) → table_ok l total (n - i) i s ≡ false
-  table_gap p q = rw (table_step, le-leb _ _ p, ne_eqb _ _ q)
-
-  pub table_next : entry_len l i ≤ longest_record → entry_start l i ≡ s → table_ok l total (n - i) i s ≡ table_ok l total (n - (i + 1)) (i + 1) (s + entry_len l i)
-  table_next p q = rw (table_step, le-leb _ _ p, eq-eqb _ _ q)
-
-pub sound_table : (l : List ℕ) → header_ok l ≡ true → is_sound l ≡ table_ok l (used l) (count l) 0 0
+sound_table : (l : List ℕ) → header_ok l ≡ true → is_sound l ≡ table_ok l (used l) (count l) 0 0
 unfolding is_sound
 sound_table l h = rw h
-
-pub unsound_header : (l : List ℕ) → header_ok l ≡ false → is_sound l ≡ false
-unfolding is_sound
-unsound_header l h = rw h
 
 -- the first of the entries that are left, as facts
 record Row (l : List ℕ) (total k i s : ℕ) : Type 0 where
@@ -190,10 +175,6 @@ module _ (l : List ℕ) (p : ℕ) where
   pub fault_unsound : is_sound l ≡ false → true ≡ faulty l p
   unfolding faulty choose
   fault_unsound h = rw h
-
-  pub fault_above : is_sound l ≡ true → count l < p → true ≡ faulty l p
-  unfolding faulty choose
-  fault_above h k = rw h (sym (lt-ltb (count l) p k))
 
   pub fault_none : is_sound l ≡ true → p ≤ count l → false ≡ faulty l p
   unfolding faulty choose

@@ -1,6 +1,6 @@
 -- The cartridge image (paper 01, "The cartridge"): four words, a table of C entries, a body. Its words are XDR's.
 -- Where anything lies is said here only.
-use Rattle.std.specs.Prelude.{ℕ, zero, suc, ◌+◌, ◌-◌, ◌*◌, ◌≤◌, ◌<◌, List, [], ◌∷◌, Bool, true, false, ◌&&◌, ◌≡◌, length, take, drop, leb, ltb, eqb}
+use Rattle.std.specs.Prelude.{ℕ, zero, suc, ◌+◌, ◌-◌, ◌*◌, ◌≤◌, ◌<◌, List, [], ◌∷◌, Bool, true, ◌&&◌, ◌≡◌, length, take, drop, leb, ltb, eqb}
 use Rattle.codes.specs.Codes.{longest_record}
 use Rattle.xdr.specs.Choose.{choose, all_of}
 use Rattle.xdr.specs.Xdr.{word, be32s, overlay}

@@ -1,6 +1,6 @@
 -- "Sound: first word 1, sizes and lengths in range, n at most C, used at most B, the start of entry i is the sum of lengths before
 -- it, used the sum of all n. Entries past n are not read."
-use Rattle.std.specs.Prelude.{ℕ, zero, suc, ◌+◌, ◌-◌, ◌*◌, ◌≤◌, ◌<◌, List, ◌≡◌, length}
+use Rattle.std.specs.Prelude.{ℕ, zero, suc, ◌+◌, ◌≤◌, ◌<◌, List, ◌≡◌, length}
 use Rattle.codes.specs.Codes.{longest_record}
 use Rattle.xdr.specs.Xdr.{word}
 use Rattle.tape_image.specs.Image.{most_entries, largest_body, header_len}

@@ -4,7 +4,7 @@
 
 ghost use Rattle.std.specs.Prelude.{◌≡◌, ◌+◌, ◌-◌, ◌*◌, ◌<◌, ◌≤◌, length};
 ghost use Rattle.xdr.specs.Xdr.{word};
-ghost use Rattle.tape_image.specs.Image.{header_len, capacity, count, used, entry_at, entry_len, entry_start, body_at};
+ghost use Rattle.tape_image.specs.Image.{header_len, capacity, count, used, entry_len, entry_start, body_at};
 ghost use Rattle.tape_image.specs.Image.{FieldRead, Table, with_entry};
 
 // The most entries of a table.
@@ -60,9 +60,9 @@ pub fn used_bytes(image: &[u8]) -> usize
 }
 
 // Where entry i lies, whatever word i is: the capacity may be unjudged.
-fn entry_at(image: &[u8], i: usize) -> usize
+fn entry_at(i: usize) -> usize
     requires { i < 4294967296 }
-    ensures { result ≡ entry_at image.now i }
+    ensures { result ≡ header_len + i * 8 }
 {
     HEADER_SIZE + i * ENTRY_SIZE
 }
@@ -72,7 +72,7 @@ pub fn entry_len(image: &[u8], i: usize) -> usize
     requires { Table image.now (i + 1) }
     ensures { FieldRead (entry_len image.now i) result }
 {
-    field(image, entry_at(image, i))
+    field(image, entry_at(i))
 }
 
 // Where the bytes of entry i begin in the body.
@@ -80,7 +80,7 @@ pub fn entry_start(image: &[u8], i: usize) -> usize
     requires { Table image.now (i + 1) }
     ensures { FieldRead (entry_start image.now i) result }
 {
-    field(image, entry_at(image, i) + 4)
+    field(image, entry_at(i) + 4)
 }
 
 // Where the body begins.
@@ -88,15 +88,16 @@ pub fn body_at(image: &[u8]) -> usize
     requires { header_len ≤ length image.now }
     ensures { result ≡ body_at image.now }
 {
-    entry_at(image, capacity(image))
+    entry_at(capacity(image))
 }
 
 // Cuts the table at a position and writes an entry there.
+#[tactic(auto, unfolding(crate::specs::Image::with_entry))]
 pub fn put_entry(image: &mut [u8], position: usize, keep: usize, len: usize)
     requires { Table image.old (position + 1) × (keep + len < 4294967296) }
     ensures { image.new ≡ with_entry image.old position keep len }
 {
-    let at = entry_at(image, position);
+    let at = entry_at(position);
     let counts = [(position + 1) as u32, (keep + len) as u32];
     xdr::write_words(image, 8, &counts);
     let entry = [len as u32, keep as u32];
@@ -104,7 +105,6 @@ pub fn put_entry(image: &mut [u8], position: usize, keep: usize, len: usize)
 }
 
 // The file and the block number of a position.
-#[repr(C)]
 #[derive(Clone, Copy)]
 pub struct Place {
     pub file: u32,

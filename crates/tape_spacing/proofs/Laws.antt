@@ -1,5 +1,5 @@
 -- The laws of spacing. Assumes nothing.
-use Prim.Native.Nat.{ℕ, zero, suc, ◌+◌, ◌-◌, ◌*◌, ◌≤◌, ◌<◌}
+use Prim.Native.Nat.{ℕ, zero, suc, ◌+◌, ◌-◌, ◌≤◌, ◌<◌}
 use mathlib.Core.List.{List}
 use mathlib.Core.Bool.{Bool, true, false}
 use mathlib.Core.Path.{◌≡◌, refl, sym, ◌∙◌}
@@ -9,7 +9,6 @@ use borrow.Author.Tests.{eq-eqb, ne_eqb, eqb-true}
 use Rattle.xdr.specs.Choose.{choose}
 use Rattle.xdr.proofs.Tests.{by_test}
 use Rattle.tape_image.specs.Image.{count, entry_len}
-use Rattle.tape_image.specs.Sound.{Placed}
 use Rattle.tape_spacing.specs.declared.Spaced.{Spaced}
 use Rattle.tape_spacing.specs.Spacing.{ended, walk, spacing, ahead_of, passes, position_after, left_after, stops, goes_forward, counts_marks, PassedMark, end_of}
 

@@ -1,5 +1,5 @@
 -- Worked examples of spacing, as one list: the entries are record, mark, record, record, mark.
-use Rattle.std.specs.Prelude.{ℕ, ◌+◌, List, [], ◌∷◌, ◌++◌, ◌≡◌, replicate}
+use Rattle.std.specs.Prelude.{ℕ, List, [], ◌∷◌, ◌++◌, ◌≡◌, replicate}
 use Rattle.codes.specs.Codes.{at_mark_code, at_end_code, forward_files, back_files, forward_records, back_records}
 use Rattle.xdr.specs.Xdr.{be32s}
 use Rattle.tape_spacing.specs.declared.Spaced.{Spaced}

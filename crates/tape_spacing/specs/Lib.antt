@@ -1,3 +1,4 @@
 pub mod Spacing
 pub mod Examples
 pub mod Alike
+pub mod Direction

@@ -1,5 +1,5 @@
 -- Spacing over the table of entries (paper 01, "The cartridge", MTIO ops 0 to 4).
-use Rattle.std.specs.Prelude.{ℕ, zero, suc, ◌+◌, ◌-◌, ◌*◌, ◌%◌, ◌<◌, List, ◌≡◌, Bool, true, false, eqb, ltb}
+use Rattle.std.specs.Prelude.{ℕ, zero, suc, ◌+◌, ◌-◌, ◌%◌, ◌<◌, List, ◌≡◌, Bool, true, false, eqb, ltb}
 use Rattle.codes.specs.Codes.{at_mark_code, at_end_code, forward_records}
 use Rattle.xdr.specs.Choose.{choose}
 use Rattle.tape_image.specs.Image.{count, entry_len}

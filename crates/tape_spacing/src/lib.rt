@@ -1,9 +1,11 @@
 // Spacing over the entries of a cartridge: FSF, BSF, FSR and BSR, what each comes to. `tape_walking` walks over them.
 #![tactic(auto)]
 
-ghost use Rattle.std.specs.Prelude.{◌≡◌};
+ghost use Rattle.std.specs.Prelude.{◌≡◌, ◌≤◌};
 ghost use Rattle.codes.specs.Errors.{number_of};
-ghost use Rattle.tape_spacing.specs.Spacing.{ended};
+ghost use Rattle.tape_spacing.specs.Spacing.{ended, goes_forward, ahead_of, end_of, passes, position_after};
+ghost use Rattle.tape_spacing.specs.Direction.{is_forward};
+ghost use Rattle.tape_image.specs.Image.{most_entries};
 ghost use Rattle.tape_spacing.specs.Examples.{SpacingExamplesHold};
 ghost use Rattle.tape_spacing.specs.Alike.{SpacingAlike};
 
@@ -27,6 +29,69 @@ impl Spaced {
             error: error.number(),
             position,
             residue: 0,
+        }
+    }
+}
+
+// The way that a walk goes over the entries.
+#[derive(Clone, Copy, Debug, PartialEq, Eq)]
+pub enum Direction {
+    Forward,
+    Back,
+}
+
+#[tactic(auto, unfolding(crate::specs::Spacing::ahead_of, crate::specs::Spacing::passes, crate::specs::Spacing::position_after))]
+impl Direction {
+    // Of FSF 0, BSF 1, FSR 2 and BSR 3, the even ones go forward.
+    pub fn of(op: u32) -> Direction
+        ensures { is_forward result ≡ goes_forward op }
+    {
+        if op % 2 == 0 {
+            Direction::Forward
+        } else {
+            Direction::Back
+        }
+    }
+
+    // How many of n entries, or of n marks, lie ahead where so many lie before.
+    pub fn ahead(self, n: usize, before: usize) -> usize
+        requires { before ≤ n }
+        ensures { result ≡ ahead_of (is_forward self) n before }
+    {
+        match self {
+            Direction::Forward => n - before,
+            Direction::Back => before,
+        }
+    }
+
+    // The end of n entries that it goes to.
+    pub fn end_of(self, n: usize) -> usize
+        ensures { result ≡ end_of (is_forward self) n }
+    {
+        match self {
+            Direction::Forward => n,
+            Direction::Back => 0,
+        }
+    }
+
+    // The entry that a step from a position passes.
+    pub fn entry_passed(self, at: usize) -> usize
+        ensures { result ≡ passes (is_forward self) at }
+    {
+        match self {
+            Direction::Forward => at,
+            Direction::Back => at.saturating_sub(1),
+        }
+    }
+
+    // The position after a step, in a table of no more entries than an image may have.
+    pub fn position_after(self, at: usize) -> usize
+        requires { at ≤ most_entries }
+        ensures { result ≡ position_after (is_forward self) at }
+    {
+        match self {
+            Direction::Forward => at + 1,
+            Direction::Back => at.saturating_sub(1),
         }
     }
 }

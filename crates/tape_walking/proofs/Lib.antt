@@ -1,2 +1,2 @@
--- `PlaceLaws` has file and block number, one entry on.
-pub mod PlaceLaws
+-- `Walking` has a step of a walk.
+pub mod Walking

@@ -1,49 +1,13 @@
 // Walks over the entries of a sound cartridge image, where they lie: FSF, BSF, FSR and BSR, and what get state says of a position.
 #![tactic(auto)]
 
-ghost use Rattle.std.specs.Prelude.{◌≡◌, ℕ, ◌+◌, ◌-◌, ◌*◌, ◌<◌, ◌≤◌, length};
-ghost use Rattle.tape_image.specs.Image.{most_entries};
+ghost use Rattle.std.specs.Prelude.{◌≡◌};
 ghost use Rattle.tape_image.specs.Sound.{Placed};
 ghost use Rattle.tape_image.specs.Place.{place_at};
-ghost use Rattle.tape_spacing.specs.Spacing.{spacing, ahead_of, passes, position_after};
+ghost use Rattle.tape_spacing.specs.Spacing.{spacing};
 
 use tape_image::Place;
-use tape_spacing::Spaced;
-
-// How many entries lie ahead of a position, forward or back, of n.
-fn entries_ahead(forward: bool, n: usize, at: usize) -> usize
-    requires { at ≤ n }
-    ensures { result ≡ ahead_of forward n at }
-{
-    if forward { n - at } else { at }
-}
-
-// The entry that a step from a position passes.
-fn entry_passed(forward: bool, at: usize) -> usize
-    ensures { result ≡ passes forward at }
-{
-    if forward {
-        at
-    } else if at == 0 {
-        0
-    } else {
-        at - 1
-    }
-}
-
-// The position after a step, in a table of no more entries than an image may have.
-fn position_after(forward: bool, at: usize) -> usize
-    requires { at ≤ most_entries }
-    ensures { result ≡ position_after forward at }
-{
-    if forward {
-        at + 1
-    } else if at == 0 {
-        0
-    } else {
-        at - 1
-    }
-}
+use tape_spacing::{Direction, Spaced};
 
 // FSF 0, BSF 1, FSR 2, BSR 3: one walk over the table, forward or back, that counts marks or records.
 pub fn space(image: &[u8], op: u32, position: usize, times: u32) -> Spaced
@@ -51,65 +15,46 @@ pub fn space(image: &[u8], op: u32, position: usize, times: u32) -> Spaced
     ensures { result ≡ spacing image.now op position times }
 {
     let n = tape_image::count(image);
-    let forward = op % 2 == 0;
+    let direction = Direction::of(op);
     let marks = op < codes::FORWARD_RECORDS;
     let mut at = position;
     let mut left = times;
-    let mut rest = entries_ahead(forward, n, position);
-    loop {
+    for _ in 0..direction.ahead(n, position) {
         if left == 0 {
-            break Spaced {
-                error: 0,
-                position: at,
-                residue: 0,
-            };
+            break;
         }
-        if rest == 0 {
-            break Spaced {
-                error: codes::AT_END,
+        let is_mark = tape_image::entry_len(image, direction.entry_passed(at)) == 0;
+        at = direction.position_after(at);
+        if is_mark && !marks {
+            return Spaced {
+                error: codes::AT_MARK,
                 position: at,
                 residue: left,
             };
         }
-        let entry = entry_passed(forward, at);
-        let len = tape_image::entry_len(image, entry);
-        at = position_after(forward, at);
-        rest -= 1;
-        if len == 0 {
-            if marks {
-                left -= 1;
-            } else {
-                break Spaced {
-                    error: codes::AT_MARK,
-                    position: at,
-                    residue: left,
-                };
-            }
-        } else {
-            if marks {} else {
-                left -= 1;
-            }
-        }
+        left -= u32::from(is_mark == marks);
+    }
+    Spaced {
+        error: if left == 0 { 0 } else { codes::AT_END },
+        position: at,
+        residue: left,
     }
 }
 
 // The marks before a position, and the records since the last of them.
+#[tactic(auto, unfolding(tape_image::specs::Place::marks_before, tape_image::specs::Place::records_since, xdr::specs::Choose::choose))]
 pub fn place_of(image: &[u8], position: usize) -> Place
     requires { Placed image.now position }
     ensures { result ≡ place_at image.now position }
 {
-    let mut file: u32 = 0;
-    let mut block: u32 = 0;
-    let mut i: usize = 0;
-    while i < position {
-        let len = tape_image::entry_len(image, i);
-        i += 1;
-        if len == 0 {
-            file += 1;
-            block = 0;
+    let mut place = Place { file: 0, block: 0 };
+    for i in 0..position {
+        if tape_image::entry_len(image, i) == 0 {
+            place.file += 1;
+            place.block = 0;
         } else {
-            block += 1;
+            place.block += 1;
         }
     }
-    Place { file, block }
+    place
 }

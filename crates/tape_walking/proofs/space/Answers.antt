@@ -1,87 +1,43 @@
-use lib.Dec.{eqb}
-use Prim.Native.Nat.{suc, ◌%◌, ◌-◌, ◌≤◌, ◌<◌}
+use Prim.Native.Nat.{suc, ◌-◌, ◌+◌, ◌<◌}
 use mathlib.Core.Path.{◌≡◌, sym, ◌∙◌}
 use native.Mathlib.Omega.{arith}
-use Rattle.xdr.proofs.Tests.{ltb_yes, ltb_no}
-use Rattle.tape_spacing.proofs.Laws.{passes_below, after_within, after_ahead, walk_done, walk_end, walk_stop, walk_mark, walk_pass, walk_record}
+use Rattle.xdr.proofs.Tests.{ltb_no}
 use Rattle.tape_spacing.specs.Spacing.{spacing}
+use Rattle.tape_spacing.proofs.Laws.{passes_below, after_within, after_ahead, walk_done, walk_end, walk_stop}
+use Rattle.tape_walking.proofs.Walking.{walk_op}
 use Rattle.tape_walking.proofs.space.Goals as goal
+use Rattle.tape_walking.proofs.space.Goals.{else-loop-test, then-loop-test+then-left-eq0}
 
-pub count-n-requires : goal.count-n-requires
-count-n-requires c = omega arith
-
-pub entries_ahead-rest-requires : goal.entries_ahead-rest-requires
-entries_ahead-rest-requires c = omega arith
-
-pub loop-left-init : goal.loop-left-init
-loop-left-init c = (omega arith, (cc), (cc))
-
-pub entry_passed-entry-requires : goal.entry_passed-entry-requires
-entry_passed-entry-requires c = tt
+pub loop-init : goal.loop-init
+unfolding spacing
+loop-init c = grind arith
 
 -- the entry passed is in the table
-pub entry_len-len-requires : goal.entry_len-len-requires
-entry_len-len-requires c =
-    let b : c.entry_passed-entry.result < c.count-n.result =
-    rw c.entry_passed-entry.ensures (passes_below _ _ _ c.if-rest-eq0.false _ c.loop-left.invariant.0 c.loop-left.invariant.1) in
+pub entry_len-is_mark-requires : goal.entry_len-is_mark-requires
+entry_len-is_mark-requires c =
+    let b : c.entry_passed.result < c.count-n.result =
+    rw c.entry_passed.ensures (passes_below _ _ _ (λ z. omega arith) _ c.loop.invariant.0 c.loop.invariant.1) in
     record { few = omega arith; whole = omega arith }
 
-pub position_after-at-requires : goal.position_after-at-requires
-position_after-at-requires c = omega arith
+pub returns-then-not-marks : goal.returns-then-not-marks
+returns-then-not-marks c =
+    sym (c.loop.invariant.2 ∙ walk_stop _ _ _ _ _ _ c.if-left-eq0.false (λ z. omega arith) (ltb_no c.if-not-marks.true) (cc) ∙ (cc))
 
-pub overflow_sub-rest : goal.overflow_sub-rest
-overflow_sub-rest c = omega arith
+pub loop-preserved : goal.loop-preserved
+loop-preserved c =
+    let some : c.ahead-end.result - c.loop.counter ≡ 0 → ⊥ = λ z. omega arith in
+    let more : c.ahead-end.result - c.loop.counter ≡ suc (c.ahead-end.result - (c.loop.counter + 1)) = omega arith in
+    let pred : c.ahead-end.result - c.loop.counter - 1 ≡ c.ahead-end.result - (c.loop.counter + 1) = omega arith in (
+      rw c.position_after-at.ensures (after_within _ _ _ some _ c.loop.invariant.0 c.loop.invariant.1),
+      rw (← pred, c.position_after-at.ensures) (after_ahead _ _ _ some _ c.loop.invariant.0 c.loop.invariant.1),
+      c.loop.invariant.2 ∙ walk_op _ _ _ _ _ _ _ _ c.if-left-eq0.false more (cc) c.else-is_mark.either ∙ (cc),
+    )
 
-pub overflow_sub-left : goal.overflow_sub-left
-overflow_sub-left c = omega arith
+pub returns-then-left-eq0-2 : goal.returns-then-left-eq0-2
+returns-then-left-eq0-2 c = sym (c.loop.invariant.2 ∙ walk_done _ _ _ _ _ _ c.if-left-eq0-2.true ∙ (cc))
 
-pub loop-left-smaller-then-marks : goal.loop-left-smaller-then-marks
-loop-left-smaller-then-marks c = omega arith
-
-pub loop-left-preserved-then-marks : goal.loop-left-preserved-then-marks
-loop-left-preserved-then-marks c = let more : c.loop-left.rest ≡ suc (c.loop-left.rest - 1) = omega arith in (
-  rw c.position_after-at.ensures (after_within _ _ _ c.if-rest-eq0.false _ c.loop-left.invariant.0 c.loop-left.invariant.1),
-  rw c.position_after-at.ensures (after_ahead _ _ _ c.if-rest-eq0.false _ c.loop-left.invariant.0 c.loop-left.invariant.1),
-  c.loop-left.invariant.2
-      ∙ walk_mark _ _ _ _ _ _ _ c.if-left-eq0.false more (ltb_yes c.if-marks.true) (cc) ∙ (cc),
-)
-
-pub loop-left-smaller-then-marks-2 : goal.loop-left-smaller-then-marks-2
-loop-left-smaller-then-marks-2 c = omega arith
-
-pub loop-left-preserved-then-marks-2 : goal.loop-left-preserved-then-marks-2
-loop-left-preserved-then-marks-2 c = let more : c.loop-left.rest ≡ suc (c.loop-left.rest - 1) = omega arith in (
-  rw c.position_after-at.ensures (after_within _ _ _ c.if-rest-eq0.false _ c.loop-left.invariant.0 c.loop-left.invariant.1),
-  rw c.position_after-at.ensures (after_ahead _ _ _ c.if-rest-eq0.false _ c.loop-left.invariant.0 c.loop-left.invariant.1),
-  c.loop-left.invariant.2
-      ∙ walk_pass _ _ _ _ _ _ _ c.if-left-eq0.false more (ltb_yes c.if-marks-2.true) (λ e. c.if-len-eq0.false (cc)) ∙ (cc),
-)
-
-pub overflow_sub-left-else-marks-2 : goal.overflow_sub-left-else-marks-2
-overflow_sub-left-else-marks-2 c = omega arith
-
-pub loop-left-smaller : goal.loop-left-smaller
-loop-left-smaller c = omega arith
-
-pub loop-left-preserved : goal.loop-left-preserved
-loop-left-preserved c = let more : c.loop-left.rest ≡ suc (c.loop-left.rest - 1) = omega arith in (
-  rw c.position_after-at.ensures (after_within _ _ _ c.if-rest-eq0.false _ c.loop-left.invariant.0 c.loop-left.invariant.1),
-  rw c.position_after-at.ensures (after_ahead _ _ _ c.if-rest-eq0.false _ c.loop-left.invariant.0 c.loop-left.invariant.1),
-  c.loop-left.invariant.2
-      ∙ walk_record _ _ _ _ _ _ _ c.if-left-eq0.false more (ltb_no c.if-marks-2.false) (λ e. c.if-len-eq0.false (cc)) ∙ (cc),
-)
-
-pub returns-then-left-eq0 : goal.returns-then-left-eq0
-unfolding spacing
-returns-then-left-eq0 c = (sym (c.loop-left.invariant.2 ∙ walk_done _ _ _ _ _ _ c.if-left-eq0.true))
-
-pub returns-then-rest-eq0 : goal.returns-then-rest-eq0
-unfolding spacing
-returns-then-rest-eq0 c = (sym (c.loop-left.invariant.2 ∙ walk_end _ _ _ _ _ _ c.if-left-eq0.false c.if-rest-eq0.true))
-
-pub returns-else-marks : goal.returns-else-marks
-unfolding spacing
-returns-else-marks c = sym
-    (c.loop-left.invariant.2
-    ∙ walk_stop _ _ _ _ _ _ c.if-left-eq0.false c.if-rest-eq0.false (ltb_no c.if-marks.false) (cc)
-    ∙ (cc))
+pub returns-else-left-eq0-2 : goal.returns-else-left-eq0-2
+returns-else-left-eq0-2 c = elim c.loop-test.branch [
+  else-loop-test w ↦ sym (c.loop.invariant.2 ∙ walk_end _ _ _ _ _ _ c.if-left-eq0-2.false (omega arith))
+  | then-loop-test+then-left-eq0 w ↦ absurd (c.if-left-eq0-2.false (cc))
+]
