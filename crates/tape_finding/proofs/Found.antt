@@ -5,15 +5,15 @@ use mathlib.Core.List.{List}
 use mathlib.Core.Path.{◌≡◌, sym, ap, ◌∙◌}
 use native.Mathlib.Omega.{arith}
 use lib.ListN.{length, get_or}
-use Rattle.tape_spacing.specs.Spacing.{ended, end_of}
-use Rattle.tape_marks.specs.Marks.{before, marks_ahead, count_th, stops_at, jump}
+use Rattle.tape_spacing.specs.Spacing.{ended, end_of, ahead_of}
+use Rattle.tape_marks.specs.Marks.{before, count_th, stops_at, jump}
 use Rattle.tape_marks.proofs.Jump.{ahead_by, jump_end, jump_found}
 
 -- of m marks `passed` lie before position p and `ahead` ahead of it
 module _ (f : Bool) (ms : List ℕ) (n p times m passed ahead : ℕ)
-    (long : length ms ≡ m) (b : passed ≡ before ms p) (a : ahead ≡ marks_ahead f m passed) where
+    (long : length ms ≡ m) (b : passed ≡ before ms p) (a : ahead ≡ ahead_of f m passed) where
   ahead_is : ahead ≡ ahead_by f ms p
-  ahead_is = a ∙ ap (λ (k : ℕ). marks_ahead f k passed) (sym long) ∙ ap (marks_ahead f (length ms)) b
+  ahead_is = a ∙ ap (λ (k : ℕ). ahead_of f k passed) (sym long) ∙ ap (ahead_of f (length ms)) b
 
   pub found_end : (end : ℕ) → end ≡ end_of f n → ahead < times → ended 13 end (times - ahead) ≡ jump f ms n p times
   found_end end e less =

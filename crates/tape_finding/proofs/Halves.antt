@@ -103,3 +103,5 @@ found ms p low high h b =
     let i = b.low_most in
     let j = b.high_least in
     omega arith
+
+pub ruleset halves = (start, upper_less, lower_less, upper, lower, found)

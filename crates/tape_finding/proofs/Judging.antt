@@ -45,3 +45,5 @@ module _ (words l : List ℕ) (n i j m : ℕ) (long : length words ≡ m) (s : J
         judged_next w =
             let z = s.behind in
             record { within = omega arith; behind = omega arith; rest = s.rest ∙ names_next words l n i j h q (omega arith) w }
+
+pub ruleset judged = (judged_end, judged_pass, judged_short, judged_other, judged_next)

@@ -3,11 +3,12 @@ use mathlib.Core.Path.{refl}
 use Rattle.xdr.specs.Choose.{choose}
 use Rattle.xdr.specs.Xdr.{be32, be32s, word}
 use Rattle.tape_spacing.specs.Examples.{sample}
-use Rattle.tape_marks.specs.Marks.{marks_from, names_marks, is_mark_list, before, marks_ahead, count_th, stops_at, jump}
+use Rattle.tape_spacing.specs.Spacing.{ahead_of}
+use Rattle.tape_marks.specs.Marks.{marks_from, names_marks, is_mark_list, before, count_th, stops_at, jump}
 use Rattle.tape_marks.specs.Cases.{NoneCases, OneCases, ThreeCases, NameCases, MarkCases}
 
 none : NoneCases
-unfolding choose before marks_ahead count_th stops_at jump
+unfolding choose before ahead_of count_th stops_at jump
 none =
     record {
       forward_nothing = refl;
@@ -21,7 +22,7 @@ none =
     }
 
 one : OneCases
-unfolding choose before marks_ahead count_th stops_at jump
+unfolding choose before ahead_of count_th stops_at jump
 one =
     record {
       forward_from_start = refl;
@@ -37,7 +38,7 @@ one =
     }
 
 three : ThreeCases
-unfolding choose before marks_ahead count_th stops_at jump
+unfolding choose before ahead_of count_th stops_at jump
 three =
     record {
       forward_first = refl;

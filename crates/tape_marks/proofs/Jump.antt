@@ -14,13 +14,13 @@ use Rattle.tape_image.specs.Place.{marks_before}
 use Rattle.tape_spacing.specs.Spacing.{ended, end_of, walk, spacing, ahead_of, passes, position_after, goes_forward}
 use Rattle.tape_spacing.specs.Alike.{is_mark}
 use Rattle.tape_spacing.proofs.Laws.{after_within, after_ahead, walk_done, walk_end, walk_mark, walk_pass}
-use Rattle.tape_marks.specs.Marks.{marks_from, before, marks_ahead, count_th, stops_at, jump}
+use Rattle.tape_marks.specs.Marks.{marks_from, before, count_th, stops_at, jump}
 use Rattle.tape_marks.specs.Holds.{FilesByMarks, MarksAtAGlance}
 use Rattle.tape_marks.proofs.Marks.{by_cases, file_mark, file_record, number_marks, before_marks, mark_named, marks_hold, names_exactly}
 
 -- how many marks of a list lie ahead of a position
 abbrev pub ahead_by : Bool → List ℕ → ℕ → ℕ
-ahead_by f ms p = marks_ahead f (length ms) (before ms p)
+ahead_by f ms p = ahead_of f (length ms) (before ms p)
 
 -- ---- the three cases of a jump
 module _ (f : Bool) (ms : List ℕ) (n p times : ℕ) where
@@ -44,7 +44,7 @@ module _ (f : Bool) (ms : List ℕ) (n p times : ℕ) where
 module _ (f : Bool) (ms : List ℕ) (n p q left : ℕ) (some : left ≡ 0 → ⊥) where
   jump_record : before ms p ≡ before ms q → jump f ms n p left ≡ jump f ms n q left
   jump_record e =
-      let a = ap (marks_ahead f (length ms)) e in
+      let a = ap (ahead_of f (length ms)) e in
       by_cases (ltb (ahead_by f ms p) left)
       (λ h. let z = ltb-true _ _ h in
       jump_end f ms n p left z ∙ ap (λ (k : ℕ). ended 13 (end_of f n) (left - k)) a ∙ sym (jump_end f ms n q left (omega arith)))
@@ -83,7 +83,7 @@ module _ (l : List ℕ) (n i : ℕ) (h : i ≤ n) where
   -- k entries lie ahead after the step
   module _ (k left : ℕ) (some : left ≡ 0 → ⊥) where
     passing : (f : Bool) → suc k ≡ ahead_of f n i → is_mark l (passes f i) ≡ true → Passing f ms n i (position_after f i) left some
-    unfolding ms ahead_of passes position_after marks_ahead count_th stops_at
+    unfolding ms ahead_of passes position_after count_th stops_at
     passing true e q =
         let b = before_marks l n i h in
         let c = before_marks l n (i + 1) (omega arith) in
@@ -121,7 +121,7 @@ module _ (l : List ℕ) (n i : ℕ) (h : i ≤ n) where
 
   -- at the end there is none ahead
   none_ahead : (f : Bool) → 0 ≡ ahead_of f n i → (ahead_by f ms i ≡ 0) × (end_of f n ≡ i)
-  unfolding ms ahead_of marks_ahead marks_before
+  unfolding ms ahead_of marks_before
   none_ahead true e =
       let b = before_marks l n i h in
       let c = number_marks l n in

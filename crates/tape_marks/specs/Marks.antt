@@ -4,7 +4,7 @@ use Rattle.codes.specs.Codes.{at_end_code}
 use Rattle.xdr.specs.Choose.{choose}
 use Rattle.xdr.specs.Xdr.{word}
 use Rattle.tape_spacing.specs.declared.Spaced.{Spaced}
-use Rattle.tape_spacing.specs.Spacing.{ended, end_of}
+use Rattle.tape_spacing.specs.Spacing.{ended, end_of, ahead_of}
 use Rattle.tape_spacing.specs.Alike.{is_mark}
 
 -- "entry numbers (from 0) of the marks, rising": of those among the k entries from entry i on
@@ -37,12 +37,7 @@ unfoldable pub before : List ℕ → ℕ → ℕ
 before [] p = 0
 before (m ∷ ms) p = choose (ltb m p) (before ms p + 1) (before ms p)
 
--- how many of m marks lie ahead of a position that b of them lie before, forward or back
-unfoldable pub marks_ahead : Bool → ℕ → ℕ → ℕ
-marks_ahead true m b = m - b
-marks_ahead false m b = b
-
--- which of them is the count-th ahead
+-- which mark is the count-th ahead of a position that b of them lie before
 unfoldable pub count_th : Bool → ℕ → ℕ → ℕ
 count_th true b times = b + times - 1
 count_th false b times = b - times
@@ -55,7 +50,7 @@ stops_at false mark = mark
 -- from position p over `times` marks, of n entries: "at an end 13. .. Residue is count less what was counted."
 unfoldable pub jump : Bool → List ℕ → ℕ → ℕ → ℕ → Spaced
 jump forward ms n p times =
-    let ahead = marks_ahead forward (length ms) (before ms p) in
+    let ahead = ahead_of forward (length ms) (before ms p) in
     let mark = get_or ms (count_th forward (before ms p) times) 0 in
     choose (eqb times 0) (ended 0 p 0)
     (choose (ltb ahead times) (ended at_end_code (end_of forward n) (times - ahead)) (ended 0 (stops_at forward mark) 0))

@@ -1,20 +1,20 @@
 -- The laws of room, of kept bytes and of filled records. Assumes nothing.
-use Prim.Native.Nat.{ℕ, zero, suc, ◌+◌, ◌-◌, ◌*◌, ◌≤◌, ◌<◌}
-use mathlib.Core.List.{List, [], ◌∷◌, ◌++◌, append-nil}
+use Prim.Native.Nat.{ℕ, ◌+◌, ◌-◌, ◌≤◌, ◌<◌}
+use mathlib.Core.List.{List, [], ◌++◌, append-nil}
 use mathlib.Core.Bool.{Bool, true, false}
 use mathlib.Core.Path.{◌≡◌, refl, sym, ap, ◌∙◌}
 use native.Mathlib.Omega.{arith}
 use lib.ListN.{length, get_or, replicate, length-append, length-replicate}
-use lib.Dec.{ltb, leb}
+use lib.Dec.{ltb}
 use borrow.Author.Tests.{ltb-true, ltb-false, leb-true, lt-ltb, le-ltb, le-leb}
 use Rattle.xdr.specs.Choose.{choose, all_of}
 use Rattle.xdr.specs.Xdr.{overlay}
 use Rattle.xdr.proofs.Tests.{all_get}
 use Rattle.xdr.proofs.Laws.{overlay_none, overlay_then}
-use Rattle.tape_image.specs.Image.{capacity, count, used, entry_start, body_at, body_len, with_entry}
-use Rattle.tape_image.specs.Sound.{Sound, Placed, sum_before}
+use Rattle.tape_image.specs.Image.{count, used, entry_start, body_at, with_entry}
+use Rattle.tape_image.specs.Sound.{Placed, sum_before}
 use Rattle.tape_image.proofs.Laws.{sum_used}
-use Rattle.tape_writing.specs.Writing.{kept, room_tests, room_for, Room, written, fill_to, KeptBytes, FilledWrite}
+use Rattle.tape_writing.specs.Writing.{kept, room_tests, room_for, Room, written, fill_to, KeptBytes}
 
 module _ (l : List ℕ) (p : ℕ) where
   pub kept_cut : p < count l → kept l p ≡ entry_start l p
@@ -76,14 +76,6 @@ length_fill s n h = simp (length-append, length-replicate) (omega arith)
 pub fill_whole : (s : List ℕ) → fill_to s (length s) ≡ s
 unfolding fill_to
 fill_whole s = let e : length s - length s ≡ 0 = omega arith in rw e (append-nil s)
-
-pub filled_refused : (l : List ℕ) (p : ℕ) (s : List ℕ) (n : ℕ) → false ≡ room_for l p n → FilledWrite l p s n false l
-unfolding choose
-filled_refused l p s n h = record { room = h; image = rw (← h) }
-
-pub filled_done : (l : List ℕ) (p : ℕ) (s : List ℕ) (n : ℕ) (l' : List ℕ) → true ≡ room_for l p n → l' ≡ written l p (fill_to s n) → FilledWrite l p s n true l'
-unfolding choose
-filled_done l p s n l' h e = record { room = h; image = rw (← h) e }
 
 -- the entry, a part and then zeros are one record
 pub filled_is : (l : List ℕ) (p : ℕ) (s : List ℕ) (n : ℕ) → length s ≤ n

@@ -1,13 +1,13 @@
 -- What a write leaves: the image is sound, what stands before the position stays, what was written is there. Assumes nothing.
-use Prim.Native.Nat.{ℕ, zero, suc, ◌+◌, ◌-◌, ◌*◌, ◌≤◌, ◌<◌}
-use mathlib.Core.List.{List, [], ◌∷◌}
+use Prim.Native.Nat.{ℕ, zero, suc, ◌+◌, ◌-◌, ◌≤◌, ◌<◌}
+use mathlib.Core.List.{List, []}
 use mathlib.Core.Path.{◌≡◌, refl, sym, ap, ◌∙◌}
 use native.Mathlib.Omega.{arith}
 use native.Mathlib.Nat.{add-zero}
 use lib.ListN.{length, take, drop, get_or}
 use borrow.Author.Count.{below_more}
 use Rattle.codes.specs.Codes.{longest_record}
-use Rattle.xdr.specs.Xdr.{word, overlay}
+use Rattle.xdr.specs.Xdr.{word}
 use Rattle.xdr.proofs.Laws.{length_overlay}
 use Rattle.xdr.proofs.Places.{byte_before, byte_after, part_back, part_same}
 use Rattle.tape_image.specs.Image.{capacity, count, used, entry_at, entry_len, entry_start, entry_bytes, body_at, body_len, Table, with_entry}
@@ -200,9 +200,9 @@ mark_room l p f h =
     let b = f.ok.header.bytes in
     record { slot = h; fits = omega arith }
 
-pub mark_step : (l₀ : List ℕ) (p n keep : ℕ) (l : List ℕ) (at left : ℕ) (l' : List ℕ) → Marking l₀ p n keep l at left → 0 < left → l' ≡ with_entry l at keep 0
-    → Marking l₀ p n keep l' (at + 1) (left - 1)
-mark_step l₀ p n keep l at left l' m some e =
+pub mark_step : (l₀ : List ℕ) (p n keep : ℕ) (l : List ℕ) (at left rest : ℕ) (l' : List ℕ) → Marking l₀ p n keep l at left → left ≡ rest + 1 → l' ≡ with_entry l at keep 0
+    → Marking l₀ p n keep l' (at + 1) rest
+mark_step l₀ p n keep l at left rest l' m some e =
     let small : length {A = ℕ} [] ≤ longest_record = omega arith in
     let s = m.slots in
     let room = mark_room l at m.here (omega arith) in
@@ -221,7 +221,7 @@ mark_step l₀ p n keep l at left l' m some e =
       keeps = omega arith;
       fits = omega arith;
       long = len ∙ m.long;
-      rest = m.rest ∙ marks_more l at left (left - 1) (omega arith);
+      rest = m.rest ∙ marks_more l at left rest (omega arith);
     })
 
 -- marks that are written to a sound image leave it sound, and the tape after them

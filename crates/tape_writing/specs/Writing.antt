@@ -1,5 +1,5 @@
 -- Writing to the cartridge (paper 01, "The cartridge").
-use Rattle.std.specs.Prelude.{ℕ, zero, suc, ◌+◌, ◌-◌, ◌*◌, ◌≤◌, ◌<◌, List, [], ◌∷◌, ◌++◌, Bool, ◌≡◌, length, replicate, ltb, leb}
+use Rattle.std.specs.Prelude.{ℕ, zero, suc, ◌+◌, ◌-◌, ◌≤◌, ◌<◌, List, [], ◌∷◌, ◌++◌, Bool, ◌≡◌, length, replicate, ltb, leb}
 use Rattle.xdr.specs.Choose.{choose, all_of}
 use Rattle.xdr.specs.Xdr.{overlay}
 use Rattle.tape_image.specs.Image.{capacity, count, used, entry_start, body_at, body_len, with_entry}

@@ -19,18 +19,15 @@ fn kept_bytes(image: &[u8], position: usize) -> usize
     }
 }
 
-// Writes a record of size bytes at a position, the part and then zeros; where there is no room it changes nothing and says so.
+// Writes a record of size bytes at a position, the part and then zeros, and says whether there was room; where there was none it changes nothing.
+#[tactic(auto, using(crate::proofs::Laws::filled_is), unfolding(crate::specs::Writing::room_for, xdr::specs::Choose::all_of, xdr::specs::Choose::choose))]
 pub fn write_filled(image: &mut [u8], position: usize, part: &[u8], size: usize) -> bool
     requires { Placed image.old position × (length part.now ≤ size) × (size ≤ longest_record) }
     ensures { FilledWrite image.old position part.now size result image.new }
 {
-    let capacity = tape_image::capacity(image);
     let keep = kept_bytes(image, position);
     let body = tape_image::body_at(image);
-    if capacity <= position {
-        return false;
-    }
-    if image.len() - body < keep + size {
+    if tape_image::capacity(image) <= position || image.len() - body < keep + size {
         return false;
     }
     tape_image::put_entry(image, position, keep, size);
@@ -45,11 +42,7 @@ pub fn write_marks(image: &mut [u8], position: usize, times: usize)
     ensures { image.new ≡ with_marks image.old position times }
 {
     let keep = kept_bytes(image, position);
-    let mut at = position;
-    let mut left = times;
-    while 0 < left {
+    for at in position..position + times {
         tape_image::put_entry(image, at, keep, 0);
-        at += 1;
-        left -= 1;
     }
 }
