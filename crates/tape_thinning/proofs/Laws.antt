@@ -9,29 +9,20 @@ use native.Mathlib.Numerals.{add-one}
 use lib.Dec.{leb, ltb, eqb}
 use lib.ListN.{length, take, drop, get_or}
 use lib.Seq.{drop-cons, drop-drop}
-use borrow.Author.Tests.{le-leb, lt-leb, lt-ltb, le-ltb, eq-eqb, ne_eqb, not-true, not-false}
+use borrow.Author.Tests.{le-leb, lt-leb, lt-ltb, le-ltb, eq-eqb, ne_eqb}
+use Rattle.std.specs.Int.{from_bool}
 use Rattle.codes.specs.Codes.{longest_record}
 use Rattle.xdr.specs.Choose.{choose}
-use Rattle.tape_image.specs.Image.{capacity, count, entry_len, entry_start, entry_bytes, body_at, body_len, is_sound}
-use Rattle.tape_image.proofs.Laws.{sound_facts}
-use Rattle.tape_image.specs.Sound.{Sound, Placed}
-use Rattle.tape_writing.specs.Writing.{Room, written, room_for, fill_to, FilledWrite}
+use Rattle.tape_image.specs.Image.{count, entry_len, entry_start, entry_bytes, body_at}
+use Rattle.tape_image.specs.Sound.{Sound}
+use Rattle.tape_writing.specs.Writing.{Room, written, FilledWrite}
 use Rattle.tape_writing.proofs.Laws.{fill_whole, room_holds}
 use Rattle.tape_files.specs.Files.{entries_from, entries_of, files_of, is_next, kept_if, mark_of, chosen, file_count, bytes_in}
-use Rattle.tape_files.specs.Thinning.{emptied, laid, are_named, have_room, named_entries, thin_code, thin_image}
+use Rattle.tape_files.specs.Thinning.{laid, are_named, named_entries}
 use Rattle.tape_files.proofs.Lists.{kept_length, kept_bytes, mark_is, chosen_first, chosen_end, count_first, count_end, bytes_end, files_count, thinned_entries}
 use Rattle.tape_files.proofs.Laid.{bytes_length, entries_none, entries_next, Ready, ready_next, ready_room, next_length, laid_next_is, laid_end, entry_within}
-use Rattle.tape_files.proofs.Holds.{emptied_ready, named_short, image_done, thinning_holds}
-use Rattle.tape_thinning.specs.declared.Survey.{Survey}
-use Rattle.tape_thinning.specs.Walk.{next_at, named_at, Surveyed, room_of, Copyable, Thinned}
-
-pub when_so : (b : Bool) (n : ℕ) → b ≡ true → n ≡ choose b n 0
-unfolding choose
-when_so b n h = rw h
-
-pub when_not : (b : Bool) (n : ℕ) → b ≡ false → 0 ≡ choose b n 0
-unfolding choose
-when_not b n h = rw h
+use Rattle.tape_thinning.specs.declared.Walk.{Walk}
+use Rattle.tape_thinning.specs.Walk.{next_at, after, named_at, Surveyed, Copyable}
 
 -- ---- numbers by index
 drop_past : (at : ℕ) (ns : List ℕ) → length ns ≤ at → drop at ns ≡ []
@@ -98,19 +89,9 @@ pub named_start : (files : ℕ) (ns : List ℕ) → are_named 0 files ns ≡ nam
 unfolding named_at
 named_start files ns = refl
 
--- ---- room
-module _ (l : List ℕ) (entries bytes : ℕ) where
-  pub room_few : capacity l < entries → false ≡ room_of l entries bytes
-  unfolding room_of choose
-  room_few h = rw (lt-leb entries (capacity l) h)
+pub ruleset numbers_in_turn = (named_start, named_low, named_high, named_next, named_end)
 
-  pub room_short : entries ≤ capacity l → body_len l < bytes → false ≡ room_of l entries bytes
-  unfolding room_of choose
-  room_short h k = rw (le-leb entries (capacity l) h, lt-leb bytes (body_len l) k)
-
-  pub room_there : entries ≤ capacity l → bytes ≤ body_len l → true ≡ room_of l entries bytes
-  unfolding room_of choose
-  room_there h k = rw (le-leb entries (capacity l) h, le-leb bytes (body_len l) k)
+pub ruleset numbers_by_index = (next_past, next_so, next_not)
 
 -- ---- one entry of the source
 -- what is left to choose from entry i on
@@ -206,6 +187,27 @@ measure_step s ns i file begun next entries bytes len named mark e b n h isLen i
       bytes_low = omega arith;
     }
 
+chosen_low : (b : Bool) (n : ℕ) → choose b n 0 ≤ n
+unfolding choose
+chosen_low true n = omega arith
+chosen_low false n = omega arith
+
+pub begun_is : (mark : Bool) → from_bool (not mark) ≡ 1 - choose mark 1 0
+unfolding choose
+begun_is true = refl
+begun_is false = refl
+
+-- the same, as the code goes from one walk to the next
+pub measure_on : (s ns : List ℕ) (i : ℕ) (w w' : Walk) (begun entries bytes len : ℕ) (named : Bool) (begun' entries' bytes' : ℕ) → i < count s
+    → len ≡ entry_len s i → named ≡ next_at ns w.next w.file → w' ≡ after w named len → begun' ≡ 1 - choose (eqb len 0) 1 0
+    → entries' ≡ entries + choose named 1 0 → bytes' ≡ bytes + choose named len 0
+    → Measuring s ns i w.file begun w.next entries bytes → Measuring s ns (i + 1) w'.file begun' w'.next entries' bytes'
+measure_on s ns i w w' begun entries bytes len named begun' entries' bytes' h isLen is_named e b f g v =
+    let mark = choose {A = ℕ} (eqb len 0) 1 0 in
+    rw (e, b, f, g)
+    (measure_step s ns i w.file begun w.next entries bytes len named mark (choose named 1 0) (choose named len 0) (choose named mark 0) h isLen is_named refl
+    (chosen_low (eqb len 0) 1) refl (chosen_low named 1) refl (chosen_low named len) refl (chosen_low named mark) v)
+
 none_left : (s ns : List ℕ) (i file next : ℕ) → count s ≤ i → left s ns i file next ≡ []
 none_left s ns i file next h = ap (chosen file (drop next ns)) (entries_none s (count s - i) i (omega arith)) ∙ chosen_end file (drop next ns)
 
@@ -295,6 +297,16 @@ module _ (s ns l₀ : List ℕ) (i file next : ℕ) (l : List ℕ) (at len : ℕ
         at_low = omega arith;
       })
 
+-- the same, as the code goes from one walk to the next
+pub copy_on : (s ns l₀ : List ℕ) (i : ℕ) (w w' : Walk) (l : List ℕ) (at len : ℕ) (named : Bool) (l' : List ℕ) (at' : ℕ) → i < count s
+    → len ≡ entry_len s i → named ≡ next_at ns w.next w.file → w' ≡ after w named len → l' ≡ choose named (written l at (entry_bytes s i)) l
+    → at' ≡ at + choose named 1 0 → Copying s ns l₀ i w.file w.next l at → Copying s ns l₀ (i + 1) w'.file w'.next l' at'
+copy_on s ns l₀ i w w' l at len named l' at' h isLen is_named e f g v =
+    let mark = choose {A = ℕ} (eqb len 0) 1 0 in
+    rw (e, g)
+    (copy_step s ns l₀ i w.file w.next l at len named mark (choose named mark 0) h isLen is_named refl refl v l' (choose named 1 0) f refl
+    (chosen_low named 1) (chosen_low (eqb len 0) 1) (chosen_low named mark))
+
 -- what a copy asks for, before its mark is known
 pub copy_allowed : (s ns l₀ : List ℕ) (i file next : ℕ) (l : List ℕ) (at : ℕ) (named : Bool) → i < count s → named ≡ next_at ns next file
     → Copying s ns l₀ i file next l at → named ≡ true → Copyable s i l at
@@ -334,66 +346,3 @@ module _ (s : List ℕ) (i : ℕ) (l : List ℕ) (p : ℕ) (v : Copyable s i l p
   pub copied : (start end len : ℕ) (r : Bool) (l' : List ℕ) → FilledWrite l p (take (end - start) (drop start s)) len r l'
       → start ≡ body_at s + entry_start s i → end ≡ start + len → len ≡ entry_len s i → l' ≡ written l p (entry_bytes s i)
   copied start end len r l' w a b c = written_part (take (end - start) (drop start s)) len r l' (part_is start end len a b c) c w
-
--- ---- what `thin` gives
-told : (s ns t : List ℕ) (r : ℕ) → thin_code s ns t ≡ r → (r ≡ 0 → ⊥) → Thinned s ns t r t
-told s ns t r h k = record { code = sym h; image = sym (thinning_holds.left s ns t (λ e. k (sym h ∙ e))) }
-
-room_is : (l : List ℕ) (es : List (List ℕ)) → have_room l es ≡ room_of l (length es) (bytes_in es)
-unfolding have_room room_of
-room_is l es = refl
-
-module _ (s ns t : List ℕ) where
-  pub told_source : (a : Bool) → a ≡ is_sound s → not a ≡ true → Thinned s ns t 15 t
-  told_source a h x = told s ns t 15 ((thinning_holds.order s ns t).source_unsound (sym h ∙ not-true a x)) (λ e. omega arith)
-
-  pub told_second : (b : Bool) → b ≡ is_sound t → not b ≡ true → Thinned s ns t 15 t
-  told_second b h x = told s ns t 15 ((thinning_holds.order s ns t).second_unsound (sym h ∙ not-true b x)) (λ e. omega arith)
-
-  -- both are sound
-  module _ (a b : Bool) (is_a : a ≡ is_sound s) (yesA : not a ≡ false) (is_b : b ≡ is_sound t) (yesB : not b ≡ false) where
-    sound_a : is_sound s ≡ true
-    sound_a = sym is_a ∙ not-false a yesA
-
-    sound_b : is_sound t ≡ true
-    sound_b = sym is_b ∙ not-false b yesB
-
-    -- and measured
-    module _ (r : Survey) (m : Surveyed s ns r) (c : Bool) (isC : c ≡ are_named 0 r.files ns) where
-      named_is : c ≡ are_named 0 (length (files_of s)) ns
-      named_is = isC ∙ ap (λ (k : ℕ). are_named 0 k ns) m.files
-
-      pub told_number : not c ≡ true → Thinned s ns t 9 t
-      told_number x = told s ns t 9 ((thinning_holds.order s ns t).not_named sound_a sound_b (sym named_is ∙ not-true c x)) (λ e. omega arith)
-
-      module _ (yesC : not c ≡ false) (d : Bool) (isD : d ≡ room_of t r.entries r.bytes) where
-        room_so : d ≡ have_room t (named_entries s ns)
-        room_so =
-            isD
-            ∙ ap (λ (k : ℕ). room_of t k r.bytes) m.entries
-            ∙ ap (λ (k : ℕ). room_of t (length (named_entries s ns)) k) m.bytes
-            ∙ sym (room_is t (named_entries s ns))
-
-        named_so : are_named 0 (length (files_of s)) ns ≡ true
-        named_so = sym named_is ∙ not-false c yesC
-
-        pub told_room : not d ≡ true → Thinned s ns t 13 t
-        told_room x =
-            told s ns t 13 ((thinning_holds.order s ns t).no_room sound_a sound_b named_so (sym room_so ∙ not-true d x)) (λ e. omega arith)
-
-        module _ (yesD : not d ≡ false) where
-          have_room_lem : have_room t (named_entries s ns) ≡ true
-          have_room_lem = sym room_so ∙ not-false d yesD
-
-          pub files_ready : (l : List ℕ) → l ≡ emptied t → Ready l 0 (named_entries s ns)
-          files_ready l e =
-              rw e
-              (emptied_ready t (named_entries s ns) (sound_facts t sound_b) (named_short s ns (sound_facts s sound_a)) have_room_lem)
-
-          pub told_done : (l m' : List ℕ) → l ≡ emptied t → m' ≡ laid l 0 (named_entries s ns) → Thinned s ns t 0 m'
-          told_done l m' e f =
-              let code = (thinning_holds.order s ns t).accepted sound_a sound_b named_so have_room_lem in
-              record { code = sym code; image = f ∙ ap (λ (k : List ℕ). laid k 0 (named_entries s ns)) e ∙ sym (image_done s ns t code) }
-
-pub sound_so : (l : List ℕ) (a : Bool) → a ≡ is_sound l → not a ≡ false → Sound l
-sound_so l a h x = sound_facts l (sym h ∙ not-false a x)

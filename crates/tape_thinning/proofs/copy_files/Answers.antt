@@ -1,21 +1,23 @@
 use native.Mathlib.Omega.{arith}
-use mathlib.Core.Path.{refl}
-use Prim.Native.Nat.{◌-◌}
-use Rattle.tape_thinning.proofs.Laws.{copy_start, copy_step, copy_allowed, copy_end}
-use borrow.Author.Rules.{rules}
+use Rattle.xdr.specs.Choose.{choose}
+use Rattle.tape_thinning.proofs.Laws.{copy_start, copy_on, copy_allowed, copy_end}
 use Rattle.tape_thinning.proofs.copy_files.Goals as goal
+use Rattle.tape_thinning.proofs.copy_files.Goals.{then-named, else-named}
 
 pub loop-i-init : goal.loop-i-init
-loop-i-init c = copy_start _ _ _ (search rules) (search rules)
+loop-i-init c = copy_start _ _ _ c.requires.0 c.requires.1
 
-pub copy_named-requires : goal.copy_named-requires
-copy_named-requires c = copy_allowed _ _ _ _ _ _ _ _ _ (omega arith) (cc) c.loop-i.invariant
+pub copy_entry-requires : goal.copy_entry-requires
+copy_entry-requires c = copy_allowed _ _ _ _ _ _ _ _ _ (omega arith) c.is_named-named.ensures c.loop-i.invariant c.if-named.true
 
 pub loop-i-preserved : goal.loop-i-preserved
-loop-i-preserved c = copy_step _ _ _ _ _ _ _ _ _ _ _ _ (omega arith) refl refl (cc) (cc) c.loop-i.invariant _ _ (cc) (cc) (omega arith) (omega arith) (omega arith)
-
-pub shape_of-image : goal.shape_of-image
-shape_of-image c = c.loop-i.invariant.long
+unfolding choose
+loop-i-preserved c = elim c.if-named.branch [
+  | then-named w ↦ copy_on _ _ _ _ _ _ _ _ _ _ _ _ (omega arith) c.entry_len.ensures.is c.is_named-named.ensures c.after-walk.ensures
+      (rw w.if-named.true (cc)) (rw w.if-named.true w.at-is) c.loop-i.invariant
+  | else-named w ↦ copy_on _ _ _ _ _ _ _ _ _ _ _ _ (omega arith) c.entry_len.ensures.is c.is_named-named.ensures c.after-walk.ensures
+      (rw w.if-named.false w.image-is) (rw w.if-named.false (omega arith)) c.loop-i.invariant
+]
 
 pub returns : goal.returns
 returns c = copy_end _ _ _ _ _ _ _ _ (omega arith) c.loop-i.invariant

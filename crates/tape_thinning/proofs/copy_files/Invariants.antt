@@ -1,10 +1,6 @@
-use Prim.Native.Nat.{◌-◌}
 use Rattle.tape_thinning.proofs.Laws.{Copying}
 use Rattle.tape_thinning.proofs.copy_files.Given as goal
 
 -- What is written and what is left to write are the whole; each turn is one law.
 abbrev pub invariant-loop-i : goal.invariant-loop-i
-invariant-loop-i l = Copying l.source l.numbers l.initial.image l.i l.file l.next l.image l.at
-
-abbrev pub decreases-loop-i : goal.decreases-loop-i
-decreases-loop-i l = l.count - l.i
+invariant-loop-i l = Copying l.source l.numbers l.initial.image l.i l.walk.file l.walk.next l.image l.at
