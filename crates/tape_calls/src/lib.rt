@@ -34,6 +34,7 @@ impl Entry {
 }
 
 // Entry i, or why there is none to tell.
+#[tactic(auto, using(tape_image::proofs::Laws::sound_facts), unfolding(crate::specs::Entries::entry_told, xdr::specs::Choose::choose))]
 fn find_entry(image: &[u8], i: usize) -> Result<Entry, NdmpError>
     ensures { MatchResult result (λ x. x ≡ entry_told image.now i) (λ e. entry (number_of e) 0 0 ≡ entry_told image.now i) }
 {
@@ -54,7 +55,7 @@ fn find_entry(image: &[u8], i: usize) -> Result<Entry, NdmpError>
 pub fn entry_at(image: &[u8], i: usize) -> Entry
     ensures { result ≡ entry_told image.now i }
 {
-    find_entry(image, i).unwrap_or_else(|error| Entry::refused(error))
+    find_entry(image, i).unwrap_or_else(Entry::refused)
 }
 
 // What C gets of a read, by its place in the image.
@@ -66,13 +67,12 @@ fn read_part(image: &[u8], position: usize, times: u32) -> Part
 
 // Reads the record at a position, up to a number of bytes, to the front of out. Where out is too short for them nothing is
 // copied or passed, and the error is 1001.
+#[tactic(auto, using(tape_ops::proofs::Reading::read_copies), unfolding(tape_ops::proofs::Reading::Copied, crate::specs::Handing::handed_part, crate::specs::Handing::handed_out, xdr::specs::Choose::choose))]
 pub fn read_to(image: &[u8], position: usize, times: u32, out: &mut [u8]) -> Part
     ensures { Handed image.now position times out.old result out.new }
 {
     let part = read_part(image, position, times);
-    let start = part.start;
-    let len = part.len;
-    if out.len() < len {
+    if out.len() < part.len {
         return Part {
             error: codes::SHORT_OUTPUT,
             position,
@@ -80,6 +80,6 @@ pub fn read_to(image: &[u8], position: usize, times: u32, out: &mut [u8]) -> Par
             len: 0,
         };
     }
-    xdr::copy_bytes(out, 0, &image[start..start + len]);
+    xdr::copy_bytes(out, 0, &image[part.start..part.start + part.len]);
     part
 }

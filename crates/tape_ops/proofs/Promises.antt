@@ -1,13 +1,13 @@
 -- What holds of the tape operations. Assumes nothing.
-use Prim.Native.Nat.{ℕ, zero, suc, ◌+◌, ◌-◌, ◌*◌, ◌≤◌, ◌<◌}
-use mathlib.Core.Bool.{Bool, true, false}
-use mathlib.Core.List.{List, [], ◌∷◌}
-use mathlib.Core.Path.{◌≡◌, refl, sym, ap, ◌∙◌}
+use Prim.Native.Nat.{ℕ, suc, ◌+◌, ◌≤◌, ◌<◌}
+use mathlib.Core.Bool.{true, false}
+use mathlib.Core.List.{List}
+use mathlib.Core.Path.{◌≡◌, refl, ap, ◌∙◌}
 use native.Mathlib.Omega.{arith}
 use lib.ListN.{length, take, drop}
 use lib.Seq.{take-length}
 use lib.Dec.{ltb, eqb}
-use borrow.Author.Tests.{ltb-false, eqb-true, eqb-false, eq-eqb, ne_eqb, lt-ltb, le-ltb}
+use borrow.Author.Tests.{ltb-false, eqb-true, eqb-false, ne_eqb, lt-ltb, le-ltb}
 use Rattle.codes.specs.Codes.{longest_record}
 use Rattle.xdr.specs.Choose.{choose, least}
 use Rattle.xdr.proofs.Tests.{by_test, by_both, least_take}
@@ -15,19 +15,19 @@ use Rattle.tape_image.specs.Image.{capacity, count, entry_len, entry_start, entr
 use Rattle.tape_image.specs.Sound.{Sound, Placed}
 use Rattle.tape_image.proofs.Laws.{sound_holds, placed, no_fault}
 use Rattle.tape_spacing.specs.declared.Spaced.{Spaced}
-use Rattle.tape_spacing.specs.Spacing.{ended, spacing, goes_forward, PassedMark, end_of}
+use Rattle.tape_spacing.specs.Spacing.{spacing, goes_forward, PassedMark, end_of}
 use Rattle.tape_spacing.specs.Alike.{AgreeInKind}
 use Rattle.tape_spacing.proofs.Laws.{spaced_within, spaced_error, spaced_stands}
 use Rattle.tape_spacing.proofs.Alike.{spacing_alike}
-use Rattle.tape_writing.specs.Writing.{Room, room_for, kept, written, with_marks}
+use Rattle.tape_writing.specs.Writing.{Room, room_for, written}
 use Rattle.tape_writing.proofs.Laws.{room_facts}
-use Rattle.tape_writing.proofs.Theorems.{written_placed, written_length, written_count, written_used, written_len, written_start, written_capacity}
+use Rattle.tape_writing.proofs.Theorems.{written_placed, written_length, written_count, written_used, written_len}
 use Rattle.tape_writing.proofs.Theorems.{written_there, same_bytes, past_table, past_body, marks_placed, marks_used, marks_past}
 use Rattle.tape_ops.specs.declared.Wrote.{Wrote}
 use Rattle.tape_ops.specs.declared.Part.{Part}
 use Rattle.tape_ops.specs.Step.{Step, keeping}
-use Rattle.tape_ops.specs.Operations.{wrote, part, write_step, read_part, entry_part, mark_step, rewinds, mtio_step}
-use Rattle.tape_ops.specs.Promises.{span_of, StaySound, Refused, Stand, Leave, PastEnd, MtioRefused, ToStart, ReadBack, FirstBytes, MtioAlike, TapePromises}
+use Rattle.tape_ops.specs.Operations.{part, write_step, read_part, entry_part, mark_step, rewinds, mtio_step}
+use Rattle.tape_ops.specs.Promises.{span_of, Refused, PastEnd, MtioRefused, ToStart, TapePromises}
 
 -- ---- a sound image stays sound
 Kept : Step Wrote → Type 0

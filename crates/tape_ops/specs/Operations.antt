@@ -1,6 +1,6 @@
 -- The tape operations (paper 01, "The cartridge"), for any image and any position. Each is a list of tests in the order of the
 -- table of refusals: 9, 7, then what the tape gives.
-use Rattle.std.specs.Prelude.{ℕ, ◌+◌, List, Bool, true, length, eqb, ltb, leb}
+use Rattle.std.specs.Prelude.{ℕ, ◌+◌, List, Bool, true, length, eqb, ltb}
 use Rattle.codes.specs.Codes.{longest_record, io_error, illegal_arguments, at_mark_code, at_end_code, rewind_tape, write_marks, off_line}
 use Rattle.xdr.specs.Choose.{choose, least}
 use Rattle.tape_image.specs.Image.{capacity, count, entry_len, entry_start, body_at, faulty}

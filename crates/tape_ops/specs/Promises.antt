@@ -6,8 +6,8 @@ use Rattle.tape_image.specs.Image.{count, used, entry_at, entry_bytes, entry_len
 use Rattle.tape_image.specs.Sound.{Sound, Placed}
 use Rattle.tape_spacing.specs.Spacing.{ended, goes_forward, PassedMark, end_of}
 use Rattle.tape_spacing.specs.Alike.{AgreeInKind}
-use Rattle.tape_ops.specs.Step.{Step, keeping}
-use Rattle.tape_ops.specs.Operations.{write_step, read_part, mtio_step, part}
+use Rattle.tape_ops.specs.Step.{keeping}
+use Rattle.tape_ops.specs.Operations.{write_step, read_part, mtio_step}
 
 -- the bytes that a read hands out
 abbrev pub span_of : List ℕ → ℕ → ℕ → List ℕ

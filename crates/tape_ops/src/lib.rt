@@ -8,7 +8,7 @@ ghost use Rattle.codes.specs.declared.NdmpError.TheVariants as NdmpError;
 ghost use Rattle.tape_image.specs.Image.{faulty};
 ghost use Rattle.tape_image.specs.Sound.{Placed};
 ghost use Rattle.tape_ops.specs.Step.{Told};
-ghost use Rattle.tape_ops.specs.Operations.{part, mark_step, rewinds, entry_part};
+ghost use Rattle.tape_ops.specs.Operations.{part, mark_step, entry_part};
 ghost use Rattle.tape_ops.specs.Answers.{refused_write, refused_read, WriteGave, ReadGave, MtioGave, StateGave};
 ghost use Rattle.tape_ops.specs.Promises.{TapePromises};
 
@@ -80,6 +80,7 @@ fn check_length(n: usize) -> Result<(), NdmpError>
 }
 
 // Refuses an unsound image, and a position above its number of entries.
+#[tactic(auto, using(tape_image::proofs::Laws::placed))]
 fn check_position(image: &[u8], position: usize) -> Result<(), NdmpError>
     ensures { MatchResult result (λ _. (faulty image.now position ≡ false) × Placed image.now position) (λ e. (e ≡ NdmpError.IoError) × (faulty image.now position ≡ true)) }
 {
@@ -90,6 +91,7 @@ fn check_position(image: &[u8], position: usize) -> Result<(), NdmpError>
 }
 
 // Writes a record at a position.
+#[tactic(auto, using(tape_writing::proofs::Laws::fill_whole), unfolding(crate::specs::Operations::write_step, crate::specs::Answers::is_refusal, xdr::specs::Choose::choose))]
 pub fn write(image: &mut [u8], position: usize, bytes: &[u8]) -> Result<Wrote, NdmpError>
     ensures { WriteGave image.old position bytes.now result image.new }
 {
@@ -118,6 +120,7 @@ pub fn write(image: &mut [u8], position: usize, bytes: &[u8]) -> Result<Wrote, N
 }
 
 // What stands at a position that is not above the number of entries.
+#[tactic(auto, using(crate::proofs::Laws::least_min), unfolding(crate::specs::Operations::entry_part, xdr::specs::Choose::choose))]
 fn entry_part(image: &[u8], position: usize, times: u32) -> Part
     requires { Placed image.now position }
     ensures { result ≡ entry_part image.now position times }
@@ -138,6 +141,7 @@ fn entry_part(image: &[u8], position: usize, times: u32) -> Part
 }
 
 // Reads the record at a position, up to a number of bytes.
+#[tactic(auto, using(crate::proofs::Answering::part_outcome), unfolding(crate::specs::Operations::read_part, crate::specs::Answers::is_refusal, xdr::specs::Choose::choose))]
 pub fn read(image: &[u8], position: usize, times: u32) -> Result<Part, NdmpError>
     ensures { ReadGave image.now position times result }
 {
@@ -150,6 +154,7 @@ pub fn read(image: &[u8], position: usize, times: u32) -> Result<Part, NdmpError
 }
 
 // Writes marks at a position: all of them, or none where they do not fit.
+#[tactic(auto, unfolding(crate::specs::Operations::mark_step, xdr::specs::Choose::choose))]
 fn marks(image: &mut [u8], position: usize, times: u32) -> Spaced
     requires { Placed image.old position }
     ensures { Told (mark_step image.old position times) result image.new }
@@ -170,14 +175,8 @@ fn marks(image: &mut [u8], position: usize, times: u32) -> Spaced
     }
 }
 
-// Whether an operation goes to the start of the tape.
-fn rewinds(op: u32) -> bool
-    ensures { result ≡ rewinds op }
-{
-    op == codes::REWIND_TAPE || op == codes::OFF_LINE
-}
-
 // MTIO: 0 FSF, 1 BSF, 2 FSR, 3 BSR, 4 REW, 5 write marks, 6 off, which rewinds here; its caller closes the device.
+#[tactic(auto, using(crate::proofs::Answering::mark_outcome, crate::proofs::Answering::space_outcome), unfolding(crate::specs::Operations::mtio_step, crate::specs::Answers::is_refusal, xdr::specs::Choose::choose))]
 pub fn mtio(image: &mut [u8], op: u32, position: usize, times: u32) -> Result<Spaced, NdmpError>
     ensures { MtioGave image.old op position times result image.new }
 {
@@ -185,20 +184,19 @@ pub fn mtio(image: &mut [u8], op: u32, position: usize, times: u32) -> Result<Sp
         return Err(NdmpError::IllegalArguments);
     }
     check_position(image, position)?;
-    if op == codes::WRITE_MARKS {
-        return Ok(marks(image, position, times));
-    }
-    if rewinds(op) {
-        return Ok(Spaced {
+    Ok(match op {
+        codes::WRITE_MARKS => marks(image, position, times),
+        codes::REWIND_TAPE | codes::OFF_LINE => Spaced {
             error: 0,
             position: 0,
             residue: 0,
-        });
-    }
-    Ok(tape_walking::space(image, op, position, times))
+        },
+        _ => tape_walking::space(image, op, position, times),
+    })
 }
 
 // The file and the block number of a position.
+#[tactic(auto, unfolding(crate::specs::Operations::standing_at, crate::specs::Answers::is_refusal, xdr::specs::Choose::choose))]
 pub fn state(image: &[u8], position: usize) -> Result<Place, NdmpError>
     ensures { StateGave image.now position result }
 {

@@ -1,2 +1,0 @@
--- `Laws` has reading to a buffer, and an entry that is told.
-pub mod Laws
