@@ -18,7 +18,7 @@ pub const LAST_SLOT: u32 = 23;
 // The least bytes of a CDB of the changer.
 pub const CDB_BYTES: usize = 12;
 
-// Type codes.
+// SMC's type codes: a CDB asks by them and a page's header tells them, so that an enum would be turned back into its code at both.
 pub const ALL_TYPES: u32 = 0;
 
 pub const TRANSPORT_TYPE: u32 = 1;

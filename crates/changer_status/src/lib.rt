@@ -97,62 +97,75 @@ fn put_descriptor(out: &mut [u8], at: usize, slots: [u32; 9], element: u16) -> u
     xdr_opaque::put_words(out, at, &[address * 65536 + flags * 256, 0, 0])
 }
 
-// Writes the descriptors of the elements of a type.
-fn put_descriptors(out: &mut [u8], at: usize, kind: u32, es: &[u16], slots: [u32; 9]) -> usize
-    requires { at + length (descriptors slots (of_type kind es.now)) ≤ length out.old }
-    ensures { Put at (descriptors slots (of_type kind es.now)) out.old result out.new }
-{
-    let mut next = at;
-    for element in es {
-        if type_of(*element) == kind {
-            next = put_descriptor(out, next, slots, *element);
+// What a status tells: the elements, and the slot list, by which they are full or empty.
+#[derive(Clone, Copy)]
+struct Told<'a> {
+    es: &'a [u16],
+    slots: [u32; 9],
+}
+
+impl<'a> Told<'a> {
+    // Writes the descriptors of the elements of a type.
+    fn put_descriptors(self, out: &mut [u8], at: usize, kind: u32) -> usize
+        requires { at + length (descriptors self.slots (of_type kind self.es.now)) ≤ length out.old }
+        ensures { Put at (descriptors self.entry.slots (of_type kind self.entry.es.now)) out.old result out.new }
+    {
+        let mut next = at;
+        for element in self.es {
+            if type_of(*element) == kind {
+                next = put_descriptor(out, next, self.slots, *element);
+            }
+        }
+        next
+    }
+
+    // Writes the page of a type: its descriptors, and then its header, which counts their bytes; nothing where there are none.
+    #[tactic(auto, using(changer_elements::proofs::Bytes::descriptors_length))]
+    fn put_page(self, out: &mut [u8], at: usize, kind: u32) -> usize
+        requires { (at + 8 + descriptor_bytes * length (of_type kind self.es.now) ≤ length out.old) × (length (of_type kind self.es.now) ≤ 10) × (kind < 256) }
+        ensures { Put at (page self.entry.slots kind self.entry.es.now) out.old result out.new }
+    {
+        let start = at + 8;
+        let end = self.put_descriptors(out, start, kind);
+        if end == start {
+            return at;
+        }
+        xdr::write_words(
+            out,
+            at,
+            &[kind * 16777216 + DESCRIPTOR_BYTES, (end - start) as u32],
+        );
+        end
+    }
+
+    // The first address that is reported; 0 where there is none.
+    #[tactic(auto, unfolding(changer_elements::specs::Status::first_of))]
+    fn first(self) -> u32
+        ensures { (result ≡ first_of self.entry.es.now) × (result < 65536) }
+    {
+        match self.es {
+            [] => 0,
+            [first, ..] => u32::from(*first),
         }
     }
-    next
-}
 
-// Writes the page of a type: its descriptors, and then its header, which counts their bytes; nothing where there are none.
-#[tactic(auto, using(changer_elements::proofs::Bytes::descriptors_length))]
-fn put_page(out: &mut [u8], at: usize, kind: u32, es: &[u16], slots: [u32; 9]) -> usize
-    requires { (at + 8 + descriptor_bytes * length (of_type kind es.now) ≤ length out.old) × (length (of_type kind es.now) ≤ 10) × (kind < 256) }
-    ensures { Put at (page slots kind es.now) out.old result out.new }
-{
-    let start = at + 8;
-    let end = put_descriptors(out, start, kind, es, slots);
-    if end == start {
-        return at;
+    // Writes the whole status at the front of an output: the pages, and then the header, which counts their bytes.
+    #[tactic(auto, using(changer_elements::proofs::Bytes::page_length))]
+    fn put_status(self, out: &mut [u8]) -> usize
+        requires { (152 ≤ length out.old) × Few self.es.now }
+        ensures { Put 0 (status_of self.entry.slots self.entry.es.now) out.old result out.new }
+    {
+        let second = self.put_page(out, 8, TRANSPORT_TYPE);
+        let third = self.put_page(out, second, DRIVE_TYPE);
+        let end = self.put_page(out, third, SLOT_TYPE);
+        let first = self.first();
+        xdr::write_words(
+            out,
+            0,
+            &[first * 65536 + self.es.len() as u32, (end - 8) as u32],
+        );
+        end
     }
-    xdr::write_words(
-        out,
-        at,
-        &[kind * 16777216 + DESCRIPTOR_BYTES, (end - start) as u32],
-    );
-    end
-}
-
-// The first address that is reported; 0 where there is none.
-#[tactic(auto, unfolding(changer_elements::specs::Status::first_of))]
-fn first_of(es: &[u16]) -> u32
-    ensures { (result ≡ first_of es.now) × (result < 65536) }
-{
-    match es {
-        [] => 0,
-        [first, ..] => u32::from(*first),
-    }
-}
-
-// Writes the whole status at the front of an output: the pages, and then the header, which counts their bytes.
-#[tactic(auto, using(changer_elements::proofs::Bytes::page_length))]
-fn put_status(out: &mut [u8], es: &[u16], slots: [u32; 9]) -> usize
-    requires { (152 ≤ length out.old) × Few es.now }
-    ensures { Put 0 (status_of slots es.now) out.old result out.new }
-{
-    let second = put_page(out, 8, TRANSPORT_TYPE, es, slots);
-    let third = put_page(out, second, DRIVE_TYPE, es, slots);
-    let end = put_page(out, third, SLOT_TYPE, es, slots);
-    let first = first_of(es);
-    xdr::write_words(out, 0, &[first * 65536 + es.len() as u32, (end - 8) as u32]);
-    end
 }
 
 // Writes what a CDB asks for at the front of an output of 152 bytes, which hold the longest; returns how many bytes of it are
@@ -163,6 +176,6 @@ pub fn write_status(out: &mut [u8], asked: Asked, slots: [u32; 9]) -> usize
 {
     let mut list = [0u16; 10];
     let es = report(&mut list, asked);
-    let whole = put_status(out, es, slots);
+    let whole = Told { es, slots }.put_status(out);
     (asked.cut as usize).min(whole)
 }

@@ -26,6 +26,13 @@ pub enum Accepted {
     Reports(Asked),
 }
 
+// A CDB, and the data-in length that came with it.
+#[derive(Clone, Copy)]
+struct Cdb<'a> {
+    bytes: &'a [u8],
+    room: u32,
+}
+
 #[tactic(auto, unfolding(xdr::specs::Choose::choose, rules::specs::Judge::judge, rules::specs::ScsiService::scsi_open))]
 fn open_changer(c: Changer, named: bool) -> Result<Accepted, NdmpError>
     ensures { Tells c (scsi_open c named) [] result }
@@ -62,17 +69,19 @@ fn get_state(c: Changer) -> Result<Accepted, NdmpError>
 
 // How many bytes of the sense are handed over.
 #[tactic(auto, unfolding(rules::specs::ScsiService::sense_length, xdr::specs::Choose::choose, xdr::specs::Choose::least))]
-fn sense_length(cdb: &[u8], room: u32) -> u32
-    ensures { result ≡ sense_length cdb.now room }
+fn sense_length(cdb: Cdb) -> u32
+    ensures { result ≡ sense_length cdb.entry.bytes.now cdb.entry.room }
 {
-    xdr::byte_at(cdb, 4).min(room).min(codes::SENSE_BYTES)
+    xdr::byte_at(cdb.bytes, 4)
+        .min(cdb.room)
+        .min(codes::SENSE_BYTES)
 }
 
 // REQUEST SENSE: hands over what is pending, and clears it.
-fn request_sense(c: Changer, cdb: &[u8], room: u32) -> Accepted
-    ensures { Shows c (senses c cdb.now room) [] result }
+fn request_sense(c: Changer, cdb: Cdb) -> Accepted
+    ensures { Shows c (senses c cdb.entry.bytes.now cdb.entry.room) [] result }
 {
-    let n = sense_length(cdb, room);
+    let n = sense_length(cdb);
     let next = c.refused(0, 0, 0);
     Accepted::Replies(Reply::Sense(n, c.key, c.code, c.qualifier), next)
 }
@@ -88,10 +97,10 @@ fn check(c: Changer, sense: Sense) -> Accepted
 
 // MOVE MEDIUM; tape is whether the tape is open.
 #[tactic(auto, unfolding(rules::specs::ScsiService::moves))]
-fn move_medium(tape: bool, c: Changer, cdb: &[u8]) -> Accepted
-    ensures { Shows c (moves c (move_medium cdb.now c.slots tape)) [] result }
+fn move_medium(tape: bool, c: Changer, cdb: Cdb) -> Accepted
+    ensures { Shows c (moves c (move_medium cdb.entry.bytes.now c.slots tape)) [] result }
 {
-    match changer_moves::move_medium(cdb, c.slots, tape) {
+    match changer_moves::move_medium(cdb.bytes, c.slots, tape) {
         Ok(places) => Accepted::Replies(Reply::Cdb, c.holds(changer_moves::moved(c.slots, places))),
         Err(sense) => check(c, sense),
     }
@@ -99,10 +108,10 @@ fn move_medium(tape: bool, c: Changer, cdb: &[u8]) -> Accepted
 
 // READ ELEMENT STATUS.
 #[tactic(auto, unfolding(rules::specs::ScsiService::reports, rules::specs::ScsiService::status_shown))]
-fn element_status(c: Changer, cdb: &[u8], room: u32) -> Accepted
-    ensures { Shows c (reports c (read_status cdb.now room)) (status_shown (read_status cdb.now room) c.slots) result }
+fn element_status(c: Changer, cdb: Cdb) -> Accepted
+    ensures { Shows c (reports c (read_status cdb.entry.bytes.now cdb.entry.room)) (status_shown (read_status cdb.entry.bytes.now cdb.entry.room) c.slots) result }
 {
-    match changer_status::read_status(cdb, room) {
+    match changer_status::read_status(cdb.bytes, cdb.room) {
         Ok(asked) => Accepted::Reports(asked),
         Err(sense) => check(c, sense),
     }
@@ -110,29 +119,29 @@ fn element_status(c: Changer, cdb: &[u8], room: u32) -> Accepted
 
 // A CDB by its opcode.
 #[tactic(auto, unfolding(rules::specs::ScsiService::run_cdb, rules::specs::ScsiService::cdb_shown, xdr::specs::Choose::choose))]
-fn run_cdb(tape: bool, c: Changer, cdb: &[u8], room: u32) -> Accepted
-    ensures { Shows c (run_cdb tape c cdb.now room) (cdb_shown cdb.now room c.slots) result }
+fn run_cdb(tape: bool, c: Changer, cdb: Cdb) -> Accepted
+    ensures { Shows c (run_cdb tape c cdb.entry.bytes.now cdb.entry.room) (cdb_shown cdb.entry.bytes.now cdb.entry.room c.slots) result }
 {
-    match xdr::byte_at(cdb, 0) {
+    match xdr::byte_at(cdb.bytes, 0) {
         codes::TEST_READY => Accepted::Replies(Reply::Cdb, c),
-        codes::REQUEST_SENSE => request_sense(c, cdb, room),
+        codes::REQUEST_SENSE => request_sense(c, cdb),
         codes::MOVE_MEDIUM => move_medium(tape, c, cdb),
-        codes::ELEMENT_STATUS => element_status(c, cdb, room),
+        codes::ELEMENT_STATUS => element_status(c, cdb),
         _ => check(c, Sense::UNKNOWN_OPCODE),
     }
 }
 
 #[tactic(auto, unfolding(rules::specs::ScsiService::scsi_cdb, rules::specs::Judge::judge, xdr::specs::Choose::choose))]
-fn execute_cdb(tape: bool, c: Changer, cdb: &[u8], room: u32) -> Result<Accepted, NdmpError>
-    ensures { Tells c (scsi_cdb tape c cdb.now room) (cdb_shown cdb.now room c.slots) result }
+fn execute_cdb(tape: bool, c: Changer, cdb: Cdb) -> Result<Accepted, NdmpError>
+    ensures { Tells c (scsi_cdb tape c cdb.entry.bytes.now cdb.entry.room) (cdb_shown cdb.entry.bytes.now cdb.entry.room c.slots) result }
 {
     if !c.opened {
         return Err(NdmpError::NotOpen);
     }
-    if cdb.is_empty() || LONGEST_CDB < cdb.len() {
+    if cdb.bytes.is_empty() || LONGEST_CDB < cdb.bytes.len() {
         return Err(NdmpError::IllegalArguments);
     }
-    Ok(run_cdb(tape, c, cdb, room))
+    Ok(run_cdb(tape, c, cdb))
 }
 
 // A request of the SCSI interface; tape is whether the tape is open.
@@ -146,6 +155,9 @@ pub fn serve(tape: bool, c: Changer, q: ScsiRequest, body: &[u8]) -> Result<Acce
         ScsiRequest::Close => clear(c, false),
         ScsiRequest::State => get_state(c),
         ScsiRequest::Reset => clear(c, true),
-        ScsiRequest::Cdb(cdb, room) => execute_cdb(tape, c, cdb.of(body), room),
+        ScsiRequest::Cdb(cdb, room) => {
+            let bytes = cdb.of(body);
+            execute_cdb(tape, c, Cdb { bytes, room })
+        },
     }
 }

@@ -1,5 +1,5 @@
 use Rattle.changer_status.proofs.Laws.{page_left, page_put}
-use Rattle.changer_status.proofs.put_page.Goals as goal
+use Rattle.changer_status.proofs.Told.put_page.Goals as goal
 
 pub returns-then-end-start : goal.returns-then-end-start
 returns-then-end-start c = page_left _ _ _ _ _ _ _ c.put_descriptors-end.ensures c.if-end-start.true

@@ -1,7 +1,7 @@
 use Rattle.std.proofs.Common.{sym, ◌∙◌}
 use Rattle.changer_status.proofs.Laws.{putting_fits, putting_one, putting_other, putting_end, descriptors_end}
-use Rattle.changer_status.proofs.put_descriptors.Goals as goal
-use Rattle.changer_status.proofs.put_descriptors.Goals.{then-type_of-kind, else-type_of-kind}
+use Rattle.changer_status.proofs.Told.put_descriptors.Goals as goal
+use Rattle.changer_status.proofs.Told.put_descriptors.Goals.{then-type_of-kind, else-type_of-kind}
 
 pub put_descriptor-next-requires : goal.put_descriptor-next-requires
 put_descriptor-next-requires c =
