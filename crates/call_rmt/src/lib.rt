@@ -18,23 +18,17 @@ use wire_replies::Reply;
 use wire_requests::{Request, TapeRequest};
 use wire_rmt::Command;
 
-// The tape request that a command is; what does not read is one whose body does not decode.
-fn request_of(q: Command) -> Request
-    ensures { result ≡ rmt_request q }
+// The tape request that a command is.
+#[tactic(auto, unfolding(rules::specs::Rmt::tape_request))]
+fn tape_request(q: Command) -> TapeRequest
+    ensures { result ≡ tape_request q }
 {
     match q {
-        Command::Open(name, mode) => {
-            let ndmp = wire_rmt_reading::tape_mode(mode);
-            Request::Tape(TapeRequest::Open(name, ndmp))
-        }
-        Command::Close => Request::Tape(TapeRequest::Close),
-        Command::Read(count) => Request::Tape(TapeRequest::Read(count)),
-        Command::Write(bytes) => Request::Tape(TapeRequest::Write(bytes)),
-        Command::Operate(op, count) => {
-            let ndmp = wire_rmt_reading::mtio_of(op);
-            Request::Tape(TapeRequest::Mtio(ndmp, count))
-        }
-        Command::Bad => Request::Bad,
+        Command::Open(name, mode) => TapeRequest::Open(name, wire_rmt_reading::tape_mode(mode)),
+        Command::Close => TapeRequest::Close,
+        Command::Read(count) => TapeRequest::Read(count),
+        Command::Write(bytes) => TapeRequest::Write(bytes),
+        Command::Operate(op, count) => TapeRequest::Mtio(wire_rmt_reading::mtio_of(op), count),
     }
 }
 

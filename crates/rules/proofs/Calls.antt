@@ -38,8 +38,8 @@ use Rattle.wire_replies.specs.declared.Reply.TheVariants as Reply
 use Rattle.wire_replies.specs.declared.Notice.{Notice}
 use Rattle.wire_replies.specs.declared.Notice.TheVariants as Notice
 use Rattle.wire_replies.specs.Replies.{notice_bytes}
+use Rattle.std.specs.Prelude.{Option, Some, None}
 use Rattle.wire_rmt.specs.declared.Command.{Command}
-use Rattle.wire_rmt.specs.declared.Command.TheVariants as Command
 use Rattle.wire_rmt.specs.Commands.{rmt_command}
 use Rattle.rules_parts.specs.declared.types.Data.{Data}
 use Rattle.rules_parts.specs.declared.types.Tape.{Tape}
@@ -152,14 +152,10 @@ module _ (k : Kept) (c : List ℕ) where
 
   -- what holds of every tape request holds of a command
   pub by_tape : (P : Reply → Done → Type 0) → ((q : TapeRequest) → Accepts P (outcome k bare (in_record c) (Request.Tape q)))
-      → (q : Command) → Accepts P (outcome k bare (in_record c) (rmt_request q))
+      → (q : Option Command) → Accepts P (outcome k bare (in_record c) (rmt_request q))
   unfolding rmt_request
-  by_tape P h (Command.Open name mode) = h _
-  by_tape P h Command.Close = h _
-  by_tape P h (Command.Read count) = h _
-  by_tape P h (Command.Write bytes) = h _
-  by_tape P h (Command.Operate op count) = h _
-  by_tape P h Command.Bad = bad_says P
+  by_tape P h (Some q) = h _
+  by_tape P h None = bad_says P
 
 pub command_left : (k : Kept) (room : ℕ) (c : List ℕ) → CommandLeaves k (commanded k room c).next
 unfolding Leaves

@@ -31,6 +31,7 @@ use Rattle.wire_requests.specs.declared.Request.TheVariants as Request
 use Rattle.wire_replies.specs.declared.Reply.{Reply}
 use Rattle.wire_replies.specs.declared.Notice.{Notice}
 use Rattle.wire_replies.specs.Replies.{number_of}
+use Rattle.std.specs.Prelude.{Option, Some, None}
 use Rattle.wire_rmt.specs.declared.Command.{Command}
 use Rattle.wire_rmt.specs.declared.Command.TheVariants as Command
 use Rattle.wire_rmt.specs.Commands.{rmt_command}
@@ -42,7 +43,7 @@ use Rattle.rules.specs.Relation.{keeps}
 use Rattle.rules.specs.Answer.{Kept, Lent, Answered, Done, silent, guarded, noticed, tape_part, with_tape, outcome, needs_login, is_locked, verdict, settled, is_close, judged, answered, request_in}
 use Rattle.rules.specs.Calls.{Unmoved, Heard, is_number}
 use Rattle.rules.specs.Leaving.{Touched, untouched, AtMark, AtEnd}
-use Rattle.rules.specs.Rmt.{rmt_request, in_record, bare, said, told, rmt_reply, counted_in, saying, replied, commanded}
+use Rattle.rules.specs.Rmt.{tape_request, rmt_request, in_record, bare, said, told, rmt_reply, counted_in, saying, replied, commanded}
 use Rattle.rules.specs.RmtHolds.{Spoken, CommandLeaves, TapeMoved, Tells, tells_read, tells_written, tells_opened, tells_closed, tells_moved, Replies, done, refusal, at_mark, at_end, SaysSame, opens, closes, reads, writes, operates, told_as, SaidAs, RmtHolds}
 use Rattle.rules.proofs.JudgeLaws.{carried, accepts, judged_by}
 use Rattle.rules.proofs.Guarding.{by_guard, goes_on, lent_well}
@@ -130,7 +131,7 @@ module _ (k : Kept) (room : ℕ) (c : List ℕ) where
   unfolding verdict judge is_locked needs_login outcome choose
   verdict_bad = rw (verdict, is_locked, free k.session.login.authorized)
 
-  unread : Spoken k room → rmt_command c ≡ Command.Bad → commanded k room c ≡ saying (refused 22) k
+  unread : Spoken k room → rmt_command c ≡ None → commanded k room c ≡ saying (refused 22) k
   unfolding rmt_request replied error_of choose
   unread s b = spoken s ∙ rw (b, verdict_bad)
 
@@ -138,16 +139,12 @@ module _ (k : Kept) (room : ℕ) (c : List ℕ) where
   unfolding verdict judge is_locked needs_login choose
   tape_locked q a = rw (verdict, is_locked, a)
 
-  locked : (q : Command) → (q ≡ Command.Bad → ⊥) → k.session.login.authorized ≡ false → verdict k bare (in_record c) (rmt_request q) ≡ refuse 4
+  locked : (q : Option Command) → (q ≡ None → ⊥) → k.session.login.authorized ≡ false → verdict k bare (in_record c) (rmt_request q) ≡ refuse 4
   unfolding rmt_request
-  locked (Command.Open name mode) n a = tape_locked _ a
-  locked Command.Close n a = tape_locked _ a
-  locked (Command.Read count) n a = tape_locked _ a
-  locked (Command.Write bytes) n a = tape_locked _ a
-  locked (Command.Operate op count) n a = tape_locked _ a
-  locked Command.Bad n a = absurd (n refl)
+  locked (Some q) n a = tape_locked _ a
+  locked None n a = absurd (n refl)
 
-  stranger : Spoken k room → (rmt_command c ≡ Command.Bad → ⊥) → k.session.login.authorized ≡ false → commanded k room c ≡ saying (refused 5) k
+  stranger : Spoken k room → (rmt_command c ≡ None → ⊥) → k.session.login.authorized ≡ false → commanded k room c ≡ saying (refused 5) k
   unfolding replied error_of choose
   stranger s n a = spoken s ∙ rw (locked (rmt_command c) n a)
 
@@ -176,14 +173,18 @@ module _ (k : Kept) (room : ℕ) (c : List ℕ) where
       (carried (λ reply p. Right (Request.Tape q) reply (with_tape k p)) (with_loaded (tape_part k)) _ (device_right q n))
 
   -- no command is a get state
-  said_right : (q : Command) → Accepts (Right (rmt_request q)) (outcome k bare (in_record c) (rmt_request q))
+  no_state : (q : Command) → tape_request q ≡ TapeRequest.State → ⊥
+  unfolding tape_request
+  no_state (Command.Open name mode) e = let z : ◌≡◌ {A = ℕ} 0 1 = cc in omega arith
+  no_state Command.Close e = let z : ◌≡◌ {A = ℕ} 0 1 = cc in omega arith
+  no_state (Command.Read count) e = let z : ◌≡◌ {A = ℕ} 0 1 = cc in omega arith
+  no_state (Command.Write bytes) e = let z : ◌≡◌ {A = ℕ} 0 1 = cc in omega arith
+  no_state (Command.Operate op count) e = let z : ◌≡◌ {A = ℕ} 0 1 = cc in omega arith
+
+  said_right : (q : Option Command) → Accepts (Right (rmt_request q)) (outcome k bare (in_record c) (rmt_request q))
   unfolding rmt_request outcome Accepts
-  said_right (Command.Open name mode) = tape_right _ (λ e. let z : ◌≡◌ {A = ℕ} 0 1 = cc in omega arith)
-  said_right Command.Close = tape_right _ (λ e. let z : ◌≡◌ {A = ℕ} 0 1 = cc in omega arith)
-  said_right (Command.Read count) = tape_right _ (λ e. let z : ◌≡◌ {A = ℕ} 0 1 = cc in omega arith)
-  said_right (Command.Write bytes) = tape_right _ (λ e. let z : ◌≡◌ {A = ℕ} 0 1 = cc in omega arith)
-  said_right (Command.Operate op count) = tape_right _ (λ e. let z : ◌≡◌ {A = ℕ} 0 1 = cc in omega arith)
-  said_right Command.Bad = tt
+  said_right (Some q) = tape_right _ (no_state q)
+  said_right None = tt
 
   module _ (q : Request) where
     accepted_replies : (reply : Reply) (d : Done) → Good k q reply d → Right q reply d → Replies k c q (replied k (accept reply d))
@@ -222,8 +223,8 @@ module _ (k : Kept) (room : ℕ) (c : List ℕ) where
 
 -- ---- as a record that says the same
 module _ (k : Kept) (l : Lent) (r c : List ℕ) where
-  same_verdict : (q : TapeRequest) (p : Command) → SaysSame (body_of r) c q p → verdict k l r (Request.Tape q) ≡ verdict k bare (in_record c) (rmt_request p)
-  unfolding verdict is_locked needs_login outcome tape_step device_step rmt_request
+  same_verdict : (q : TapeRequest) (p : Option Command) → SaysSame (body_of r) c q p → verdict k l r (Request.Tape q) ≡ verdict k bare (in_record c) (rmt_request p)
+  unfolding verdict is_locked needs_login outcome tape_step device_step rmt_request tape_request
   same_verdict _ _ (opens name path mode e) = rw e
   same_verdict _ _ closes = refl
   same_verdict _ _ (reads count) = refl

@@ -1,7 +1,8 @@
 -- The call of a command of the remote tape protocol (02 No. 5): "open, close, read, write, and the I operations 0 to 5 over the same cartridge, through
 -- NDMP's tape rules, which decide over 001". A command is the tape request that says the same, judged as that request is; only its reply is told otherwise.
-use Rattle.std.specs.Prelude.{ℕ, List, [], ◌∷◌, ◌++◌, false, take, drop, replicate, eqb}
+use Rattle.std.specs.Prelude.{ℕ, List, [], ◌∷◌, ◌++◌, false, take, drop, replicate, eqb, Option, Some, None}
 use Rattle.xdr.specs.Choose.{choose}
+use Rattle.wire_requests.specs.declared.TapeRequest.{TapeRequest}
 use Rattle.wire_requests.specs.declared.TapeRequest.TheVariants as TapeRequest
 use Rattle.wire_requests.specs.declared.Request.{Request}
 use Rattle.wire_requests.specs.declared.Request.TheVariants as Request
@@ -15,14 +16,17 @@ use Rattle.wire_rmt.specs.Replies.{error_of, accepted, refused}
 use Rattle.rules.specs.Judge.{Outcome, refuse, accept}
 use Rattle.rules.specs.Answer.{Kept, Lent, Answered, Done, silent, guarded, verdict}
 
--- the request that a command is; what does not read is one whose body does not decode: "E22 for what does not read so .. in 18's place"
-unfoldable pub rmt_request : Command → Request
-rmt_request (Command.Open name mode) = Request.Tape (TapeRequest.Open name (tape_mode mode))
-rmt_request Command.Close = Request.Tape TapeRequest.Close
-rmt_request (Command.Read count) = Request.Tape (TapeRequest.Read count)
-rmt_request (Command.Write bytes) = Request.Tape (TapeRequest.Write bytes)
-rmt_request (Command.Operate op count) = Request.Tape (TapeRequest.Mtio (mtio_of op) count)
-rmt_request Command.Bad = Request.Bad
+-- the tape request that a command is; what does not read is one whose body does not decode: "E22 for what does not read so .. in 18's place"
+unfoldable pub tape_request : Command → TapeRequest
+tape_request (Command.Open name mode) = TapeRequest.Open name (tape_mode mode)
+tape_request Command.Close = TapeRequest.Close
+tape_request (Command.Read count) = TapeRequest.Read count
+tape_request (Command.Write bytes) = TapeRequest.Write bytes
+tape_request (Command.Operate op count) = TapeRequest.Mtio (mtio_of op) count
+
+unfoldable pub rmt_request : Option Command → Request
+rmt_request (Some q) = Request.Tape (tape_request q)
+rmt_request None = Request.Bad
 
 -- a command as the body of a record: a path and data lie in it, and of a record nothing but its body is judged
 abbrev pub in_record : List ℕ → List ℕ

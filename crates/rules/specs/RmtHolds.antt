@@ -1,5 +1,5 @@
 -- What holds of every command of the remote tape protocol (02 No. 5), for any session, image and store. Statements: the definitions are in Rmt.antt.
-use Rattle.std.specs.Prelude.{ℕ, ◌≤◌, true, false, List, [], ◌++◌, ◌≡◌, length, take, ltb}
+use Rattle.std.specs.Prelude.{ℕ, ◌≤◌, true, false, List, [], ◌++◌, ◌≡◌, length, take, ltb, Option, Some, None}
 use Rattle.codes.specs.Codes.{short_output, broken_session}
 use Rattle.xdr.specs.Choose.{choose}
 use Rattle.tape_image.specs.Image.{is_sound, entry_bytes}
@@ -65,12 +65,12 @@ pub data Replies (k : Kept) (c : List ℕ) (q : Request) (a : Answered) : Type 0
   at_end : a.reply ≡ refused io_failed → TapeMoved (AtEnd k.image k.session.tape.position q) k a.next → Replies k c q a
 
 -- a tape request that says the same as a command: a name or data may lie elsewhere, their bytes are the same. "Open modes 1 and 2 both are NDMP's 1"
-pub data SaysSame (body c : List ℕ) : TapeRequest → Command → Type 0 where
-  opens : (name path : Text) (mode : ℕ) → bytes_at body name ≡ bytes_at c path → SaysSame body c (TapeRequest.Open name (tape_mode mode)) (Command.Open path mode)
-  closes : SaysSame body c TapeRequest.Close Command.Close
-  reads : (count : ℕ) → SaysSame body c (TapeRequest.Read count) (Command.Read count)
-  writes : (bytes sent : Text) → bytes_at body bytes ≡ bytes_at c sent → SaysSame body c (TapeRequest.Write bytes) (Command.Write sent)
-  operates : (op count : ℕ) → SaysSame body c (TapeRequest.Mtio (mtio_of op) count) (Command.Operate op count)
+pub data SaysSame (body c : List ℕ) : TapeRequest → Option Command → Type 0 where
+  opens : (name path : Text) (mode : ℕ) → bytes_at body name ≡ bytes_at c path → SaysSame body c (TapeRequest.Open name (tape_mode mode)) (Some (Command.Open path mode))
+  closes : SaysSame body c TapeRequest.Close (Some Command.Close)
+  reads : (count : ℕ) → SaysSame body c (TapeRequest.Read count) (Some (Command.Read count))
+  writes : (bytes sent : Text) → bytes_at body bytes ≡ bytes_at c sent → SaysSame body c (TapeRequest.Write bytes) (Some (Command.Write sent))
+  operates : (op count : ℕ) → SaysSame body c (TapeRequest.Mtio (mtio_of op) count) (Some (Command.Operate op count))
 
 -- what a record is told, as a command is told it
 unfoldable pub told_as : Outcome Done → List ℕ
@@ -93,9 +93,9 @@ pub record RmtHolds : Type 0 where
   pub kept : (k : Kept) (room : ℕ) (c : List ℕ) → keeps k.session ≡ true → keeps (commanded k room c).next.session ≡ true
   pub sound : (k : Kept) (room : ℕ) (c : List ℕ) → is_sound k.image ≡ true → is_sound (commanded k room c).next.image ≡ true
   -- "E22 for what does not read so .. in 18's place": whoever says it, with a tape or without
-  pub unread : (k : Kept) (room : ℕ) (c : List ℕ) → Spoken k room → rmt_command c ≡ Command.Bad → commanded k room c ≡ saying (refused invalid) k
+  pub unread : (k : Kept) (room : ℕ) (c : List ℕ) → Spoken k room → rmt_command c ≡ None → commanded k room c ≡ saying (refused invalid) k
   -- then 4, which is E5
-  pub stranger : (k : Kept) (room : ℕ) (c : List ℕ) → Spoken k room → (rmt_command c ≡ Command.Bad → ⊥) → k.session.login.authorized ≡ false
+  pub stranger : (k : Kept) (room : ℕ) (c : List ℕ) → Spoken k room → (rmt_command c ≡ None → ⊥) → k.session.login.authorized ≡ false
       → commanded k room c ≡ saying (refused io_failed) k
   pub replies : (k : Kept) (room : ℕ) (c : List ℕ) → Spoken k room → Replies k c (rmt_request (rmt_command c)) (commanded k room c)
   -- "through NDMP's tape rules"

@@ -18,7 +18,7 @@ use Rattle.wire_layouts.specs.AddressLists.{is_tcp, lendable}
 use Rattle.wire_requests.specs.Bodies.{decoded, connect_body, tape_body, mover_body}
 use Rattle.wire_replies.specs.Replies.{opaques, body_bytes, address_words, shape_of, number_of, header_error, reply_bytes}
 use Rattle.wire_rmt.specs.Numbers.{is_digit, ending, digits_on, number_at, last_digits, count_on, decimal}
-use Rattle.wire_rmt.specs.Commands.{line_length, opened, open_in, close_in, reading, read_in, writing, write_in, operating, operation, operate_in, rmt_command, tape_mode, mtio_of}
+use Rattle.wire_rmt.specs.Commands.{path_length, at_end, last_number, opened, open_behind, open_in, close_behind, close_in, reading, read_in, writing, write_in, operating, operation, operate_in, rmt_command, tape_mode, mtio_of}
 use Rattle.wire_rmt.specs.Replies.{error_of, error_text, headed, accepted, refused}
 use Rattle.rules_parts.specs.Parts.{window_end, is_past_top, length_wrong, data_joined, mover_joined, data_partnered, mover_partnered, address_wrong, holds_tape, unwritable}
 use Rattle.rules.specs.Judge.{judge, onto}
@@ -31,7 +31,7 @@ use Rattle.rules.specs.Relation.{data_wrong, numbers_wrong, window_wrong, start_
 use Rattle.rules.specs.Relation.{origin_wrong, mover_wrong, same_flag, drive_wrong, slots_wrong, keeps}
 use Rattle.rules.specs.Answer.{guarded, room_of, noticed, outcome, needs_login, is_locked, verdict, is_unread, refusing, settled, is_close, judged, requested, answered}
 use Rattle.rules.specs.Calls.{opening}
-use Rattle.rules.specs.Rmt.{rmt_request, told, counted_in, rmt_reply, replied, commanded}
+use Rattle.rules.specs.Rmt.{tape_request, rmt_request, told, counted_in, rmt_reply, replied, commanded}
 use Rattle.rules_moves.specs.Cases.{words_bytes, wire, wide, run_line, expect, notices}
 use Rattle.rules_cases.specs.RmtCases.{run_rmt, run_rmts, expect_rmts, RmtCasesHold}
 
@@ -43,14 +43,14 @@ unfolding
     well_framed record_bytes look row_of layout.piece_of layout.part_at layout.prepend layout.and_part layout.and_got layout.parts_at layout.times_at
     layout.single layout.counted layout.items_of layout.element_at layout.field_at layout.and_value layout.and_read layout.read_fields
     put puts summed scanned is_tcp lendable decoded connect_body tape_body mover_body opaques body_bytes address_words shape_of number_of header_error reply_bytes
-    is_digit ending digits_on number_at last_digits count_on decimal line_length opened open_in close_in reading read_in writing write_in operating operation operate_in
+    is_digit ending digits_on number_at last_digits count_on decimal path_length at_end last_number opened open_behind open_in close_behind close_in reading read_in writing write_in operating operation operate_in
     rmt_command tape_mode mtio_of error_of error_text headed accepted refused
     window_end is_past_top length_wrong data_joined mover_joined data_partnered mover_partnered address_wrong holds_tape unwritable
     judge onto listening connect_open connect_step offset_wrong mover_listen busy elsewhere set_window set_size mover_step
     tape0 tape_open tape_close is_refusal protects after_mtio tape_state tape_mtio tape_write tape_read device_step tape_step mover_part_step
     data_wrong numbers_wrong window_wrong start_wrong hold_wrong strays resume_wrong place_wrong origin_wrong mover_wrong same_flag drive_wrong slots_wrong keeps
     guarded room_of noticed outcome needs_login is_locked verdict is_unread refusing settled is_close judged requested answered opening
-    rmt_request told counted_in rmt_reply replied commanded words_bytes wire wide run_line expect notices run_rmt run_rmts expect_rmts
+    tape_request rmt_request told counted_in rmt_reply replied commanded words_bytes wire wide run_line expect notices run_rmt run_rmts expect_rmts
 rmt_cases_hold =
     record {
       wrote = refl;

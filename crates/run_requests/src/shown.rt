@@ -125,8 +125,11 @@ pub fn joint(out: &mut impl Write, r: JointRequest) -> io::Result<()> {
 }
 
 // A command of the remote tape protocol, by its letter in 001.
-pub fn command(out: &mut impl Write, c: Command, bytes: &[u8]) -> io::Result<()> {
-    match c {
+pub fn command(out: &mut impl Write, read: Option<Command>, bytes: &[u8]) -> io::Result<()> {
+    let Some(command) = read else {
+        return put(out, b"bad");
+    };
+    match command {
         Command::Open(path, mode) => {
             put_text(out, b"O path ", bytes, path)?;
             put_word(out, b" mode ", mode)
@@ -138,6 +141,5 @@ pub fn command(out: &mut impl Write, c: Command, bytes: &[u8]) -> io::Result<()>
             put_word(out, b"I operation ", op)?;
             put_word(out, b" count ", count)
         }
-        Command::Bad => put(out, b"bad"),
     }
 }

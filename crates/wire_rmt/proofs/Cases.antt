@@ -3,9 +3,13 @@ use mathlib.Core.Path.{refl}
 use Rattle.xdr.specs.Choose.{choose}
 use Rattle.wire_rmt.specs.Numbers.{is_digit, ending, digits_on, number_at, last_digits, count_on, decimal}
 use Rattle.wire_rmt.specs.Commands.{
-  line_length,
+  path_length,
+  at_end,
+  last_number,
   opened,
+  open_behind,
   open_in,
+  close_behind,
   close_in,
   reading,
   read_in,
@@ -23,7 +27,7 @@ use Rattle.wire_rmt.specs.Cases.{CommandCases, NumberCases, ReplyCases, RmtCases
 
 commands : CommandCases
 unfolding
-    choose is_digit ending digits_on number_at line_length opened open_in close_in reading read_in writing write_in operating operation operate_in rmt_command
+    choose is_digit ending digits_on number_at path_length at_end last_number opened open_behind open_in close_behind close_in reading read_in writing write_in operating operation operate_in rmt_command
 commands =
     record {
       open_read = refl;

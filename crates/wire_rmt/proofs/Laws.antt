@@ -1,21 +1,21 @@
 -- Which case of each definition of specs/Numbers.antt holds, by plain facts. Assumes nothing.
-use Prim.Native.Nat.{ℕ, zero, suc, ◌+◌, ◌-◌, ◌*◌, ◌≤◌, ◌<◌}
+use Prim.Native.Nat.{ℕ, suc, ◌+◌, ◌-◌, ◌*◌, ◌≤◌, ◌<◌}
 use mathlib.Core.Bool.{Bool, true, false}
-use mathlib.Core.List.{List, [], ◌∷◌, ◌++◌}
+use mathlib.Core.List.{List, ◌∷◌}
 use mathlib.Core.Path.{◌≡◌, refl, sym, ap, ◌∙◌}
 use native.Mathlib.Omega.{arith}
 use native.Mathlib.Nat.{add-zero}
 use native.Mathlib.Numerals.{add-one}
-use lib.Dec.{eqb, leb, ltb}
+use lib.Dec.{eqb, leb}
 use lib.ListN.{length, drop, get_or}
 use lib.Seq.{get_or-drop, drop-drop, drop-cons}
-use borrow.Author.Tests.{leb-true, leb-false, eqb-true, ltb-false}
+use borrow.Author.Tests.{leb-true, leb-false, eqb-true}
 use Rattle.xdr.specs.Choose.{choose}
-use Rattle.xdr.proofs.Tests.{eqb_yes, eqb_no, ltb_yes, ltb_no, leb_yes, leb_no}
+use Rattle.xdr.proofs.Tests.{eqb_yes, ltb_yes, ltb_no, leb_yes}
 use Rattle.xdr.proofs.Places.{byte_none}
-use Rattle.wire_rmt.specs.Numbers.{most_number, most_digits, line_feed, is_digit, ending, digits_on, number_at, Digit}
+use Rattle.wire_rmt.specs.Numbers.{number, most_number, most_digits, line_feed, is_digit, ending, digits_on, number_at, Digit}
 use Rattle.wire_rmt.specs.declared.Number.{Number}
-use Rattle.wire_rmt.specs.declared.Number.TheVariants.{Value, Bad}
+use Rattle.std.specs.Prelude.{Option, Some, None}
 
 both : (a b : Bool) → choose a b false ≡ true → (a ≡ true) × (b ≡ true)
 unfolding choose
@@ -34,14 +34,6 @@ digit_range b e = let w = both (leb 48 b) (leb b 57) e in (leb-true _ _ w.0, leb
 pub digit_yes : (b : ℕ) → Digit b → is_digit b ≡ true
 unfolding is_digit choose
 digit_yes b d = rw (leb_yes d.0) (leb_yes d.1)
-
-pub digit_low : (b : ℕ) → b < 48 → false ≡ is_digit b
-unfolding is_digit choose
-digit_low b h = rw (leb_no h)
-
-pub digit_high : (b : ℕ) (r : Bool) → 48 ≤ b → r ≡ leb b 57 → r ≡ is_digit b
-unfolding is_digit choose
-digit_high b r h e = rw (leb_yes h) e
 
 feed_no_digit : is_digit line_feed ≡ false
 unfolding is_digit choose
@@ -68,30 +60,23 @@ pub onward : (l : List ℕ) (i : ℕ) → i < length l → drop i l ≡ get_or l
 onward l i h = rw add-one (drop-cons l i 0 h)
 
 -- ---- the end of a number
-pub ending_past : (v i : ℕ) (l : List ℕ) → length l ≤ i → Bad ≡ ending v l i
-unfolding ending choose
-ending_past v i l h = let e = byte_none l i h in rw (← e)
-
-pub ending_no : (v i : ℕ) (l : List ℕ) → (get_or l i 0 ≡ line_feed → ⊥) → Bad ≡ ending v l i
-unfolding ending choose
-ending_no v i l h = rw (eqb_no h)
-
-pub ending_yes : (v i : ℕ) (l : List ℕ) → get_or l i 0 ≡ line_feed → Value v (i + 1) ≡ ending v l i
+pub ending_yes : (v i : ℕ) (l : List ℕ) → get_or l i 0 ≡ line_feed → Some (number v (i + 1)) ≡ ending v l i
 unfolding ending choose
 ending_yes v i l h = rw (eqb_yes h)
 
 -- what a choice that gave a number says
-pub chosen : (b : Bool) (n : Number) (v i : ℕ) → choose b n Bad ≡ Value v i → (b ≡ true) × (n ≡ Value v i)
+pub chosen : (b : Bool) (n : Option Number) (v i : ℕ) → choose b n None ≡ Some (number v i) → (b ≡ true) × (n ≡ Some (number v i))
 unfolding choose
 chosen true n v i e = (refl, e)
 chosen false n v i e = let z : ◌≡◌ {A = ℕ} 0 1 = cc in absurd (omega arith)
 
-pub ending_says : (v i : ℕ) (l : List ℕ) (w k : ℕ) → ending v l i ≡ Value w k → (get_or l i 0 ≡ line_feed) × (w ≡ v) × (k ≡ i + 1)
+pub ending_says : (v i : ℕ) (l : List ℕ) (w k : ℕ) → ending v l i ≡ Some (number w k) → (get_or l i 0 ≡ line_feed) × (w ≡ v) × (k ≡ i + 1)
 unfolding ending
 ending_says v i l w k e =
-    let c = chosen (eqb (get_or l i 0) line_feed) (Value v (i + 1)) w k e in
-    let f = c.1 in
-    (eqb-true _ _ c.0, cc, cc)
+    let c = chosen (eqb (get_or l i 0) line_feed) (Some (number v (i + 1))) w k e in
+    let h = c.1 in
+    let f : number w k ≡ number v (i + 1) = cc in
+    (eqb-true _ _ c.0, ap (λ (n : Number). n.value) f, ap (λ (n : Number). n.next) f)
 
 -- ---- digits one by one
 module _ (l : List ℕ) (i n v : ℕ) where
@@ -104,7 +89,7 @@ module _ (l : List ℕ) (i n v : ℕ) where
   on_stop h e = let k : n ≡ suc (n - 1) = omega arith in rw (k, e)
 
   pub on_big : (w : ℕ) → 0 < n → is_digit (get_or l i 0) ≡ true → w ≡ v * 10 + (get_or l i 0 - 48) → most_number < w
-      → digits_on n v l i ≡ Bad
+      → digits_on n v l i ≡ None
   unfolding digits_on choose
   on_big w h e f g = let k : n ≡ suc (n - 1) = omega arith in rw (k, e, ← f, ltb_yes g)
 
@@ -116,17 +101,13 @@ module _ (l : List ℕ) (i n v : ℕ) where
       ap (λ (x : ℕ). digits_on x v l i) k ∙ rw (e, ← f, ltb_no g)
 
   -- a line feed ends them, however many more there may be
-  pub on_feed : get_or l i 0 ≡ line_feed → digits_on n v l i ≡ Value v (i + 1)
+  pub on_feed : get_or l i 0 ≡ line_feed → digits_on n v l i ≡ Some (number v (i + 1))
   on_feed e =
       let s : is_digit (get_or l i 0) ≡ false = ap is_digit e ∙ feed_no_digit in
       by_cases (leb n 0)
       (λ (p : leb n 0 ≡ true). on_none (leb-true _ _ p) ∙ sym (ending_yes v i l e))
       (λ (p : leb n 0 ≡ false). on_stop (leb-false _ _ p) s ∙ sym (ending_yes v i l e))
 
-pub number_none : (l : List ℕ) (at : ℕ) → is_digit (get_or l at 0) ≡ false → Bad ≡ number_at l at
-unfolding number_at choose
-number_none l at e = rw e
-
-pub number_some : (l : List ℕ) (at : ℕ) (r : Number) → is_digit (get_or l at 0) ≡ true → r ≡ digits_on most_digits 0 l at → r ≡ number_at l at
+pub number_some : (l : List ℕ) (at : ℕ) (r : Option Number) → is_digit (get_or l at 0) ≡ true → r ≡ digits_on most_digits 0 l at → r ≡ number_at l at
 unfolding number_at choose
 number_some l at r e f = rw e f

@@ -1,18 +1,18 @@
 -- The statements on numbers, of specs/Holds.antt. Assumes nothing.
 use Prim.Native.Nat.{ℕ, zero, suc, ◌+◌, ◌-◌, ◌*◌, ◌/◌, ◌%◌, ◌^◌, ◌≤◌, ◌<◌}
-use mathlib.Core.Bool.{Bool, true, false}
+use mathlib.Core.Bool.{true, false}
 use mathlib.Core.List.{List, [], ◌∷◌, ◌++◌}
 use mathlib.Core.Path.{◌≡◌, refl, sym, ap, ◌∙◌}
 use native.Mathlib.Omega.{arith, pow_step}
 use native.Mathlib.Nat.{add-zero, mul_assoc, div-add-mod'}
 use native.Mathlib.Numerals.{add-one}
-use lib.Dec.{eqb, leb, ltb}
+use lib.Dec.{ltb}
 use lib.ListN.{length, drop, get_or, replicate, length-append, length-replicate}
 use borrow.Author.Tests.{ltb-true, ltb-false}
-use Rattle.xdr.specs.Choose.{choose}
 use Rattle.xdr.proofs.Tests.{by_test}
 use Rattle.xdr_opaque.specs.Put.{Each}
 use Rattle.wire_rmt.specs.Numbers.{
+  number,
   most_number,
   most_digits,
   line_feed,
@@ -30,8 +30,7 @@ use Rattle.wire_rmt.specs.Numbers.{
   Numeral,
 }
 use Rattle.wire_rmt.specs.Holds.{NumberThere, NumbersHold}
-use Rattle.wire_rmt.specs.declared.Number.{Number}
-use Rattle.wire_rmt.specs.declared.Number.TheVariants.{Value, Bad}
+use Rattle.std.specs.Prelude.{Some}
 use Rattle.wire_rmt.proofs.Laws.{
   by_cases,
   digit_range,
@@ -56,7 +55,7 @@ grows v [] = omega arith
 grows v (d ∷ ds) = omega (arith, grows (v * 10 + (d - 48)) ds)
 
 digits_back : (ds : List ℕ) (n v i : ℕ) (l q : List ℕ) → drop i l ≡ ds ++ (line_feed ∷ q) → Each Digit ds → length ds ≤ n → value_from v ds ≤ most_number
-    → digits_on n v l i ≡ Value (value_from v ds) (i + length ds + 1)
+    → digits_on n v l i ≡ Some (number (value_from v ds) (i + length ds + 1))
 unfolding value_from
 digits_back [] n v i l q e d h m = rw add-zero (on_feed l i n v (first_of l i line_feed q e).0)
 digits_back (x ∷ ds) n v i l q e d h m =
@@ -67,13 +66,13 @@ digits_back (x ∷ ds) n v i l q e d h m =
     let k : length ds ≤ n - 1 = omega arith in
     let j : w ≤ most_number = omega (arith, grows w ds) in
     let a : i + 1 + length ds + 1 ≡ i + suc (length ds) + 1 = omega arith in
-    on_more l i n v w (omega arith) t s j ∙ digits_back ds (n - 1) w (i + 1) l q f.1 d.1 k m ∙ ap (λ (y : ℕ). Value (value_from w ds) y) a
+    on_more l i n v w (omega arith) t s j ∙ digits_back ds (n - 1) w (i + 1) l q f.1 d.1 k m ∙ ap (λ (y : ℕ). Some (number (value_from w ds) y)) a
 
 starts : (l : List ℕ) (at : ℕ) (ds q : List ℕ) → drop at l ≡ ds ++ (line_feed ∷ q) → 1 ≤ length ds → Each Digit ds → is_digit (get_or l at 0) ≡ true
 starts l at [] q e h d = absurd (omega arith)
 starts l at (x ∷ ds) q e h d = ap is_digit (first_of l at x (ds ++ (line_feed ∷ q)) e).0 ∙ digit_yes x d.0
 
-pub back : (l : List ℕ) (at : ℕ) (ds q : List ℕ) → drop at l ≡ ds ++ (10 ∷ q) → Numeral ds → number_at l at ≡ Value (value_of ds) (at + length ds + 1)
+pub back : (l : List ℕ) (at : ℕ) (ds q : List ℕ) → drop at l ≡ ds ++ (10 ∷ q) → Numeral ds → number_at l at ≡ Some (number (value_of ds) (at + length ds + 1))
 back l at ds q e n =
     sym (number_some l at _ (starts l at ds q e n.some n.digits) (sym (digits_back ds most_digits 0 at l q e n.digits n.few n.fits)))
 
@@ -87,7 +86,7 @@ record Said (n v i : ℕ) (l : List ℕ) (w k : ℕ) : Type 0 where
   there : drop i l ≡ ds ++ (line_feed ∷ drop k l)
   end : k ≡ i + length ds + 1
 
-ended : (n v i : ℕ) (l : List ℕ) (w k : ℕ) → ending v l i ≡ Value w k → v ≤ most_number → Said n v i l w k
+ended : (n v i : ℕ) (l : List ℕ) (w k : ℕ) → ending v l i ≡ Some (number w k) → v ≤ most_number → Said n v i l w k
 unfolding value_from
 ended n v i l w k e h =
     let s = ending_says v i l w k e in
@@ -116,7 +115,7 @@ one_more n v i l w k t s =
       end = omega (arith, s.end);
     }
 
-digits_say : (n v i : ℕ) (l : List ℕ) (w k : ℕ) → digits_on n v l i ≡ Value w k → v ≤ most_number → Said n v i l w k
+digits_say : (n v i : ℕ) (l : List ℕ) (w k : ℕ) → digits_on n v l i ≡ Some (number w k) → v ≤ most_number → Said n v i l w k
 unfolding digits_on
 digits_say zero v i l w k e h = ended zero v i l w k e h
 digits_say (suc n) v i l w k e h =
@@ -134,7 +133,7 @@ digits_say (suc n) v i l w k e h =
     one_more n v i l w k t (digits_say n x (i + 1) l w k f j)))
     (λ (t : is_digit (get_or l i 0) ≡ false). ended (suc n) v i l w k (sym (on_stop l i (suc n) v (omega arith) t) ∙ e) h)
 
-number_parts : (l : List ℕ) (at v next : ℕ) → number_at l at ≡ Value v next → (is_digit (get_or l at 0) ≡ true) × (digits_on most_digits 0 l at ≡ Value v next)
+number_parts : (l : List ℕ) (at v next : ℕ) → number_at l at ≡ Some (number v next) → (is_digit (get_or l at 0) ≡ true) × (digits_on most_digits 0 l at ≡ Some (number v next))
 unfolding number_at
 number_parts l at v next e = chosen (is_digit (get_or l at 0)) (digits_on most_digits 0 l at) v next e
 
@@ -145,7 +144,7 @@ some_digit l at [] q t e =
     absurd (omega (arith, r.0, f))
 some_digit l at (x ∷ ds) q t e = omega arith
 
-pub says : (l : List ℕ) (at v next : ℕ) → number_at l at ≡ Value v next → NumberThere l at v next
+pub says : (l : List ℕ) (at v next : ℕ) → number_at l at ≡ Some (number v next) → NumberThere l at v next
 says l at v next e =
     let p = number_parts l at v next e in
     let s = digits_say most_digits 0 at l v next p.1 (omega arith) in

@@ -1,5 +1,5 @@
 -- Commands with their bytes written out, and what each is read as; modes, operations and errors one by one; replies byte for byte.
-use Rattle.std.specs.Prelude.{ℕ, List, [], ◌∷◌, ◌≡◌}
+use Rattle.std.specs.Prelude.{[], ◌∷◌, ◌≡◌, Some, None}
 use Rattle.wire_layouts.specs.Layout.{place}
 use Rattle.wire_rmt.specs.declared.Command.TheVariants as Command
 use Rattle.wire_rmt.specs.Numbers.{decimal}
@@ -9,168 +9,168 @@ use Rattle.wire_rmt.specs.Replies.{error_of, accepted, refused}
 pub record CommandCases : Type 0 where
   -- each command
   -- `Otape0\n0\n`
-  pub open_read : rmt_command (79 ∷ 116 ∷ 97 ∷ 112 ∷ 101 ∷ 48 ∷ 10 ∷ 48 ∷ 10 ∷ []) ≡ Command.Open (place 1 5) 0
+  pub open_read : rmt_command (79 ∷ 116 ∷ 97 ∷ 112 ∷ 101 ∷ 48 ∷ 10 ∷ 48 ∷ 10 ∷ []) ≡ Some (Command.Open (place 1 5) 0)
   -- `Otape0\n1\n`
-  pub open_write : rmt_command (79 ∷ 116 ∷ 97 ∷ 112 ∷ 101 ∷ 48 ∷ 10 ∷ 49 ∷ 10 ∷ []) ≡ Command.Open (place 1 5) 1
+  pub open_write : rmt_command (79 ∷ 116 ∷ 97 ∷ 112 ∷ 101 ∷ 48 ∷ 10 ∷ 49 ∷ 10 ∷ []) ≡ Some (Command.Open (place 1 5) 1)
   -- `Otape0\n2\n`
-  pub open_both : rmt_command (79 ∷ 116 ∷ 97 ∷ 112 ∷ 101 ∷ 48 ∷ 10 ∷ 50 ∷ 10 ∷ []) ≡ Command.Open (place 1 5) 2
+  pub open_both : rmt_command (79 ∷ 116 ∷ 97 ∷ 112 ∷ 101 ∷ 48 ∷ 10 ∷ 50 ∷ 10 ∷ []) ≡ Some (Command.Open (place 1 5) 2)
   -- `Otape0\n3\n`
-  pub open_three : rmt_command (79 ∷ 116 ∷ 97 ∷ 112 ∷ 101 ∷ 48 ∷ 10 ∷ 51 ∷ 10 ∷ []) ≡ Command.Open (place 1 5) 3
+  pub open_three : rmt_command (79 ∷ 116 ∷ 97 ∷ 112 ∷ 101 ∷ 48 ∷ 10 ∷ 51 ∷ 10 ∷ []) ≡ Some (Command.Open (place 1 5) 3)
   -- 001's own example
   -- `O/dev/rmt8\n0\n`
-  pub open_dev : rmt_command (79 ∷ 47 ∷ 100 ∷ 101 ∷ 118 ∷ 47 ∷ 114 ∷ 109 ∷ 116 ∷ 56 ∷ 10 ∷ 48 ∷ 10 ∷ []) ≡ Command.Open (place 1 9) 0
+  pub open_dev : rmt_command (79 ∷ 47 ∷ 100 ∷ 101 ∷ 118 ∷ 47 ∷ 114 ∷ 109 ∷ 116 ∷ 56 ∷ 10 ∷ 48 ∷ 10 ∷ []) ≡ Some (Command.Open (place 1 9) 0)
   -- `O\n0\n`
-  pub open_empty : rmt_command (79 ∷ 10 ∷ 48 ∷ 10 ∷ []) ≡ Command.Open (place 1 0) 0
+  pub open_empty : rmt_command (79 ∷ 10 ∷ 48 ∷ 10 ∷ []) ≡ Some (Command.Open (place 1 0) 0)
   -- `Ctape0\n`
-  pub close_named : rmt_command (67 ∷ 116 ∷ 97 ∷ 112 ∷ 101 ∷ 48 ∷ 10 ∷ []) ≡ Command.Close
+  pub close_named : rmt_command (67 ∷ 116 ∷ 97 ∷ 112 ∷ 101 ∷ 48 ∷ 10 ∷ []) ≡ Some Command.Close
   -- `C\n`
-  pub close_empty : rmt_command (67 ∷ 10 ∷ []) ≡ Command.Close
+  pub close_empty : rmt_command (67 ∷ 10 ∷ []) ≡ Some Command.Close
   -- `R5\n`
-  pub read_five : rmt_command (82 ∷ 53 ∷ 10 ∷ []) ≡ Command.Read 5
+  pub read_five : rmt_command (82 ∷ 53 ∷ 10 ∷ []) ≡ Some (Command.Read 5)
   -- `W5\nHELLO`
-  pub write_five : rmt_command (87 ∷ 53 ∷ 10 ∷ 72 ∷ 69 ∷ 76 ∷ 76 ∷ 79 ∷ []) ≡ Command.Write (place 3 5)
+  pub write_five : rmt_command (87 ∷ 53 ∷ 10 ∷ 72 ∷ 69 ∷ 76 ∷ 76 ∷ 79 ∷ []) ≡ Some (Command.Write (place 3 5))
   -- `W0\n`
-  pub write_none : rmt_command (87 ∷ 48 ∷ 10 ∷ []) ≡ Command.Write (place 3 0)
+  pub write_none : rmt_command (87 ∷ 48 ∷ 10 ∷ []) ≡ Some (Command.Write (place 3 0))
   -- data may hold line feeds
   -- `W3\n\n\n\n`
-  pub write_feeds : rmt_command (87 ∷ 51 ∷ 10 ∷ 10 ∷ 10 ∷ 10 ∷ []) ≡ Command.Write (place 3 3)
+  pub write_feeds : rmt_command (87 ∷ 51 ∷ 10 ∷ 10 ∷ 10 ∷ 10 ∷ []) ≡ Some (Command.Write (place 3 3))
   -- `W002\nHE`
-  pub write_zeros : rmt_command (87 ∷ 48 ∷ 48 ∷ 50 ∷ 10 ∷ 72 ∷ 69 ∷ []) ≡ Command.Write (place 5 2)
+  pub write_zeros : rmt_command (87 ∷ 48 ∷ 48 ∷ 50 ∷ 10 ∷ 72 ∷ 69 ∷ []) ≡ Some (Command.Write (place 5 2))
   -- `I0\n2\n`
-  pub marks : rmt_command (73 ∷ 48 ∷ 10 ∷ 50 ∷ 10 ∷ []) ≡ Command.Operate 0 2
+  pub marks : rmt_command (73 ∷ 48 ∷ 10 ∷ 50 ∷ 10 ∷ []) ≡ Some (Command.Operate 0 2)
   -- `I1\n1\n`
-  pub forward_files : rmt_command (73 ∷ 49 ∷ 10 ∷ 49 ∷ 10 ∷ []) ≡ Command.Operate 1 1
+  pub forward_files : rmt_command (73 ∷ 49 ∷ 10 ∷ 49 ∷ 10 ∷ []) ≡ Some (Command.Operate 1 1)
   -- `I2\n1\n`
-  pub back_files : rmt_command (73 ∷ 50 ∷ 10 ∷ 49 ∷ 10 ∷ []) ≡ Command.Operate 2 1
+  pub back_files : rmt_command (73 ∷ 50 ∷ 10 ∷ 49 ∷ 10 ∷ []) ≡ Some (Command.Operate 2 1)
   -- `I3\n7\n`
-  pub forward_records : rmt_command (73 ∷ 51 ∷ 10 ∷ 55 ∷ 10 ∷ []) ≡ Command.Operate 3 7
+  pub forward_records : rmt_command (73 ∷ 51 ∷ 10 ∷ 55 ∷ 10 ∷ []) ≡ Some (Command.Operate 3 7)
   -- `I4\n7\n`
-  pub back_records : rmt_command (73 ∷ 52 ∷ 10 ∷ 55 ∷ 10 ∷ []) ≡ Command.Operate 4 7
+  pub back_records : rmt_command (73 ∷ 52 ∷ 10 ∷ 55 ∷ 10 ∷ []) ≡ Some (Command.Operate 4 7)
   -- `I5\n0\n`
-  pub rewind : rmt_command (73 ∷ 53 ∷ 10 ∷ 48 ∷ 10 ∷ []) ≡ Command.Operate 5 0
+  pub rewind : rmt_command (73 ∷ 53 ∷ 10 ∷ 48 ∷ 10 ∷ []) ≡ Some (Command.Operate 5 0)
   -- `I05\n0\n`
-  pub operation_zeros : rmt_command (73 ∷ 48 ∷ 53 ∷ 10 ∷ 48 ∷ 10 ∷ []) ≡ Command.Operate 5 0
+  pub operation_zeros : rmt_command (73 ∷ 48 ∷ 53 ∷ 10 ∷ 48 ∷ 10 ∷ []) ≡ Some (Command.Operate 5 0)
   -- no byte, no letter that is known, and those that 02 leaves out
   -- nothing at all
-  pub no_byte : rmt_command ([]) ≡ Command.Bad
+  pub no_byte : rmt_command ([]) ≡ None
   -- `\n`
-  pub feed_alone : rmt_command (10 ∷ []) ≡ Command.Bad
+  pub feed_alone : rmt_command (10 ∷ []) ≡ None
   -- `L0\n`
-  pub seek : rmt_command (76 ∷ 48 ∷ 10 ∷ []) ≡ Command.Bad
+  pub seek : rmt_command (76 ∷ 48 ∷ 10 ∷ []) ≡ None
   -- `L100\n1\n`
-  pub seek_whole : rmt_command (76 ∷ 49 ∷ 48 ∷ 48 ∷ 10 ∷ 49 ∷ 10 ∷ []) ≡ Command.Bad
+  pub seek_whole : rmt_command (76 ∷ 49 ∷ 48 ∷ 48 ∷ 10 ∷ 49 ∷ 10 ∷ []) ≡ None
   -- `S`
-  pub status : rmt_command (83 ∷ []) ≡ Command.Bad
+  pub status : rmt_command (83 ∷ []) ≡ None
   -- `S\n`
-  pub status_line : rmt_command (83 ∷ 10 ∷ []) ≡ Command.Bad
+  pub status_line : rmt_command (83 ∷ 10 ∷ []) ≡ None
   -- `otape0\n0\n`
-  pub lower_open : rmt_command (111 ∷ 116 ∷ 97 ∷ 112 ∷ 101 ∷ 48 ∷ 10 ∷ 48 ∷ 10 ∷ []) ≡ Command.Bad
+  pub lower_open : rmt_command (111 ∷ 116 ∷ 97 ∷ 112 ∷ 101 ∷ 48 ∷ 10 ∷ 48 ∷ 10 ∷ []) ≡ None
   -- `ctape0\n`
-  pub lower_close : rmt_command (99 ∷ 116 ∷ 97 ∷ 112 ∷ 101 ∷ 48 ∷ 10 ∷ []) ≡ Command.Bad
+  pub lower_close : rmt_command (99 ∷ 116 ∷ 97 ∷ 112 ∷ 101 ∷ 48 ∷ 10 ∷ []) ≡ None
   -- `r5\n`
-  pub lower_read : rmt_command (114 ∷ 53 ∷ 10 ∷ []) ≡ Command.Bad
+  pub lower_read : rmt_command (114 ∷ 53 ∷ 10 ∷ []) ≡ None
   -- `w0\n`
-  pub lower_write : rmt_command (119 ∷ 48 ∷ 10 ∷ []) ≡ Command.Bad
+  pub lower_write : rmt_command (119 ∷ 48 ∷ 10 ∷ []) ≡ None
   -- `i5\n0\n`
-  pub lower_operate : rmt_command (105 ∷ 53 ∷ 10 ∷ 48 ∷ 10 ∷ []) ≡ Command.Bad
+  pub lower_operate : rmt_command (105 ∷ 53 ∷ 10 ∷ 48 ∷ 10 ∷ []) ≡ None
   -- `I6\n0\n`
-  pub offline : rmt_command (73 ∷ 54 ∷ 10 ∷ 48 ∷ 10 ∷ []) ≡ Command.Bad
+  pub offline : rmt_command (73 ∷ 54 ∷ 10 ∷ 48 ∷ 10 ∷ []) ≡ None
   -- `I7\n0\n`
-  pub seventh : rmt_command (73 ∷ 55 ∷ 10 ∷ 48 ∷ 10 ∷ []) ≡ Command.Bad
+  pub seventh : rmt_command (73 ∷ 55 ∷ 10 ∷ 48 ∷ 10 ∷ []) ≡ None
   -- letters alone
   -- `O`
-  pub bare_open : rmt_command (79 ∷ []) ≡ Command.Bad
+  pub bare_open : rmt_command (79 ∷ []) ≡ None
   -- `C`
-  pub bare_close : rmt_command (67 ∷ []) ≡ Command.Bad
+  pub bare_close : rmt_command (67 ∷ []) ≡ None
   -- `R`
-  pub bare_read : rmt_command (82 ∷ []) ≡ Command.Bad
+  pub bare_read : rmt_command (82 ∷ []) ≡ None
   -- `W`
-  pub bare_write : rmt_command (87 ∷ []) ≡ Command.Bad
+  pub bare_write : rmt_command (87 ∷ []) ≡ None
   -- `I`
-  pub bare_operate : rmt_command (73 ∷ []) ≡ Command.Bad
+  pub bare_operate : rmt_command (73 ∷ []) ≡ None
   -- a line feed that is missing
   -- `Otape0\n0`
-  pub open_cut : rmt_command (79 ∷ 116 ∷ 97 ∷ 112 ∷ 101 ∷ 48 ∷ 10 ∷ 48 ∷ []) ≡ Command.Bad
+  pub open_cut : rmt_command (79 ∷ 116 ∷ 97 ∷ 112 ∷ 101 ∷ 48 ∷ 10 ∷ 48 ∷ []) ≡ None
   -- `Otape0`
-  pub open_nameless : rmt_command (79 ∷ 116 ∷ 97 ∷ 112 ∷ 101 ∷ 48 ∷ []) ≡ Command.Bad
+  pub open_nameless : rmt_command (79 ∷ 116 ∷ 97 ∷ 112 ∷ 101 ∷ 48 ∷ []) ≡ None
   -- `Otape0\n`
-  pub open_modeless : rmt_command (79 ∷ 116 ∷ 97 ∷ 112 ∷ 101 ∷ 48 ∷ 10 ∷ []) ≡ Command.Bad
+  pub open_modeless : rmt_command (79 ∷ 116 ∷ 97 ∷ 112 ∷ 101 ∷ 48 ∷ 10 ∷ []) ≡ None
   -- `Otape0\n\n`
-  pub open_empty_mode : rmt_command (79 ∷ 116 ∷ 97 ∷ 112 ∷ 101 ∷ 48 ∷ 10 ∷ 10 ∷ []) ≡ Command.Bad
+  pub open_empty_mode : rmt_command (79 ∷ 116 ∷ 97 ∷ 112 ∷ 101 ∷ 48 ∷ 10 ∷ 10 ∷ []) ≡ None
   -- `Ctape0`
-  pub close_cut : rmt_command (67 ∷ 116 ∷ 97 ∷ 112 ∷ 101 ∷ 48 ∷ []) ≡ Command.Bad
+  pub close_cut : rmt_command (67 ∷ 116 ∷ 97 ∷ 112 ∷ 101 ∷ 48 ∷ []) ≡ None
   -- `R5`
-  pub read_cut : rmt_command (82 ∷ 53 ∷ []) ≡ Command.Bad
+  pub read_cut : rmt_command (82 ∷ 53 ∷ []) ≡ None
   -- `W5`
-  pub write_cut : rmt_command (87 ∷ 53 ∷ []) ≡ Command.Bad
+  pub write_cut : rmt_command (87 ∷ 53 ∷ []) ≡ None
   -- `I5\n0`
-  pub operate_cut : rmt_command (73 ∷ 53 ∷ 10 ∷ 48 ∷ []) ≡ Command.Bad
+  pub operate_cut : rmt_command (73 ∷ 53 ∷ 10 ∷ 48 ∷ []) ≡ None
   -- `I5\n`
-  pub operate_bare : rmt_command (73 ∷ 53 ∷ 10 ∷ []) ≡ Command.Bad
+  pub operate_bare : rmt_command (73 ∷ 53 ∷ 10 ∷ []) ≡ None
   -- bytes behind the command
   -- `Otape0\n0\nC`
-  pub open_more : rmt_command (79 ∷ 116 ∷ 97 ∷ 112 ∷ 101 ∷ 48 ∷ 10 ∷ 48 ∷ 10 ∷ 67 ∷ []) ≡ Command.Bad
+  pub open_more : rmt_command (79 ∷ 116 ∷ 97 ∷ 112 ∷ 101 ∷ 48 ∷ 10 ∷ 48 ∷ 10 ∷ 67 ∷ []) ≡ None
   -- `Otape0\n0\n\n`
-  pub open_feed : rmt_command (79 ∷ 116 ∷ 97 ∷ 112 ∷ 101 ∷ 48 ∷ 10 ∷ 48 ∷ 10 ∷ 10 ∷ []) ≡ Command.Bad
+  pub open_feed : rmt_command (79 ∷ 116 ∷ 97 ∷ 112 ∷ 101 ∷ 48 ∷ 10 ∷ 48 ∷ 10 ∷ 10 ∷ []) ≡ None
   -- `Ctape0\nC`
-  pub close_more : rmt_command (67 ∷ 116 ∷ 97 ∷ 112 ∷ 101 ∷ 48 ∷ 10 ∷ 67 ∷ []) ≡ Command.Bad
+  pub close_more : rmt_command (67 ∷ 116 ∷ 97 ∷ 112 ∷ 101 ∷ 48 ∷ 10 ∷ 67 ∷ []) ≡ None
   -- `C\n\n`
-  pub close_feed : rmt_command (67 ∷ 10 ∷ 10 ∷ []) ≡ Command.Bad
+  pub close_feed : rmt_command (67 ∷ 10 ∷ 10 ∷ []) ≡ None
   -- `R5\nR`
-  pub read_more : rmt_command (82 ∷ 53 ∷ 10 ∷ 82 ∷ []) ≡ Command.Bad
+  pub read_more : rmt_command (82 ∷ 53 ∷ 10 ∷ 82 ∷ []) ≡ None
   -- `I5\n0\n\n`
-  pub operate_more : rmt_command (73 ∷ 53 ∷ 10 ∷ 48 ∷ 10 ∷ 10 ∷ []) ≡ Command.Bad
+  pub operate_more : rmt_command (73 ∷ 53 ∷ 10 ∷ 48 ∷ 10 ∷ 10 ∷ []) ≡ None
   -- data that are short or long by one
   -- `W5\nHELL`
-  pub write_short : rmt_command (87 ∷ 53 ∷ 10 ∷ 72 ∷ 69 ∷ 76 ∷ 76 ∷ []) ≡ Command.Bad
+  pub write_short : rmt_command (87 ∷ 53 ∷ 10 ∷ 72 ∷ 69 ∷ 76 ∷ 76 ∷ []) ≡ None
   -- `W5\nHELLO!`
-  pub write_long : rmt_command (87 ∷ 53 ∷ 10 ∷ 72 ∷ 69 ∷ 76 ∷ 76 ∷ 79 ∷ 33 ∷ []) ≡ Command.Bad
+  pub write_long : rmt_command (87 ∷ 53 ∷ 10 ∷ 72 ∷ 69 ∷ 76 ∷ 76 ∷ 79 ∷ 33 ∷ []) ≡ None
   -- `W0\n\n`
-  pub write_one_more : rmt_command (87 ∷ 48 ∷ 10 ∷ 10 ∷ []) ≡ Command.Bad
+  pub write_one_more : rmt_command (87 ∷ 48 ∷ 10 ∷ 10 ∷ []) ≡ None
   -- signs, blanks and other letters
   -- `R\n`
-  pub read_no_number : rmt_command (82 ∷ 10 ∷ []) ≡ Command.Bad
+  pub read_no_number : rmt_command (82 ∷ 10 ∷ []) ≡ None
   -- `R-1\n`
-  pub read_minus : rmt_command (82 ∷ 45 ∷ 49 ∷ 10 ∷ []) ≡ Command.Bad
+  pub read_minus : rmt_command (82 ∷ 45 ∷ 49 ∷ 10 ∷ []) ≡ None
   -- `R+1\n`
-  pub read_plus : rmt_command (82 ∷ 43 ∷ 49 ∷ 10 ∷ []) ≡ Command.Bad
+  pub read_plus : rmt_command (82 ∷ 43 ∷ 49 ∷ 10 ∷ []) ≡ None
   -- `R 5\n`
-  pub read_blank : rmt_command (82 ∷ 32 ∷ 53 ∷ 10 ∷ []) ≡ Command.Bad
+  pub read_blank : rmt_command (82 ∷ 32 ∷ 53 ∷ 10 ∷ []) ≡ None
   -- `R5 \n`
-  pub read_blank_after : rmt_command (82 ∷ 53 ∷ 32 ∷ 10 ∷ []) ≡ Command.Bad
+  pub read_blank_after : rmt_command (82 ∷ 53 ∷ 32 ∷ 10 ∷ []) ≡ None
   -- `R5\r\n`
-  pub read_return : rmt_command (82 ∷ 53 ∷ 13 ∷ 10 ∷ []) ≡ Command.Bad
+  pub read_return : rmt_command (82 ∷ 53 ∷ 13 ∷ 10 ∷ []) ≡ None
   -- `R0x5\n`
-  pub read_hex : rmt_command (82 ∷ 48 ∷ 120 ∷ 53 ∷ 10 ∷ []) ≡ Command.Bad
+  pub read_hex : rmt_command (82 ∷ 48 ∷ 120 ∷ 53 ∷ 10 ∷ []) ≡ None
   -- `R/\n`
-  pub read_slash : rmt_command (82 ∷ 47 ∷ 10 ∷ []) ≡ Command.Bad
+  pub read_slash : rmt_command (82 ∷ 47 ∷ 10 ∷ []) ≡ None
   -- `R:\n`
-  pub read_colon : rmt_command (82 ∷ 58 ∷ 10 ∷ []) ≡ Command.Bad
+  pub read_colon : rmt_command (82 ∷ 58 ∷ 10 ∷ []) ≡ None
   -- ten digits and eleven; the greatest number, and one more
   -- `R0000000005\n`
-  pub ten : rmt_command (82 ∷ 48 ∷ 48 ∷ 48 ∷ 48 ∷ 48 ∷ 48 ∷ 48 ∷ 48 ∷ 48 ∷ 53 ∷ 10 ∷ []) ≡ Command.Read 5
+  pub ten : rmt_command (82 ∷ 48 ∷ 48 ∷ 48 ∷ 48 ∷ 48 ∷ 48 ∷ 48 ∷ 48 ∷ 48 ∷ 53 ∷ 10 ∷ []) ≡ Some (Command.Read 5)
   -- `R00000000005\n`
-  pub eleven : rmt_command (82 ∷ 48 ∷ 48 ∷ 48 ∷ 48 ∷ 48 ∷ 48 ∷ 48 ∷ 48 ∷ 48 ∷ 48 ∷ 53 ∷ 10 ∷ []) ≡ Command.Bad
+  pub eleven : rmt_command (82 ∷ 48 ∷ 48 ∷ 48 ∷ 48 ∷ 48 ∷ 48 ∷ 48 ∷ 48 ∷ 48 ∷ 48 ∷ 53 ∷ 10 ∷ []) ≡ None
   -- `R9\n`
-  pub nine : rmt_command (82 ∷ 57 ∷ 10 ∷ []) ≡ Command.Read 9
+  pub nine : rmt_command (82 ∷ 57 ∷ 10 ∷ []) ≡ Some (Command.Read 9)
   -- `R4294967295\n`
-  pub greatest : rmt_command (82 ∷ 52 ∷ 50 ∷ 57 ∷ 52 ∷ 57 ∷ 54 ∷ 55 ∷ 50 ∷ 57 ∷ 53 ∷ 10 ∷ []) ≡ Command.Read 4294967295
+  pub greatest : rmt_command (82 ∷ 52 ∷ 50 ∷ 57 ∷ 52 ∷ 57 ∷ 54 ∷ 55 ∷ 50 ∷ 57 ∷ 53 ∷ 10 ∷ []) ≡ Some (Command.Read 4294967295)
   -- `R4294967296\n`
-  pub one_more : rmt_command (82 ∷ 52 ∷ 50 ∷ 57 ∷ 52 ∷ 57 ∷ 54 ∷ 55 ∷ 50 ∷ 57 ∷ 54 ∷ 10 ∷ []) ≡ Command.Bad
+  pub one_more : rmt_command (82 ∷ 52 ∷ 50 ∷ 57 ∷ 52 ∷ 57 ∷ 54 ∷ 55 ∷ 50 ∷ 57 ∷ 54 ∷ 10 ∷ []) ≡ None
   -- `R9999999999\n`
-  pub nines : rmt_command (82 ∷ 57 ∷ 57 ∷ 57 ∷ 57 ∷ 57 ∷ 57 ∷ 57 ∷ 57 ∷ 57 ∷ 57 ∷ 10 ∷ []) ≡ Command.Bad
+  pub nines : rmt_command (82 ∷ 57 ∷ 57 ∷ 57 ∷ 57 ∷ 57 ∷ 57 ∷ 57 ∷ 57 ∷ 57 ∷ 57 ∷ 10 ∷ []) ≡ None
   -- `Otape0\n4294967295\n`
-  pub greatest_mode : rmt_command (79 ∷ 116 ∷ 97 ∷ 112 ∷ 101 ∷ 48 ∷ 10 ∷ 52 ∷ 50 ∷ 57 ∷ 52 ∷ 57 ∷ 54 ∷ 55 ∷ 50 ∷ 57 ∷ 53 ∷ 10 ∷ []) ≡ Command.Open (place 1 5) 4294967295
+  pub greatest_mode : rmt_command (79 ∷ 116 ∷ 97 ∷ 112 ∷ 101 ∷ 48 ∷ 10 ∷ 52 ∷ 50 ∷ 57 ∷ 52 ∷ 57 ∷ 54 ∷ 55 ∷ 50 ∷ 57 ∷ 53 ∷ 10 ∷ []) ≡ Some (Command.Open (place 1 5) 4294967295)
   -- `Otape0\n4294967296\n`
-  pub great_mode : rmt_command (79 ∷ 116 ∷ 97 ∷ 112 ∷ 101 ∷ 48 ∷ 10 ∷ 52 ∷ 50 ∷ 57 ∷ 52 ∷ 57 ∷ 54 ∷ 55 ∷ 50 ∷ 57 ∷ 54 ∷ 10 ∷ []) ≡ Command.Bad
+  pub great_mode : rmt_command (79 ∷ 116 ∷ 97 ∷ 112 ∷ 101 ∷ 48 ∷ 10 ∷ 52 ∷ 50 ∷ 57 ∷ 52 ∷ 57 ∷ 54 ∷ 55 ∷ 50 ∷ 57 ∷ 54 ∷ 10 ∷ []) ≡ None
   -- `W4294967296\n`
-  pub great_data : rmt_command (87 ∷ 52 ∷ 50 ∷ 57 ∷ 52 ∷ 57 ∷ 54 ∷ 55 ∷ 50 ∷ 57 ∷ 54 ∷ 10 ∷ []) ≡ Command.Bad
+  pub great_data : rmt_command (87 ∷ 52 ∷ 50 ∷ 57 ∷ 52 ∷ 57 ∷ 54 ∷ 55 ∷ 50 ∷ 57 ∷ 54 ∷ 10 ∷ []) ≡ None
   -- `I4294967296\n0\n`
-  pub great_operation : rmt_command (73 ∷ 52 ∷ 50 ∷ 57 ∷ 52 ∷ 57 ∷ 54 ∷ 55 ∷ 50 ∷ 57 ∷ 54 ∷ 10 ∷ 48 ∷ 10 ∷ []) ≡ Command.Bad
+  pub great_operation : rmt_command (73 ∷ 52 ∷ 50 ∷ 57 ∷ 52 ∷ 57 ∷ 54 ∷ 55 ∷ 50 ∷ 57 ∷ 54 ∷ 10 ∷ 48 ∷ 10 ∷ []) ≡ None
   -- `I5\n4294967296\n`
-  pub great_count : rmt_command (73 ∷ 53 ∷ 10 ∷ 52 ∷ 50 ∷ 57 ∷ 52 ∷ 57 ∷ 54 ∷ 55 ∷ 50 ∷ 57 ∷ 54 ∷ 10 ∷ []) ≡ Command.Bad
+  pub great_count : rmt_command (73 ∷ 53 ∷ 10 ∷ 52 ∷ 50 ∷ 57 ∷ 52 ∷ 57 ∷ 54 ∷ 55 ∷ 50 ∷ 57 ∷ 54 ∷ 10 ∷ []) ≡ None
   -- `I5\nx\n`
-  pub rewind_countless : rmt_command (73 ∷ 53 ∷ 10 ∷ 120 ∷ 10 ∷ []) ≡ Command.Bad
+  pub rewind_countless : rmt_command (73 ∷ 53 ∷ 10 ∷ 120 ∷ 10 ∷ []) ≡ None
 
 -- what NDMP has them as: "0 FSF, 1 BSF, 2 FSR, 3 BSR, 4 REW, 5 write marks"
 pub record NumberCases : Type 0 where

@@ -1,10 +1,9 @@
 -- Numbers of the remote tape protocol (02 No. 5): "Decimal numbers are one to ten digits, at most 4,294,967,295". 001, 4: each is "ASCII
 -- decimal", with a line feed behind it. Leading zeros are digits like others; a sign or a blank is none.
-use Rattle.std.specs.Prelude.{ℕ, zero, suc, ◌+◌, ◌-◌, ◌*◌, ◌/◌, ◌%◌, ◌≤◌, Bool, true, false, List, [], ◌∷◌, length, get_or, eqb, leb, ltb}
+use Rattle.std.specs.Prelude.{ℕ, zero, suc, ◌+◌, ◌-◌, ◌*◌, ◌/◌, ◌%◌, ◌≤◌, Bool, false, List, [], ◌∷◌, length, get_or, eqb, leb, ltb, Option, Some, None}
 use Rattle.xdr.specs.Choose.{choose}
 use Rattle.xdr_opaque.specs.Put.{Each}
 use Rattle.wire_rmt.specs.declared.Number.{Number}
-use Rattle.wire_rmt.specs.declared.Number.TheVariants.{Value, Bad}
 
 -- "one to ten digits"
 abbrev pub most_digits : ℕ
@@ -19,25 +18,29 @@ abbrev pub line_feed : ℕ
 line_feed = 10
 
 -- ---- read
+-- a number, and the offset behind its line feed
+abbrev pub number : ℕ → ℕ → Number
+number v next = record { value = v; next = next }
+
 -- `0` to `9`
 unfoldable pub is_digit : ℕ → Bool
 is_digit b = choose (leb 48 b) (leb b 57) false
 
 -- the line feed behind the last digit; past the end there is no byte, which is 0 here and no line feed
-unfoldable pub ending : ℕ → List ℕ → ℕ → Number
-ending v l i = choose (eqb (get_or l i 0) line_feed) (Value v (i + 1)) Bad
+unfoldable pub ending : ℕ → List ℕ → ℕ → Option Number
+ending v l i = choose (eqb (get_or l i 0) line_feed) (Some (number v (i + 1))) None
 
 -- up to n digits more, behind those that make v
-unfoldable pub digits_on : ℕ → ℕ → List ℕ → ℕ → Number
+unfoldable pub digits_on : ℕ → ℕ → List ℕ → ℕ → Option Number
 digits_on zero v l i = ending v l i
 digits_on (suc n) v l i =
     choose (is_digit (get_or l i 0))
-    (choose (ltb most_number (v * 10 + (get_or l i 0 - 48))) Bad (digits_on n (v * 10 + (get_or l i 0 - 48)) l (i + 1)))
+    (choose (ltb most_number (v * 10 + (get_or l i 0 - 48))) None (digits_on n (v * 10 + (get_or l i 0 - 48)) l (i + 1)))
     (ending v l i)
 
 -- the number at an offset, and the offset behind its line feed
-unfoldable pub number_at : List ℕ → ℕ → Number
-number_at l at = choose (is_digit (get_or l at 0)) (digits_on most_digits 0 l at) Bad
+unfoldable pub number_at : List ℕ → ℕ → Option Number
+number_at l at = choose (is_digit (get_or l at 0)) (digits_on most_digits 0 l at) None
 
 -- ---- written
 -- the last n digits of v, before others

@@ -3,7 +3,6 @@ use Rattle.std.specs.Prelude.{ℕ, ◌+◌, ◌≤◌, List, [], ◌∷◌, ◌+
 use Rattle.xdr_opaque.specs.Put.{Each}
 use Rattle.wire_layouts.specs.Layout.{place}
 use Rattle.wire_rmt.specs.declared.Command.{Command}
-use Rattle.wire_rmt.specs.declared.Command.TheVariants as Command
 use Rattle.wire_rmt.specs.Numbers.{value_of, Numeral}
 
 -- a path, data, and numbers by their digits

@@ -7,11 +7,11 @@ ghost use Rattle.wire_rmt.specs.Cases.{RmtCases};
 
 use wire_layouts::Text;
 
-// A number and the offset behind its line feed.
-#[derive(Clone, Copy)]
-pub enum Number {
-    Value { value: u32, next: usize },
-    Bad,
+// A number, and the offset behind its line feed.
+#[derive(Clone, Copy, Debug, PartialEq, Eq)]
+pub struct Number {
+    pub value: u32,
+    pub next: usize,
 }
 
 // A command; a path and data are their places in it. Operate holds 001's number of the operation, and its count.
@@ -22,7 +22,6 @@ pub enum Command {
     Read(u32),
     Write(Text),
     Operate(u32, u32),
-    Bad,
 }
 
 // No work: its contract is that digits are read as the number that they come to, and nothing else, and that a number which is

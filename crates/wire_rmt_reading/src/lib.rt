@@ -1,207 +1,165 @@
 // Reads a command of the remote tape protocol, for any bytes; and what its mode and its operation are to NDMP.
 #![tactic(auto)]
 
-ghost use Rattle.std.specs.Prelude.{◌≡◌, ◌+◌, ◌≤◌, length};
-ghost use Rattle.wire_rmt.specs.Numbers.{is_digit, ending, digits_on, number_at};
-ghost use Rattle.wire_rmt.specs.Commands.{line_end, open_in, close_in, read_in, write_in, operate_in, rmt_command, tape_mode, mtio_of};
+ghost use Rattle.std.specs.Prelude.{◌≡◌, ◌+◌, ◌-◌, ◌≤◌, ◌<◌, ◌==◌, length, get_or, position, true, false, IfSome, MatchOption};
+ghost use Rattle.wire_rmt.specs.Numbers.{line_feed, is_digit, ending, digits_on, number_at};
+ghost use Rattle.wire_rmt.specs.Commands.{path_length, last_number, open_in, close_in, read_in, write_in, operate_in, rmt_command, tape_mode, mtio_of};
 
 use wire_layouts::Text;
 use wire_rmt::{Command, Number};
 
-const LINE_FEED: u8 = 10;
-
-// `O`, `C`, `R`, `W` and `I`.
-const OPEN: u32 = 79;
-
-const CLOSE: u32 = 67;
-
-const READ: u32 = 82;
-
-const WRITE: u32 = 87;
-
-const OPERATE: u32 = 73;
-
 const LAST_OPERATION: u32 = 5;
 
-fn is_digit(b: u32) -> bool
-    ensures { result ≡ is_digit b }
+// The digit at an offset.
+#[tactic(auto, unfolding(xdr::specs::Choose::choose, wire_rmt::specs::Numbers::is_digit))]
+fn digit_at(s: &[u8], at: usize) -> Option<u32>
+    ensures { MatchOption result (is_digit (get_or s.now at 0) ≡ false) (λ d. (is_digit (get_or s.now at 0) ≡ true) × (d ≡ get_or s.now at 0 - 48) × (at < length s.now)) }
 {
-    if b < 48 {
-        return false;
+    let b = *s.get(at)?;
+    if !b.is_ascii_digit() {
+        return None;
     }
-    b <= 57
+    Some(u32::from(b - b'0'))
 }
 
 // A number that has come to its end: the line feed must follow.
-fn ended(value: u32, s: &[u8], at: usize) -> Number
+#[tactic(auto, unfolding(xdr::specs::Choose::choose, wire_rmt::specs::Numbers::ending))]
+fn ended(value: u32, s: &[u8], at: usize) -> Option<Number>
     ensures { result ≡ ending value s.now at }
 {
-    if s.len() <= at {
-        return Number::Bad;
+    if *s.get(at)? != b'\n' {
+        return None;
     }
-    if s[at] != LINE_FEED {
-        return Number::Bad;
-    }
-    Number::Value {
+    Some(Number {
         value,
         next: at + 1,
-    }
+    })
 }
 
 // Up to ten digits.
-fn digits_at(s: &[u8], from: usize) -> Number
+#[tactic(auto, using(wire_rmt::proofs::Laws::on_more), unfolding(xdr::specs::Choose::choose, wire_rmt::specs::Numbers::digits_on))]
+fn digits_at(s: &[u8], from: usize) -> Option<Number>
     ensures { result ≡ digits_on 10 0 s.now from }
 {
-    let mut left: u32 = 10;
     let mut value: u32 = 0;
     let mut at = from;
-    while 0 < left {
-        let b = xdr::byte_at(s, at);
-        if !is_digit(b) {
+    for i in 0..10usize {
+        let Some(digit) = digit_at(s, at) else {
             return ended(value, s, at);
-        }
-        let wide = (value as u64) * 10 + ((b - 48) as u64);
-        if 4294967295 < wide {
-            return Number::Bad;
-        }
-        value = wide as u32;
+        };
+        value = value.checked_mul(10)?.checked_add(digit)?;
         at += 1;
-        left -= 1;
     }
     ended(value, s, at)
 }
 
-// The number at an offset, and its line feed.
-fn number_at(s: &[u8], at: usize) -> Number
+// The number at an offset, and its line feed: one digit at least.
+#[tactic(auto, unfolding(xdr::specs::Choose::choose, wire_rmt::specs::Numbers::number_at))]
+fn number_at(s: &[u8], at: usize) -> Option<Number>
     ensures { result ≡ number_at s.now at }
 {
-    let b = xdr::byte_at(s, at);
-    if !is_digit(b) {
-        return Number::Bad;
-    }
+    digit_at(s, at)?;
     digits_at(s, at)
 }
 
-// The offset of the first line feed behind the letter, or of the end.
-fn line_end(s: &[u8]) -> usize
-    ensures { result ≡ line_end s.now }
+// The number at an offset, if it ends the command.
+#[tactic(auto, unfolding(xdr::specs::Choose::choose, wire_rmt::specs::Commands::at_end, wire_rmt::specs::Commands::last_number))]
+fn last_number(s: &[u8], at: usize) -> Option<u32>
+    ensures { result ≡ last_number s.now at }
 {
-    let mut at: usize = 1;
-    while at < s.len() {
-        if s[at] == LINE_FEED {
-            return at;
-        }
-        at += 1;
+    let number = number_at(s, at)?;
+    if number.next != s.len() {
+        return None;
     }
-    at
+    Some(number.value)
 }
 
-fn open_command(s: &[u8]) -> Command
+// The length of the first line, if its line feed is there.
+fn line_length(s: &[u8]) -> Option<usize>
+    ensures value { result ≡ position (λ b. b == line_feed) s.now }
+    ensures bound { IfSome result (λ len. len < length s.now) }
+{
+    s.iter().position(|b| *b == b'\n')
+}
+
+// The length of the line behind the letter.
+#[tactic(auto, unfolding(wire_rmt::specs::Commands::path_length))]
+fn path_length(s: &[u8]) -> Option<usize>
+    ensures value { result ≡ path_length s.now }
+    ensures bound { IfSome result (λ len. len + 2 ≤ length s.now) }
+{
+    line_length(s.get(1..)?)
+}
+
+#[tactic(auto, unfolding(xdr::specs::Choose::choose, wire_rmt::specs::Commands::opened, wire_rmt::specs::Commands::open_behind, wire_rmt::specs::Commands::open_in))]
+fn open_command(s: &[u8]) -> Option<Command>
     ensures { result ≡ open_in s.now }
 {
-    let end = line_end(s);
-    if s.len() <= end {
-        return Command::Bad;
-    }
-    let Number::Value { value, next } = number_at(s, end + 1) else {
-        return Command::Bad;
-    };
-    if next != s.len() {
-        return Command::Bad;
-    }
-    Command::Open(
-        Text {
-            start: 1,
-            len: end - 1,
-        },
-        value,
-    )
+    let len = path_length(s)?;
+    let mode = last_number(s, len + 2)?;
+    Some(Command::Open(Text { start: 1, len }, mode))
 }
 
-fn close_command(s: &[u8]) -> Command
+#[tactic(auto, unfolding(xdr::specs::Choose::choose, wire_rmt::specs::Commands::close_behind, wire_rmt::specs::Commands::close_in))]
+fn close_command(s: &[u8]) -> Option<Command>
     ensures { result ≡ close_in s.now }
 {
-    let end = line_end(s);
-    if s.len() <= end {
-        return Command::Bad;
+    if path_length(s)? + 2 != s.len() {
+        return None;
     }
-    if end + 1 != s.len() {
-        return Command::Bad;
-    }
-    Command::Close
+    Some(Command::Close)
 }
 
-fn read_command(s: &[u8]) -> Command
+#[tactic(auto, unfolding(wire_rmt::specs::Commands::reading, wire_rmt::specs::Commands::read_in))]
+fn read_command(s: &[u8]) -> Option<Command>
     ensures { result ≡ read_in s.now }
 {
-    let Number::Value { value, next } = number_at(s, 1) else {
-        return Command::Bad;
-    };
-    if next != s.len() {
-        return Command::Bad;
-    }
-    Command::Read(value)
+    Some(Command::Read(last_number(s, 1)?))
 }
 
-fn write_command(s: &[u8]) -> Command
+#[tactic(auto, using(crate::proofs::Laws::number_within), unfolding(xdr::specs::Choose::choose, wire_rmt::specs::Commands::writing, wire_rmt::specs::Commands::write_in))]
+fn write_command(s: &[u8]) -> Option<Command>
     ensures { result ≡ write_in s.now }
 {
-    let Number::Value { value, next } = number_at(s, 1) else {
-        return Command::Bad;
-    };
-    let len = value as usize;
-    if s.len() - next != len {
-        return Command::Bad;
+    let count = number_at(s, 1)?;
+    let len = count.value as usize;
+    if s.len() - count.next != len {
+        return None;
     }
-    Command::Write(Text { start: next, len })
+    Some(Command::Write(Text {
+        start: count.next,
+        len,
+    }))
 }
 
-fn operate_command(s: &[u8]) -> Command
+#[tactic(auto, unfolding(xdr::specs::Choose::choose, wire_rmt::specs::Commands::operating, wire_rmt::specs::Commands::operation, wire_rmt::specs::Commands::operate_in))]
+fn operate_command(s: &[u8]) -> Option<Command>
     ensures { result ≡ operate_in s.now }
 {
-    let Number::Value { value, next } = number_at(s, 1) else {
-        return Command::Bad;
-    };
-    if LAST_OPERATION < value {
-        return Command::Bad;
+    let op = number_at(s, 1)?;
+    if LAST_OPERATION < op.value {
+        return None;
     }
-    let Number::Value {
-        value: count,
-        next: end,
-    } = number_at(s, next)
-    else {
-        return Command::Bad;
-    };
-    if end != s.len() {
-        return Command::Bad;
-    }
-    Command::Operate(value, count)
+    Some(Command::Operate(op.value, last_number(s, op.next)?))
 }
 
-// One whole command.
-pub fn command(s: &[u8]) -> Command
+// One whole command, by its letter.
+#[tactic(auto, unfolding(xdr::specs::Choose::choose, wire_rmt::specs::Commands::rmt_command))]
+pub fn command(s: &[u8]) -> Option<Command>
     ensures { result ≡ rmt_command s.now }
 {
-    let letter = xdr::byte_at(s, 0);
-    if letter == OPEN {
-        return open_command(s);
+    match *s.first()? {
+        b'O' => open_command(s),
+        b'C' => close_command(s),
+        b'R' => read_command(s),
+        b'W' => write_command(s),
+        b'I' => operate_command(s),
+        _ => None,
     }
-    if letter == CLOSE {
-        return close_command(s);
-    }
-    if letter == READ {
-        return read_command(s);
-    }
-    if letter == WRITE {
-        return write_command(s);
-    }
-    if letter == OPERATE {
-        return operate_command(s);
-    }
-    Command::Bad
 }
 
 // NDMP's mode of an open.
+#[tactic(auto, unfolding(xdr::specs::Choose::choose, wire_rmt::specs::Commands::tape_mode))]
 pub fn tape_mode(mode: u32) -> u32
     ensures { result ≡ tape_mode mode }
 {
@@ -209,23 +167,16 @@ pub fn tape_mode(mode: u32) -> u32
 }
 
 // NDMP's number of an operation.
+#[tactic(auto, unfolding(xdr::specs::Choose::choose, wire_rmt::specs::Commands::mtio_of))]
 pub fn mtio_of(op: u32) -> u32
     ensures { result ≡ mtio_of op }
 {
-    if op == 0 {
-        return codes::WRITE_MARKS;
+    match op {
+        0 => codes::WRITE_MARKS,
+        1 => codes::FORWARD_FILES,
+        2 => codes::BACK_FILES,
+        3 => codes::FORWARD_RECORDS,
+        4 => codes::BACK_RECORDS,
+        _ => codes::REWIND_TAPE,
     }
-    if op == 1 {
-        return codes::FORWARD_FILES;
-    }
-    if op == 2 {
-        return codes::BACK_FILES;
-    }
-    if op == 3 {
-        return codes::FORWARD_RECORDS;
-    }
-    if op == 4 {
-        return codes::BACK_RECORDS;
-    }
-    codes::REWIND_TAPE
 }
