@@ -2,11 +2,10 @@
 use Prim.Native.Nat.{ℕ, ◌+◌, ◌≤◌}
 use Prim.{tt}
 use mathlib.Core.Bool.{true, false}
-use mathlib.Core.List.{List, [], ◌∷◌, ◌++◌, append-nil}
+use mathlib.Core.List.{List, [], ◌++◌, append-nil}
 use mathlib.Core.Path.{◌≡◌, refl, sym, ap, ◌∙◌}
 use native.Mathlib.Nat.{zero-add}
 use lib.ListN.{length}
-use denote.Enum.Declared.{tag_of}
 use Rattle.xdr.specs.Choose.{choose}
 use Rattle.xdr.specs.Xdr.{overlay}
 use Rattle.xdr.proofs.Tests.{eqb_yes, eqb_no}
@@ -15,15 +14,10 @@ use Rattle.changer_elements.specs.Slots.{in_drive}
 use Rattle.wire_requests.specs.Within.{texts_within}
 use Rattle.wire_requests.specs.declared.TapeRequest.{TapeRequest}
 use Rattle.wire_requests.specs.declared.Request.{Request}
-use Rattle.wire_requests.specs.declared.Request.TheVariants as Request
-use Rattle.wire_requests.specs.contracts.Request as request
 use Rattle.wire_replies.specs.declared.Reply.{Reply}
-use Rattle.wire_replies.specs.declared.Reply.TheVariants as Reply
 use Rattle.wire_replies.specs.Replies.{number_of}
 use Rattle.wire_replies.specs.Fit.{Sendable}
-use Rattle.wire_replies.specs.contracts.Reply as reply
 use Rattle.wire_rmt.specs.declared.Command.{Command}
-use Rattle.wire_rmt.specs.declared.Command.TheVariants as Command
 use Rattle.wire_rmt.specs.Commands.{rmt_command}
 use Rattle.wire_rmt.specs.Replies.{error_of, accepted, refused}
 use Rattle.wire_rmt_reading.proofs.Within.{text_in, command_within}
@@ -34,45 +28,23 @@ use Rattle.std.specs.Prelude.{Option, Some, None}
 use Rattle.rules.specs.Judge.{Outcome, refuse, accept, judge, onto, Accepts}
 use Rattle.rules.specs.TapeService.{Loaded, loaded, with_loaded, device_step, tape_step}
 use Rattle.rules.specs.Answer.{Kept, held, Answered, silent, guarded, tape_part, with_tape, outcome, needs_login, is_locked, verdict}
-use Rattle.rules.specs.Rmt.{rmt_request, in_record, bare, said, told, counted_in, rmt_reply, saying, replied, commanded}
+use Rattle.rules.specs.Rmt.{tape_request, rmt_request, in_record, bare, said, told, counted_in, rmt_reply, saying, replied, commanded}
 use Rattle.rules.proofs.Guarding.{when_stopped, when_goes}
 use Rattle.rules.proofs.Sending.{tape_sends}
 use Rattle.rules.proofs.Calls.{verdict_free}
 use Rattle.call_sending.specs.Call.{CallTold}
 
--- ---- the request that a command is
-not_tape : (q : Command) → ((t : TapeRequest) → rmt_request q ≡ Request.Tape t → ⊥) → rmt_request q ≡ Request.Bad
-unfolding rmt_request
-not_tape (Command.Open name mode) h = absurd (h _ refl)
-not_tape Command.Close h = absurd (h _ refl)
-not_tape (Command.Read count) h = absurd (h _ refl)
-not_tape (Command.Write bytes) h = absurd (h _ refl)
-not_tape (Command.Operate op count) h = absurd (h _ refl)
-not_tape Command.Bad h = refl
-
--- a path and data lie within the command
-texts_of : (q : Command) (l : List ℕ) → (text_in q).start + (text_in q).len ≤ length l → texts_within l (rmt_request q)
-unfolding text_in rmt_request texts_within
+-- ---- a path and data lie within the command
+texts_of : (q : Command) (l : List ℕ) → (text_in (Some q)).start + (text_in (Some q)).len ≤ length l → texts_within l (Request.Tape (tape_request q))
+unfolding text_in tape_request texts_within
 texts_of (Command.Open name mode) l h = h
 texts_of Command.Close l h = tt
 texts_of (Command.Read count) l h = tt
 texts_of (Command.Write bytes) l h = h
 texts_of (Command.Operate op count) l h = tt
-texts_of Command.Bad l h = tt
 
--- the request that was made of a command as it was read
-module _ (c : List ℕ) {q : Command} {r : Request} (e : q ≡ rmt_command c) (f : r ≡ rmt_request q) where
-  request_is : r ≡ rmt_request (rmt_command c)
-  request_is = f ∙ ap rmt_request e
-
-  pub read_bad : ((t : TapeRequest) → r ≡ Request.Tape t → ⊥) → rmt_request (rmt_command c) ≡ Request.Bad
-  read_bad h = not_tape (rmt_command c) (λ t g. h t (request_is ∙ g))
-
-  pub read_tape : (t : TapeRequest) → r ≡ Request.Tape t → rmt_request (rmt_command c) ≡ Request.Tape t
-  read_tape t g = sym request_is ∙ g
-
-  pub read_within : (t : TapeRequest) → r ≡ Request.Tape t → texts_within c (Request.Tape t)
-  read_within t g = rw (← (read_tape t g)) (texts_of (rmt_command c) c (command_within c))
+pub read_within : (c : List ℕ) (q : Command) → Some q ≡ rmt_command c → texts_within c (Request.Tape (tape_request q))
+read_within c q e = texts_of q c (rw e (command_within c))
 
 -- ---- what is told
 module _ (e n : ℕ) (b : List ℕ) {next : ℕ} {l m : List ℕ} where
@@ -143,20 +115,21 @@ module _ (k : Kept) (c : List ℕ) (q : TapeRequest) where
   came = device_step (in_drive k.session.changer.slots) k.session.mover.state k.session.tape k.image q c
 
 module _ (k : Kept) (c : List ℕ) {v : Answer} {image variables l l' : List ℕ} where
-  pub told_bad : rmt_request (rmt_command c) ≡ Request.Bad → CallTold (saying (refused (error_of 18)) k) v image variables l l'
+  pub told_bad : None ≡ rmt_command c → CallTold (saying (refused (error_of 18)) k) v image variables l l'
       → CallTold (replied k (said k c)) v image variables l l'
-  unfolding needs_login outcome replied
-  told_bad e t = rw (e, verdict_free k bare (in_record c) Request.Bad refl) t
+  unfolding needs_login outcome replied rmt_request
+  told_bad e t = rw (← e, verdict_free k bare (in_record c) Request.Bad refl) t
 
-  module _ (q : TapeRequest) (e : rmt_request (rmt_command c) ≡ Request.Tape q) where
+  module _ (q : Command) (e : Some q ≡ rmt_command c) where
     pub told_locked : k.session.login.authorized ≡ false → CallTold (saying (refused (error_of 4)) k) v image variables l l'
         → CallTold (replied k (said k c)) v image variables l l'
-    unfolding replied
-    told_locked a t = rw (e, verdict_locked k c q a) t
+    unfolding replied rmt_request
+    told_locked a t = rw (← e, verdict_locked k c (tape_request q) a) t
 
-    pub told_known : k.session.login.authorized ≡ true → CallTold (replied k (outcome k bare (in_record c) (Request.Tape q))) v image variables l l'
+    pub told_known : k.session.login.authorized ≡ true → CallTold (replied k (outcome k bare (in_record c) (Request.Tape (tape_request q)))) v image variables l l'
         → CallTold (replied k (said k c)) v image variables l l'
-    told_known a t = rw (e, verdict_known k c q a) t
+    unfolding rmt_request
+    told_known a t = rw (← e, verdict_known k c (tape_request q) a) t
 
   -- and by what the tape came to
   module _ (q : TapeRequest) where

@@ -3,6 +3,7 @@
 
 ghost use Rattle.std.specs.Prelude.{◌≡◌, List, ℕ, ◌≤◌, length};
 ghost use Rattle.codes.specs.Codes.{longest_record};
+ghost use Rattle.codes.specs.Errors.{number_of};
 ghost use Rattle.xdr_opaque.specs.Put.{Put};
 ghost use Rattle.wire_requests.specs.Within.{texts_within};
 ghost use Rattle.wire_requests.specs.declared.Request.TheVariants as Request;
@@ -10,12 +11,13 @@ ghost use Rattle.wire_replies.specs.Fit.{Sendable};
 ghost use Rattle.wire_rmt.specs.Replies.{error_of, refused};
 ghost use Rattle.rules_parts.specs.Names.{least_room};
 ghost use Rattle.rules.specs.Answer.{held, outcome};
-ghost use Rattle.rules.specs.Rmt.{rmt_request, in_record, bare, said, told, rmt_reply, saying, replied, commanded};
+ghost use Rattle.rules.specs.Rmt.{tape_request, in_record, bare, said, told, rmt_reply, saying, replied, commanded};
 ghost use Rattle.call_sending.specs.Call.{CallTold};
 
+use codes::NdmpError;
 use rules_parts::types::{Answer, Session};
 use wire_replies::Reply;
-use wire_requests::{Request, TapeRequest};
+use wire_requests::TapeRequest;
 use wire_rmt::Command;
 
 // The tape request that a command is.
@@ -63,11 +65,11 @@ fn put_reply(out: &mut [u8], reply: Reply, image: &[u8]) -> usize
 }
 
 // A refused command. Nothing changes: it takes no sequence number.
-fn refuse(s: Session, code: u32, out: &mut [u8]) -> Answer
+fn refuse(s: Session, error: NdmpError, out: &mut [u8]) -> Answer
     requires { least_room ≤ length out.old }
-    ensures { (image variables : List ℕ) → CallTold (saying (refused (error_of code)) (held s image variables)) result image variables out.old out.new }
+    ensures { (image variables : List ℕ) → CallTold (saying (refused (error_of (number_of error))) (held s image variables)) result image variables out.old out.new }
 {
-    let len = wire_rmt_writing::put_refused(out, 0, code);
+    let len = wire_rmt_writing::put_refused(out, 0, error.number());
     Answer {
         code: 0,
         len,
@@ -93,13 +95,9 @@ fn work(s: Session, q: TapeRequest, image: &mut [u8], command: &[u8], out: &mut 
     requires { (least_room ≤ length out.old) × texts_within command.now (Request.Tape q) }
     ensures { (variables : List ℕ) → CallTold (replied (held s image.old variables) (outcome (held s image.old variables) bare (in_record command.now) (Request.Tape q))) result image.new variables out.old out.new }
 {
-    let drive = s.changer.slots[0];
-    match serve_tape::serve(drive, s.mover.state, s.tape, image, q, command) {
-        Ok(accepted) => {
-            let session = s.with_tape(accepted.next);
-            tell(session, accepted.reply, image, out)
-        }
-        Err(e) => refuse(s, e.number(), out),
+    match serve_tape::serve(s.changer.slots[0], s.mover.state, s.tape, image, q, command) {
+        Ok(accepted) => tell(s.with_tape(accepted.next), accepted.reply, image, out),
+        Err(error) => refuse(s, error, out),
     }
 }
 
@@ -108,16 +106,13 @@ fn obey(s: Session, image: &mut [u8], command: &[u8], out: &mut [u8]) -> Answer
     requires { least_room ≤ length out.old }
     ensures { (variables : List ℕ) → CallTold (replied (held s image.old variables) (said (held s image.old variables) command.now)) result image.new variables out.old out.new }
 {
-    let read = wire_rmt_reading::command(command);
-    let asked = request_of(read);
-    let Request::Tape(q) = asked else {
-        return refuse(s, codes::UNDECODABLE, out);
+    let Some(read) = wire_rmt_reading::command(command) else {
+        return refuse(s, NdmpError::Undecodable, out);
     };
-    let g = s.login;
-    if !g.authorized {
-        return refuse(s, codes::NOT_AUTHORIZED, out);
+    if !s.login.authorized {
+        return refuse(s, NdmpError::NotAuthorized, out);
     }
-    work(s, q, image, command, out)
+    work(s, tape_request(read), image, command, out)
 }
 
 // One command: the session, the cartridge, the whole command, a write with its data, and the output.

@@ -171,7 +171,7 @@ value_last (suc n) v ds h =
     let e : v / 10 * 10 + (48 + v % 10 - 48) ≡ v = omega (arith, div-add-mod' v 10) in
     value_last n (v / 10) ((48 + v % 10) ∷ ds) j ∙ ap (λ (x : ℕ). value_from x ds) e
 
-count_enough : (k v : ℕ) → v < 10 ^ suc k → v < 10 ^ count_on k v
+pub count_enough : (k v : ℕ) → v < 10 ^ suc k → v < 10 ^ count_on k v
 unfolding count_on
 count_enough zero v h = h
 count_enough (suc k) v h =
@@ -260,7 +260,7 @@ some_power zero v h n = absurd (omega arith)
 some_power (suc m) v h n = omega arith
 
 -- what is below that power has no more digits
-count_least : (k v m : ℕ) → v < 10 ^ m → 1 ≤ m → count_on k v ≤ m
+pub count_least : (k v m : ℕ) → v < 10 ^ m → 1 ≤ m → count_on k v ≤ m
 unfolding count_on
 count_least zero v m h n = n
 count_least (suc k) v zero h n = absurd (omega arith)

@@ -1,51 +1,41 @@
 -- Laws of the writers' loops and of their replies. Assumes nothing.
-use Prim.Native.Nat.{ℕ, zero, suc, ◌+◌, ◌-◌, ◌/◌, ◌%◌, ◌≤◌, ◌<◌}
-use mathlib.Core.List.{List, [], ◌∷◌, ◌++◌}
+use Prim.Native.Nat.{ℕ, zero, suc, ◌+◌, ◌-◌, ◌*◌, ◌/◌, ◌%◌, ◌^◌, ◌≤◌, ◌<◌, max}
+use mathlib.Core.List.{List, [], ◌∷◌}
 use mathlib.Core.Path.{◌≡◌, refl, sym, ap, ◌∙◌}
-use native.Mathlib.Omega.{arith}
-use lib.Dec.{eqb}
+use native.Mathlib.Omega.{arith, pow_step}
 use lib.ListN.{length, set}
-use Rattle.codes.specs.Codes.{not_open, no_device, illegal_arguments, undecodable}
 use Rattle.xdr.specs.Choose.{choose}
 use Rattle.xdr.specs.Xdr.{overlay}
 use Rattle.xdr.proofs.Laws.{overlay_none, overlay_front, store_one}
-use Rattle.xdr.proofs.Tests.{by_test, ltb_yes, ltb_no}
 use Rattle.xdr_opaque.specs.Put.{Put}
 use Rattle.xdr_opaque.proofs.Laws.{then, put}
 use Rattle.wire_rmt.specs.Numbers.{line_feed, last_digits, count_on, digit_count, decimal}
-use Rattle.wire_rmt.specs.Replies.{io_failed, no_such_device, invalid, error_of, error_text, headed, accepted, refused}
-use Rattle.wire_rmt.proofs.Numbers.{decimal_length, count_few}
+use Rattle.wire_rmt.specs.Replies.{error_text, headed, accepted, refused}
+use Rattle.wire_rmt.proofs.Numbers.{decimal_length, count_few, count_some, count_least, count_enough}
 
 -- ---- how many digits
-count_small : (k v : ℕ) → v < 10 → count_on k v ≡ 1
-unfolding count_on choose
-count_small zero v h = refl
-count_small (suc k) v h = rw (ltb_yes h)
+pow_some : (k : ℕ) → 1 ≤ 10 ^ k
+pow_some zero = omega arith
+pow_some (suc k) = rw pow_step (omega (arith, pow_some k))
 
-count_suc : (k v : ℕ) → 10 ≤ v → count_on (suc k) v ≡ count_on k (v / 10) + 1
-unfolding count_on choose
-count_suc k v h = rw (ltb_no h)
+pow_below : (k m : ℕ) → 10 ^ k < 10 ^ m → k < m
+pow_below k zero h = absurd (omega (arith, pow_some k))
+pow_below zero (suc m) h = omega arith
+pow_below (suc k) (suc m) h = let a : 10 * 10 ^ k < 10 * 10 ^ m = rw (pow_step, pow_step) at h in omega (arith, pow_below k m (omega arith))
 
-count_none : (v : ℕ) → count_on 0 v ≡ 1
-unfolding count_on
-count_none v = refl
+pow_ten : (m : ℕ) → 1 ≤ m → 10 ≤ 10 ^ m
+pow_ten zero h = absurd (omega arith)
+pow_ten (suc m) h = rw pow_step (omega (arith, pow_some m))
 
--- a loop that has counted so many, the first of what is left among them
-module _ (n count left : ℕ) (e : n + 1 ≡ count + count_on (10 - count) left) where
-  pub count_here : left < 10 → count ≡ n
-  count_here h = let z = count_small (10 - count) left h in omega arith
-
-  pub count_on_lem : 10 ≤ left → count < 10 → n + 1 ≡ count + 1 + count_on (10 - (count + 1)) (left / 10)
-  count_on_lem h k =
-      let f : 10 - count ≡ suc (10 - (count + 1)) = omega arith in
-      let z = ap (λ (y : ℕ). count_on y left) f ∙ count_suc (10 - (count + 1)) left h in
-      omega arith
-
-  pub count_end : 10 ≤ count → count ≤ 10 → count ≡ n
-  count_end h k =
-      let f : 10 - count ≡ 0 = omega arith in
-      let z = ap (λ (y : ℕ). count_on y left) f ∙ count_none left in
-      omega arith
+-- by the greatest power of ten that is not above the number
+pub count_is : (v k w : ℕ) → w ≡ max v 1 → v < 2 ^ 32 → 10 ^ k ≤ w → w < 10 * 10 ^ k → k < 10 → (k + 1 ≡ digit_count v) × (k + 1 ≤ 10)
+count_is v k w e fits low high few =
+    let below : v < 10 ^ suc k = rw pow_step (omega arith) in
+    let most = count_least 9 v (suc k) below (omega arith) in
+    let above : v < 10 ^ count_on 9 v = count_enough 9 v (omega arith) in
+    let ten = pow_ten (count_on 9 v) (count_some 9 v) in
+    let least = pow_below k (count_on 9 v) (omega arith) in
+    (omega arith, omega arith)
 
 -- ---- the digits, from the last on
 -- those from the i-th on are written, over the old bytes
@@ -103,52 +93,27 @@ pub decimal_short : (n : ℕ) → length (decimal n) ≤ 10
 decimal_short n = omega (arith, decimal_length n, count_few 9 n)
 
 -- ---- errors
-error_one : (code : ℕ) (P : ℕ → Type 0) → P invalid → P no_such_device → P io_failed → P (error_of code)
-unfolding error_of
-error_one code P a b c =
-    by_test P (eqb code undecodable) _ _ (λ _. a)
-    (λ _. by_test P (eqb code illegal_arguments) _ _ (λ _. a)
-    (λ _. by_test P (eqb code not_open) _ _ (λ _. b)
-    (λ _. by_test P (eqb code no_device) _ _ (λ _. b) (λ _. c))))
-
-last_error : (code e : ℕ) → e ≡ error_of code → (e ≡ invalid → ⊥) → (e ≡ no_such_device → ⊥) → e ≡ io_failed
-last_error code e is h k =
-    error_one code (λ (x : ℕ). e ≡ x → e ≡ io_failed) (λ f. absurd (h f)) (λ f. absurd (k f)) (λ f. f) is
-
 -- the three, byte for byte
 abbrev text22 : List ℕ
 text22 =
     69 ∷ 50 ∷ 50 ∷ 10 ∷ 73 ∷ 110 ∷ 118 ∷ 97 ∷ 108 ∷ 105 ∷ 100 ∷ 32 ∷ 97 ∷ 114 ∷ 103 ∷ 117 ∷ 109 ∷ 101 ∷ 110 ∷ 116 ∷ 10 ∷ []
 
-bytes_22 : {at next : ℕ} {l m : List ℕ} → Put at text22 l next m → Put at (refused 22) l next m
+pub bytes_22 : text22 ≡ refused 22
 unfolding refused headed error_text decimal last_digits count_on choose
-bytes_22 p = p
+bytes_22 = refl
 
 abbrev text6 : List ℕ
 text6 =
     69 ∷ 54 ∷ 10 ∷ 78 ∷ 111 ∷ 32 ∷ 115 ∷ 117 ∷ 99 ∷ 104 ∷ 32 ∷ 100 ∷ 101 ∷ 118 ∷ 105 ∷ 99 ∷ 101 ∷ 32 ∷ 111 ∷ 114 ∷ 32 ∷ 97 ∷ 100 ∷ 100 ∷ 114 ∷ 101 ∷ 115 ∷ 115 ∷ 10 ∷ []
 
-bytes_6 : {at next : ℕ} {l m : List ℕ} → Put at text6 l next m → Put at (refused 6) l next m
+pub bytes_6 : text6 ≡ refused 6
 unfolding refused headed error_text decimal last_digits count_on choose
-bytes_6 p = p
+bytes_6 = refl
 
 abbrev text5 : List ℕ
 text5 =
     69 ∷ 53 ∷ 10 ∷ 73 ∷ 47 ∷ 79 ∷ 32 ∷ 101 ∷ 114 ∷ 114 ∷ 111 ∷ 114 ∷ 10 ∷ []
 
-bytes_5 : {at next : ℕ} {l m : List ℕ} → Put at text5 l next m → Put at (refused 5) l next m
+pub bytes_5 : text5 ≡ refused 5
 unfolding refused headed error_text decimal last_digits count_on choose
-bytes_5 p = p
-
-module _ (code e : ℕ) (is : e ≡ error_of code) {at next : ℕ} {l m : List ℕ} where
-  of_error : (k : ℕ) → e ≡ k → Put at (refused k) l next m → Put at (refused (error_of code)) l next m
-  of_error k h p = let f : error_of code ≡ k = sym is ∙ h in rw f p
-
-  pub refused_22 : e ≡ invalid → Put at text22 l next m → Put at (refused (error_of code)) l next m
-  refused_22 h p = of_error 22 h (bytes_22 p)
-
-  pub refused_6 : e ≡ no_such_device → Put at text6 l next m → Put at (refused (error_of code)) l next m
-  refused_6 h p = of_error 6 h (bytes_6 p)
-
-  pub refused_5 : (e ≡ invalid → ⊥) → (e ≡ no_such_device → ⊥) → Put at text5 l next m → Put at (refused (error_of code)) l next m
-  refused_5 h k p = of_error 5 (last_error code e is h k) (bytes_5 p)
+bytes_5 = refl

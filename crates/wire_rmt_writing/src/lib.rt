@@ -5,28 +5,37 @@ ghost use Rattle.std.specs.Prelude.{◌≡◌, ◌+◌, ◌≤◌, length};
 ghost use Rattle.xdr_opaque.specs.Put.{Put};
 ghost use Rattle.wire_rmt.specs.Numbers.{most_digits, digit_count, decimal};
 ghost use Rattle.wire_rmt.specs.Replies.{error_of, accepted, refused};
+ghost use Rattle.wire_rmt_writing.specs.Errors.{number_of};
 
-// The errors, as 001 has them from Unix.
-pub const IO_FAILED: u32 = 5;
+// An error, as 001 has it from Unix.
+#[derive(Clone, Copy, Debug, PartialEq, Eq)]
+pub enum UnixError {
+    IoFailed,
+    NoSuchDevice,
+    Invalid,
+}
 
-pub const NO_SUCH_DEVICE: u32 = 6;
+impl UnixError {
+    // The reply that refuses by it: `E`, 001's number of it and its text.
+    #[tactic(auto, using(crate::proofs::Laws::bytes_5, crate::proofs::Laws::bytes_6, crate::proofs::Laws::bytes_22))]
+    fn reply(self) -> &'static [u8]
+        ensures bytes { result.now ≡ refused (number_of self) }
+        ensures short { length result.now ≤ 29 }
+    {
+        match self {
+            UnixError::IoFailed => b"E5\nI/O error\n",
+            UnixError::NoSuchDevice => b"E6\nNo such device or address\n",
+            UnixError::Invalid => b"E22\nInvalid argument\n",
+        }
+    }
+}
 
-pub const INVALID: u32 = 22;
-
-// How many digits a number has in decimal.
+// How many digits a number has in decimal; 0 has one, as 1 has.
+#[tactic(auto, using(crate::proofs::Laws::count_is))]
 fn digit_count(v: u32) -> usize
     ensures { (result ≡ digit_count v) × (result ≤ most_digits) }
 {
-    let mut left = v;
-    let mut count: usize = 1;
-    while count < 10 {
-        if left < 10 {
-            return count;
-        }
-        left /= 10;
-        count += 1;
-    }
-    count
+    v.max(1).ilog10() as usize + 1
 }
 
 // Writes a number in decimal, from its last digit on; returns the offset after it.
@@ -36,10 +45,8 @@ fn put_decimal(out: &mut [u8], at: usize, v: u32) -> usize
 {
     let count = digit_count(v);
     let mut left = v;
-    let mut i = count;
-    while 0 < i {
-        i -= 1;
-        out[at + i] = (48 + left % 10) as u8;
+    for i in (0..count).rev() {
+        out[at + i] = b'0' + (left % 10) as u8;
         left /= 10;
     }
     at + count
@@ -57,44 +64,21 @@ pub fn put_accepted(out: &mut [u8], at: usize, n: u32) -> usize
 }
 
 // The error that a number of NDMP is.
-pub fn error_of(code: u32) -> u32
-    ensures { result ≡ error_of code }
+#[tactic(auto, unfolding(xdr::specs::Choose::choose, wire_rmt::specs::Replies::error_of))]
+pub fn error_of(code: u32) -> UnixError
+    ensures { number_of result ≡ error_of code }
 {
-    if code == codes::UNDECODABLE {
-        return INVALID;
+    match code {
+        codes::UNDECODABLE | codes::ILLEGAL_ARGUMENTS => UnixError::Invalid,
+        codes::NOT_OPEN | codes::NO_DEVICE => UnixError::NoSuchDevice,
+        _ => UnixError::IoFailed,
     }
-    if code == codes::ILLEGAL_ARGUMENTS {
-        return INVALID;
-    }
-    if code == codes::NOT_OPEN {
-        return NO_SUCH_DEVICE;
-    }
-    if code == codes::NO_DEVICE {
-        return NO_SUCH_DEVICE;
-    }
-    IO_FAILED
 }
 
-// Writes a text; returns the offset after it.
-fn put_text(out: &mut [u8], at: usize, text: &[u8]) -> usize
-    requires { at + length text.now ≤ length out.old }
-    ensures { Put at text.now out.old result out.new }
-{
-    xdr::copy_bytes(out, at, text);
-    at + text.len()
-}
-
-// Writes the reply to what NDMP refuses by a number: `E`, the error and its text; returns the offset after it.
+// Writes the reply to what NDMP refuses by a number; returns the offset after it.
 pub fn put_refused(out: &mut [u8], at: usize, code: u32) -> usize
     requires { at + 29 ≤ length out.old }
     ensures { Put at (refused (error_of code)) out.old result out.new }
 {
-    let error = error_of(code);
-    if error == INVALID {
-        return put_text(out, at, b"E22\nInvalid argument\n");
-    }
-    if error == NO_SUCH_DEVICE {
-        return put_text(out, at, b"E6\nNo such device or address\n");
-    }
-    put_text(out, at, b"E5\nI/O error\n")
+    xdr_opaque::put_bytes(out, at, error_of(code).reply())
 }

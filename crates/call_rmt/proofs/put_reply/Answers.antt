@@ -4,7 +4,6 @@ use Rattle.wire_replies.specs.Replies.{number_of}
 use Rattle.wire_writing.proofs.Laws.{read_within, part}
 use Rattle.rules.specs.Rmt.{counted_in, rmt_reply}
 use Rattle.call_rmt.proofs.Commanding.{Other, other_told}
-use borrow.Author.Rules.{rules}
 use Rattle.call_rmt.proofs.put_reply.Goals as goal
 
 pub overflow_cast-len : goal.overflow_cast-len

@@ -12,11 +12,11 @@ returns-in-Err c =
     let told = c.in-Err.ensures in
     λ variables.
     let k = held a.s a.image.now variables in
-    rw told.1 (work_refused k a.command.now a.q _ told.0 (rw c.number.ensures at (c.refuse.ensures a.image.now variables)))
+    rw told.1 (work_refused k a.command.now a.q _ told.0 (c.refuse.ensures a.image.now variables))
 
 pub returns-in-Ok : goal.returns-in-Ok
 returns-in-Ok c =
     let a = c.args in
     λ variables.
     let k = held a.s a.image.now variables in
-    work_accepted k a.command.now a.q _ _ c.in-Ok.ensures c.with_tape-session.ensures (c.tell.ensures variables)
+    work_accepted k a.command.now a.q _ _ c.in-Ok.ensures c.with_tape.ensures (c.tell.ensures variables)

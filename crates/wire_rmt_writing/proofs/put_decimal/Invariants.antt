@@ -1,4 +1,3 @@
-use Prim.Native.Nat.{◌≤◌}
 use mathlib.Core.Path.{◌≡◌}
 use lib.ListN.{length}
 use Rattle.wire_rmt_writing.proofs.Laws.{Going}
@@ -6,7 +5,4 @@ use Rattle.wire_rmt_writing.proofs.put_decimal.Given as goal
 
 -- Invariant: the digits from the i-th on are written.
 abbrev pub invariant-loop-i : goal.invariant-loop-i
-invariant-loop-i l = (l.i ≤ 10) × (length l.out ≡ length l.initial.out) × Going l.v l.at l.i l.left l.initial.out l.out
-
-abbrev pub decreases-loop-i : goal.decreases-loop-i
-decreases-loop-i l = l.i
+invariant-loop-i l = (length l.out ≡ length l.initial.out) × Going l.v l.at l.i l.left l.initial.out l.out
