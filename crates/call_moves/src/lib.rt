@@ -1,12 +1,11 @@
 // The calls without a request: moves of the stream's bytes, the method's end, a connection made and one lost. No call has a requires: it refuses.
 #![tactic(auto)]
 
-ghost use Rattle.std.specs.Prelude.{◌≡◌, true, List, [], ℕ, ◌≤◌, length};
+ghost use Rattle.std.specs.Prelude.{List, [], ℕ, ◌≤◌, length};
 ghost use Rattle.rules_parts.specs.Names.{least_room};
-ghost use Rattle.rules.specs.Relation.{keeps};
 ghost use Rattle.rules.specs.Answer.{held};
 ghost use Rattle.call_sending.specs.Call.{CallTold};
-ghost use Rattle.rules_moves.specs.Events.{stamped, idling, announced, moved, feeding, handing, moved_to_tape, moved_from_tape, method_ended, connection_made, connection_lost};
+ghost use Rattle.rules_moves.specs.Events.{stamped, idling, announced, moved, moved_to_tape, moved_from_tape, method_ended, connection_made, connection_lost};
 ghost use Rattle.call_moves.specs.Told.{MoveTold, event};
 
 use rules_moves::Move;
@@ -91,15 +90,6 @@ fn report(s: Session, mv: Move, time: u32, out: &mut [u8]) -> Moved
     }
 }
 
-// A move to tape of a session that is in order.
-fn feed(s: Session, image: &mut [u8], stream: &[u8], last: bool, time: u32, out: &mut [u8]) -> Moved
-    requires { (keeps s ≡ true) × (least_room ≤ length out.old) }
-    ensures { (variables : List ℕ) → MoveTold (feeding (held s image.old variables) (stamped time (length out.old)) stream.now last) result image.new variables [] out.old out.new }
-{
-    let mv = serve_to_tape::to_tape(Parts::of(s), image, stream, last);
-    report(s, mv, time, out)
-}
-
 // One move to tape: the session, the cartridge, a part of the stream and whether it is the last, the time stamp and the output.
 pub fn move_to_tape(
     s: Session,
@@ -114,15 +104,7 @@ pub fn move_to_tape(
     if let Err(stop) = serve_relation::guard(s, out.len()) {
         return unmoved(stop.code(), s);
     }
-    feed(s, image, stream, last, time, out)
-}
-
-// A move from tape of a session that is in order.
-fn hand(s: Session, image: &[u8], dest: &mut [u8], time: u32, out: &mut [u8]) -> Moved
-    requires { (keeps s ≡ true) × (least_room ≤ length out.old) }
-    ensures { (variables : List ℕ) → MoveTold (handing (held s image.now variables) (stamped time (length out.old)) dest.old) result image.now variables dest.new out.old out.new }
-{
-    let mv = serve_from_tape::from_tape(Parts::of(s), image, dest);
+    let mv = serve_to_tape::to_tape(Parts::of(s), image, stream, last);
     report(s, mv, time, out)
 }
 
@@ -133,5 +115,6 @@ pub fn move_from_tape(s: Session, image: &[u8], dest: &mut [u8], time: u32, out:
     if let Err(stop) = serve_relation::guard(s, out.len()) {
         return unmoved(stop.code(), s);
     }
-    hand(s, image, dest, time, out)
+    let mv = serve_from_tape::from_tape(Parts::of(s), image, dest);
+    report(s, mv, time, out)
 }

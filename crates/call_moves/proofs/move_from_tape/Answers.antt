@@ -1,28 +1,34 @@
 use Rattle.std.specs.Prelude.{Some}
-use mathlib.Core.Path.{ap, ◌∙◌}
+use mathlib.Core.Path.{refl, ap, ◌∙◌}
 use native.Mathlib.Omega.{arith}
 use lib.ListN.{length}
 use Rattle.rules.specs.Answer.{held}
 use Rattle.rules_moves.specs.Events.{stamped}
+use Rattle.rules.proofs.Calls.{kept_facts}
 use Rattle.rules.proofs.Guarding.{guard_goes}
-use Rattle.call_moves.proofs.Telling.{from_stopped, from_goes}
+use Rattle.call_moves.proofs.Telling.{from_stopped, from_goes, moved_as}
 use Rattle.call_moves.proofs.move_from_tape.Goals as goal
 
 pub returns-in-Err : goal.returns-in-Err
 returns-in-Err c = λ variables.
-    let c8 = c in
-    let a = c8.args in
+    let a = c.args in
     from_stopped (held a.s a.image.now variables) (stamped a.time (length a.out.now)) a.dest.now _
     (ap Some c.code.ensures ∙ c.in-Err.ensures) (c.unmoved.ensures _ _ _ _)
 
-pub hand-requires : goal.hand-requires
-hand-requires c = let g = guard_goes _ _ c.in_default.ensures in
-    (g.valid, omega (arith, g.roomy))
+pub from_tape-mv-requires : goal.from_tape-mv-requires
+from_tape-mv-requires c = let g = guard_goes _ _ c.in_default.ensures in
+    rw (c.of.ensures.mover, c.of.ensures.tape) (kept_facts c.args.s g.valid).mover
 
+pub report-requires : goal.report-requires
+report-requires c = omega (arith, (guard_goes _ _ c.in_default.ensures).roomy)
+
+-- The move by its definition, put into the report.
 pub returns : goal.returns
 returns c = λ variables.
-    let c8 = c in
-    let a = c8.args in
-    from_goes (held a.s a.image.now variables) (stamped a.time (length a.out.now)) a.dest.now
-    c.in_default.ensures
-    (c.hand.ensures variables)
+    let a = c.args in
+    let k = held a.s a.image.now variables in
+    let l = stamped a.time (length a.out.now) in
+    let o = c.of.ensures in
+    let mv = rw (o.source, o.mover, o.tape) at c.from_tape-mv.ensures in
+    from_goes k l a.dest.now c.in_default.ensures
+    (moved_as k l c.from_tape-mv.result _ a.image.now a.image.now _ _ _ _ _ _ _ _ mv.is refl mv.dest (c.report.ensures a.image.now _ variables _))
