@@ -12,6 +12,7 @@ use rules_parts::types::{Answer, Session};
 use wire_replies::{Notice, Reply};
 
 // The reply to a record, and the session counted. For every service. Inlined, so that the frame of its caller serves it too.
+// The record, the time stamp and the output are no struct: the output is lent on to the notices, so it would be taken apart at once, and contracts name each.
 #[inline(always)]
 pub fn finish(
     next: Session,
@@ -52,7 +53,7 @@ pub fn refuse(s: Session, error: u32, input: &[u8], time: u32, out: &mut [u8]) -
     )
 }
 
-// A notice behind what was sent, where there is a reason for one.
+// A notice behind what was sent, where there is a reason for one: in NDMP 0 is none.
 pub fn notify(sent: Answer, time: u32, why: u32, notice: Notice, out: &mut [u8]) -> Answer
     requires { (sent.len ≤ 36000) × (least_room ≤ length out.old) }
     ensures { (result.len ≤ sent.len + 40) × ((a : Answered) (image variables l : List ℕ) → CallTold a sent image variables l out.old → CallTold (noticed time why notice a) result image variables l out.new) }

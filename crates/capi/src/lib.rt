@@ -1,4 +1,5 @@
-// The calls for a host in Rust or C. None asks anything of its caller: each promises what the call of the same name below promises.
+// The calls for a host in Rust or C. None asks anything of its caller: each promises what the call of the same name below promises. Names and
+// parameters are those of include/mossgoblin.h, so `made` and `lost` are two calls, and each buffer is a parameter.
 #![tactic(auto)]
 
 ghost use Rattle.std.specs.Prelude.{ℕ, ◌≡◌, List, [], length};
