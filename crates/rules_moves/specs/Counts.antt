@@ -21,7 +21,7 @@ unfoldable pub replay : Register → List Seen → Register
 replay r [] = r
 replay r (x ∷ xs) = replay (after r x) xs
 
--- whole records to tape, bytes from tape
+-- whole records to tape, bytes from tape. Not `count_of`, which has of a record to tape the stream's bytes in it
 unfoldable pub moved_by : Seen → ℕ
 moved_by (Wrote n k) = n
 moved_by (Handed k) = k

@@ -454,19 +454,6 @@ impl Session {
         }
     }
 
-    // The session with other parts.
-    pub fn with_parts(self, g: Login, d: Data, m: Mover, t: Tape, c: Changer) -> Session
-        ensures { result ≡ with_parts self g d m t c }
-    {
-        let mut next = self;
-        next.login = g;
-        next.source = d;
-        next.mover = m;
-        next.tape = t;
-        next.changer = c;
-        next
-    }
-
     // The session with another login.
     pub fn with_login(self, login: Login) -> Session
         ensures { result ≡ with_parts self login self.source self.mover self.tape self.changer }

@@ -70,7 +70,7 @@ impl Parts {
     }
 
     // Both ends halt, each for its reason.
-    fn halt_both(self, dwhy: u32, mwhy: u32) -> Move
+    pub fn halt_both(self, dwhy: u32, mwhy: u32) -> Move
         ensures { result ≡ halts dwhy mwhy self.source self.mover self.tape }
     {
         Move {
