@@ -159,7 +159,8 @@ pub fn decode_joint(k: JointKind, body: &[u8]) -> Option<JointRequest>
     }
 }
 
-// The request that a message and its body are.
+// The request that a message and its body are. Not inlined: its frame is gone before the request is served.
+#[inline(never)]
 pub fn decode(m: Message, body: &[u8]) -> Request
     ensures { Decoded m body.now result }
 {
