@@ -14,7 +14,6 @@ use Rattle.xdr.proofs.Tests.{by_test}
 use Rattle.wire_frame.specs.Frame.{well_framed, kind_of, message_word, body_of, framed}
 use Rattle.wire_frame.specs.Messages.{row_of, message_of}
 use Rattle.wire_frame.specs.declared.JointKind.{JointKind}
-use Rattle.wire_frame.specs.declared.JointKind.TheVariants as JointKind
 use Rattle.wire_frame.specs.declared.Message.{Message}
 use Rattle.std.specs.declared.result.Result.{Result}
 use Rattle.std.specs.declared.result.Result.TheVariants.{Err}

@@ -1,5 +1,5 @@
 -- A body that was written is read back, and what follows it is left over. Assumes nothing.
-use Prim.Native.Nat.{ℕ, zero, suc, ◌+◌, ◌^◌, ◌≤◌, ◌<◌}
+use Prim.Native.Nat.{ℕ, ◌+◌, ◌≤◌}
 use mathlib.Core.Bool.{Bool, true, false}
 use mathlib.Core.Path.{◌≡◌, refl, sym, ap, ◌∙◌}
 use mathlib.Core.List.{List, [], ◌∷◌, ◌++◌, map, flat_map, append_assoc, append-nil}
@@ -7,19 +7,17 @@ use native.Mathlib.Omega.{arith}
 use native.Mathlib.Nat.{add-zero, add_assoc}
 use lib.ListN.{length, take, drop, length-append}
 use lib.Seq.{drop-append_seam, take_at}
-use lib.Dec.{eqb, leb}
+use lib.Dec.{eqb}
 use borrow.Author.Tests.{le-leb, eq-eqb}
 use Rattle.xdr.specs.Choose.{choose}
 use Rattle.codes.specs.Codes.{most_port, digest_length}
 use Rattle.xdr.specs.Xdr as xdr
 use Rattle.xdr.proofs.Laws.{length_be32, length_be64}
-use Rattle.xdr_opaque.specs.Opaque.{opaque_at}
-use Rattle.xdr_opaque.specs.Put.{opaque}
 use Rattle.xdr_opaque.proofs.Fields.{From, all_of, from_length, past, grouped, word_is, opaque_found, opaque_bytes, hyper_is}
 use Rattle.wire_layouts.specs.Layout.{Part, Field, Item, four, eight, bytes, fixed, Value, value, item_bytes, value_bytes, write_as, Piece}
-use Rattle.wire_layouts.specs.Layout.{piece, place, piece_of, part_at, Got, got, cut, prepend, and_part, and_got, parts_at, times_at, FieldGot, field_got, single, counted, list_at, items_of, element_at}
+use Rattle.wire_layouts.specs.Layout.{piece, place, piece_of, part_at, Got, got, prepend, and_part, and_got, parts_at, times_at, FieldGot, field_got, single, counted, list_at, items_of, element_at}
 use Rattle.wire_layouts.specs.Layout.{field_at}
-use Rattle.wire_layouts.specs.Layout.{Read, whole, before, broken, and_value, and_read, read_fields}
+use Rattle.wire_layouts.specs.Layout.{Read, whole, broken, and_value, and_read, read_fields}
 use Rattle.wire_layouts.specs.Laws.{content, contents, PartFits, is_word, is_hyper, is_text, is_port, is_digest, PartsFit, no_part, part_on, TimesFit, no_time, time_on, ListFits, is_list}
 use Rattle.wire_layouts.specs.Laws.{ElementFits, is_element, FieldFits, is_one, is_many, is_lists, is_tag, FieldsFit, no_field, field_on, FieldsRoundTrip}
 use Rattle.wire_layouts.specs.declared.Text.{Text}

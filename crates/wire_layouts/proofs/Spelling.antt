@@ -11,12 +11,12 @@ use Rattle.codes.specs.Codes.{most_port, digest_length}
 use Rattle.xdr.specs.Xdr as xdr
 use Rattle.xdr.proofs.Tests.{by_test}
 use Rattle.std.specs.Prelude.{Option, Some, None}
-use Rattle.xdr_opaque.specs.Opaque.{opaque_at, between, filled, all_zero}
+use Rattle.xdr_opaque.specs.Opaque.{opaque_at, between}
 use Rattle.xdr_opaque.specs.Put.{opaque, fill}
 use Rattle.xdr_opaque.specs.declared.Opaque.{Opaque}
 use Rattle.xdr_opaque.proofs.Laws.{Found, opaque_read, zero_is, filled_fill}
-use Rattle.wire_layouts.specs.Layout.{Part, word, hyper, text, port, digest, Field, one, many, lists, tag, Item, four, eight, bytes, Value, value, item_bytes, value_bytes, write_as}
-use Rattle.wire_layouts.specs.Layout.{Piece, piece, short, place, piece_of, part_at, Got, got, cut, prepend, and_part, and_got, parts_at, times_at, FieldGot, field_got, stop, bad}
+use Rattle.wire_layouts.specs.Layout.{Part, word, hyper, text, port, digest, Field, one, many, lists, tag, Item, value, item_bytes, write_as}
+use Rattle.wire_layouts.specs.Layout.{Piece, piece, short, piece_of, part_at, Got, got, cut, prepend, and_part, and_got, parts_at, times_at, FieldGot, field_got, stop, bad}
 use Rattle.wire_layouts.specs.Layout.{single, counted, list_at, items_of, element_at, field_at, Read, whole, before, broken, and_value, and_read, read_fields}
 use Rattle.wire_layouts.specs.Laws.{Bytes, content, contents, Spelled, FieldsOneSpelling}
 use Rattle.wire_layouts.specs.declared.Text.{Text}

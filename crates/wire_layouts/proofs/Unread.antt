@@ -9,8 +9,7 @@ use borrow.Author.Tests.{eqb-false}
 use Rattle.codes.specs.Codes.{most_port, digest_length}
 use Rattle.xdr.specs.Xdr as xdr
 use Rattle.xdr.proofs.Tests.{by_test}
-use Rattle.xdr_opaque.specs.Opaque.{opaque_at}
-use Rattle.wire_layouts.specs.Layout.{Part, word, hyper, text, port, digest, Field, one, many, lists, tag, Item, Value, value, Piece, piece, short, piece_of, part_at, Got, got, cut}
+use Rattle.wire_layouts.specs.Layout.{Part, word, hyper, text, port, digest, Field, one, many, lists, tag, Value, value, Piece, piece, short, part_at, Got, got, cut}
 use Rattle.wire_layouts.specs.Layout.{parts_at, times_at, FieldGot, field_got, stop, bad, single, counted, list_at, element_at}
 use Rattle.wire_layouts.specs.Layout.{field_at, Read, whole, before, broken, and_value, and_read, read_fields}
 use Rattle.wire_layouts.specs.Laws.{HasTag, Stops, UnreadRests}

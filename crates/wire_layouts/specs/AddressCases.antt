@@ -1,6 +1,6 @@
 -- Lists of addresses with their bytes written out after 004's ndmp_tcp_addr, and what each is read as. They keep the layout to 004 and to 02:
 -- a limit that is another, or a list of pairs that is not passed over, is seen here.
-use Rattle.std.specs.Prelude.{ℕ, zero, suc, Bool, true, false, ◌≡◌, List, [], ◌∷◌, ◌++◌, map, take, replicate, Some, None}
+use Rattle.std.specs.Prelude.{ℕ, zero, suc, true, false, ◌≡◌, List, [], ◌∷◌, ◌++◌, map, take, replicate, Some, None}
 use Rattle.codes.specs.Codes.{tcp_address}
 use Rattle.xdr.specs.Xdr.{be32}
 use Rattle.wire_layouts.specs.Layout.{four, bytes, place, Value, value, write_as, FieldGot, field_got, bad, field_at}

@@ -8,7 +8,6 @@ use Rattle.wire_layouts.specs.Scans.{scanned, addresses, address_at, field_seen}
 use Rattle.wire_layouts.specs.declared.Text.{Text}
 use Rattle.wire_layouts.specs.declared.Scan.{Scan}
 use Rattle.wire_layouts.specs.declared.Seen.{Seen}
-use Rattle.wire_layouts.specs.declared.Seen.TheVariants as Seen
 use Rattle.wire_layouts.specs.declared.Addresses.{Addresses}
 
 abbrev pub no_hosts : List ℕ

@@ -8,7 +8,6 @@ use Rattle.wire_layouts.specs.declared.Field as code
 use Rattle.wire_layouts.specs.declared.Field.TheVariants as Code
 use Rattle.wire_layouts.specs.declared.Scan.{Scan}
 use Rattle.wire_layouts.specs.declared.Seen.{Seen}
-use Rattle.wire_layouts.specs.declared.Seen.TheVariants as Seen
 
 -- ---- what is kept: of each field its first item, at the field's number
 abbrev pub no_items : List ℕ

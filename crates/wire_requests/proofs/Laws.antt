@@ -5,7 +5,6 @@ use mathlib.Core.List.{List}
 use Rattle.std.specs.Prelude.{Option, Some, None, option_map}
 use Rattle.wire_layouts.specs.declared.Scan.{Scan}
 use Rattle.wire_frame.specs.declared.Message.{Message}
-use Rattle.wire_frame.specs.declared.Message.TheVariants as Message
 use Rattle.wire_requests.specs.Bodies.{connect_of, config_of, scsi_of, tape_of, data_of, mover_of, joint_of, request_of, or_bad, scanned_by, read_by, connect_body, config_body, scsi_body, tape_body, data_body, mover_body, joint_body, decoded}
 use Rattle.wire_requests.specs.RoundTrip.{Known}
 use Rattle.wire_requests.specs.declared.Request.{Request}

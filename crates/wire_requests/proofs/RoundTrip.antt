@@ -25,13 +25,11 @@ use Rattle.wire_frame.specs.declared.DataKind.TheVariants as DataKind
 use Rattle.wire_frame.specs.declared.MoverKind.TheVariants as MoverKind
 use Rattle.wire_frame.specs.declared.JointKind.TheVariants as JointKind
 use Rattle.wire_frame.specs.declared.Message.{Message}
-use Rattle.wire_frame.specs.declared.Message.TheVariants as Message
 use Rattle.wire_layouts.specs.Layout.{Field, one, tag, four, bytes, Value, value, place, write_as, part_at, single, field_at, whole, before, and_value, and_read, read_fields}
 use Rattle.wire_layouts.specs.declared.Part.TheVariants.{Word as word, Text as text, Digest as digest}
 use Rattle.wire_layouts.specs.Laws.{contents, FieldsFit}
 use Rattle.wire_layouts.specs.Scans.{pairs, empty_scan, put, puts, summed, scanned}
 use Rattle.wire_layouts.specs.AddressLists.{is_tcp}
-use Rattle.wire_layouts.specs.declared.Scan.{Scan}
 use Rattle.wire_layouts.specs.declared.Text.{Text}
 use Rattle.wire_layouts.proofs.Back.{round_trip}
 use Rattle.wire_layouts.proofs.Within.{whole_kept}
@@ -39,7 +37,7 @@ use Rattle.wire_layouts.proofs.AddressTypes.{type_written}
 use Rattle.wire_requests.specs.Bodies.{behind_text, pairs_at, listen_fields, connect_fields}
 use Rattle.wire_requests.specs.Bodies.{layout_of, request_of, or_bad, read_by, decoded}
 use Rattle.wire_requests.specs.Within.{bytes_at}
-use Rattle.wire_requests.specs.Sent.{Name, Addr, local, tcp, Arg, ulong, octets, sixteen, pvals, tcp_addrs, union, arg_bytes}
+use Rattle.wire_requests.specs.Sent.{Name, Addr, local, tcp, Arg, ulong, octets, pvals, tcp_addrs, union, arg_bytes}
 use Rattle.wire_requests.specs.Sent.{Sent, args_of, sent_bytes, SentFits, AtPlace, AtPairs, Means}
 use Rattle.wire_requests.specs.Sent.{connect_open, client_auth, connect_close, connection_type, auth_attr, server_info}
 use Rattle.wire_requests.specs.Sent.{scsi_open, scsi_close, scsi_state, scsi_reset, execute_cdb}

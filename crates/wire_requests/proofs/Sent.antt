@@ -1,8 +1,7 @@
 -- Each body of `Sent` is what its message's layout writes of the same fields, so it is read back; and the places that were read are put at
 -- the fields' numbers, so a request's row finds them there. Assumes nothing.
-use Prim.Native.Nat.{ℕ, zero, suc, ◌+◌, ◌^◌, ◌≤◌, ◌<◌}
-use mathlib.Core.Bool.{Bool, true, false}
-use mathlib.Core.Path.{◌≡◌, refl, sym, ap, ap₂, ◌∙◌}
+use Prim.Native.Nat.{ℕ, suc, ◌^◌, ◌<◌}
+use mathlib.Core.Path.{◌≡◌, refl, ap, ap₂, ◌∙◌}
 use mathlib.Core.List.{List, [], ◌∷◌, ◌++◌, map, flat_map, append_assoc, append-nil}
 use native.Mathlib.Omega.{arith}
 use lib.ListN.{length}
@@ -10,12 +9,11 @@ use Rattle.codes.specs.Codes.{most_listed, most_addresses}
 use Rattle.xdr.specs.Xdr.{be32, be64}
 use Rattle.xdr_opaque.specs.Put.{opaque, Each}
 use Rattle.wire_pairs.specs.Pairs.{Pair}
-use Rattle.wire_layouts.specs.Layout.{Field, one, many, tag, Item, four, eight, bytes, fixed, Value, value, item_bytes, value_bytes, write_as}
-use Rattle.wire_layouts.specs.declared.Part.{Part}
+use Rattle.wire_layouts.specs.Layout.{Field, one, tag, Item, four, eight, bytes, fixed, Value, value, item_bytes, value_bytes, write_as}
 use Rattle.wire_layouts.specs.declared.Part.TheVariants.{Word as word, Hyper as hyper, Text as text, Digest as digest}
-use Rattle.wire_layouts.specs.Laws.{content, contents, PartFits, is_word, is_hyper, is_text, is_port, is_digest, PartsFit, no_part, part_on, TimesFit, no_time, time_on, FieldFits, is_one}
+use Rattle.wire_layouts.specs.Laws.{content, contents, is_word, is_hyper, is_text, is_port, is_digest, PartsFit, no_part, part_on, TimesFit, no_time, time_on, FieldFits, is_one}
 use Rattle.wire_layouts.specs.Laws.{ElementFits, is_element, is_many, is_lists, is_list, is_tag, FieldsFit, no_field, field_on}
-use Rattle.wire_layouts.specs.Scans.{empty_scan, put, puts, pair_parts, pairs, name_parts, names, address_parts, addresses}
+use Rattle.wire_layouts.specs.Scans.{put, puts, pair_parts, pairs, name_parts, names, address_parts, addresses}
 use Rattle.wire_layouts.specs.declared.Scan.{Scan}
 use Rattle.wire_layouts.specs.declared.Text.{Text}
 use Rattle.wire_layouts.proofs.Back.{bytes_append}

@@ -2,7 +2,6 @@
 -- its place in the body.
 use Rattle.std.specs.Prelude.{ℕ, ◌+◌, Bool, true, false, List, [], ◌∷◌, eqb, get_or, Option, Some, None, option_map}
 use Rattle.xdr.specs.Choose.{choose}
-use Rattle.xdr.specs.Xdr as xdr
 use Rattle.codes.specs.Codes.{local_address, tcp_address, md5_auth}
 use Rattle.xdr_opaque.specs.Opaque.{filled}
 use Rattle.wire_layouts.specs.Layout.{Field, one, tag, place}
@@ -18,30 +17,15 @@ use Rattle.wire_frame.specs.declared.TapeKind.{TapeKind}
 use Rattle.wire_frame.specs.declared.DataKind.{DataKind}
 use Rattle.wire_frame.specs.declared.MoverKind.{MoverKind}
 use Rattle.wire_frame.specs.declared.JointKind.{JointKind}
-use Rattle.wire_frame.specs.declared.ConnectKind.TheVariants as ConnectKind
-use Rattle.wire_frame.specs.declared.ConfigKind.TheVariants as ConfigKind
-use Rattle.wire_frame.specs.declared.ScsiKind.TheVariants as ScsiKind
-use Rattle.wire_frame.specs.declared.TapeKind.TheVariants as TapeKind
-use Rattle.wire_frame.specs.declared.DataKind.TheVariants as DataKind
-use Rattle.wire_frame.specs.declared.MoverKind.TheVariants as MoverKind
-use Rattle.wire_frame.specs.declared.JointKind.TheVariants as JointKind
 use Rattle.wire_frame.specs.declared.Message.{Message}
-use Rattle.wire_frame.specs.declared.Message.TheVariants as Message
 use Rattle.wire_requests.specs.declared.Pairs.{Pairs}
 use Rattle.wire_requests.specs.declared.ConnectRequest.{ConnectRequest}
-use Rattle.wire_requests.specs.declared.ConnectRequest.TheVariants as ConnectRequest
 use Rattle.wire_requests.specs.declared.ConfigRequest.{ConfigRequest}
-use Rattle.wire_requests.specs.declared.ConfigRequest.TheVariants as ConfigRequest
 use Rattle.wire_requests.specs.declared.ScsiRequest.{ScsiRequest}
-use Rattle.wire_requests.specs.declared.ScsiRequest.TheVariants as ScsiRequest
 use Rattle.wire_requests.specs.declared.TapeRequest.{TapeRequest}
-use Rattle.wire_requests.specs.declared.TapeRequest.TheVariants as TapeRequest
 use Rattle.wire_requests.specs.declared.DataRequest.{DataRequest}
-use Rattle.wire_requests.specs.declared.DataRequest.TheVariants as DataRequest
 use Rattle.wire_requests.specs.declared.MoverRequest.{MoverRequest}
-use Rattle.wire_requests.specs.declared.MoverRequest.TheVariants as MoverRequest
 use Rattle.wire_requests.specs.declared.JointRequest.{JointRequest}
-use Rattle.wire_requests.specs.declared.JointRequest.TheVariants as JointRequest
 use Rattle.wire_requests.specs.declared.Request.{Request}
 use Rattle.wire_requests.specs.declared.Request.TheVariants.{Connect, Config, Scsi, Tape, Data, Mover, Joint, Unknown, Bad}
 

@@ -8,7 +8,6 @@ use Rattle.wire_frame.specs.declared.DataKind.TheVariants as DataKind
 use Rattle.wire_frame.specs.declared.MoverKind.TheVariants as MoverKind
 use Rattle.wire_frame.specs.declared.JointKind.TheVariants as JointKind
 use Rattle.wire_frame.specs.declared.Message.{Message}
-use Rattle.wire_frame.specs.declared.Message.TheVariants as Message
 use Rattle.wire_layouts.specs.Layout.{Value, write_as, whole, read_fields}
 use Rattle.wire_layouts.specs.Laws.{Bytes, contents}
 use Rattle.wire_layouts.specs.declared.Text.{Text}

@@ -11,7 +11,6 @@ use Rattle.wire_frame.specs.declared.DataKind.TheVariants as DataKind
 use Rattle.wire_frame.specs.declared.MoverKind.TheVariants as MoverKind
 use Rattle.wire_frame.specs.declared.JointKind.TheVariants as JointKind
 use Rattle.wire_frame.specs.declared.Message.{Message}
-use Rattle.wire_frame.specs.declared.Message.TheVariants as Message
 use Rattle.wire_requests.specs.Bodies.{decoded}
 use Rattle.wire_requests.specs.declared.Pairs.{Pairs}
 use Rattle.wire_requests.specs.declared.ConnectRequest.TheVariants as ConnectRequest
@@ -22,7 +21,6 @@ use Rattle.wire_requests.specs.declared.DataRequest.TheVariants as DataRequest
 use Rattle.wire_requests.specs.declared.MoverRequest.TheVariants as MoverRequest
 use Rattle.wire_requests.specs.declared.JointRequest.TheVariants as JointRequest
 use Rattle.wire_requests.specs.declared.Request.{Request}
-use Rattle.wire_requests.specs.declared.Request.TheVariants as Request
 
 -- a body of a message
 pub record SampleBody : Type 0 where

@@ -13,7 +13,6 @@ use Rattle.wire_frame.specs.declared.DataKind.TheVariants as DataKind
 use Rattle.wire_frame.specs.declared.MoverKind.TheVariants as MoverKind
 use Rattle.wire_frame.specs.declared.JointKind.TheVariants as JointKind
 use Rattle.wire_frame.specs.declared.Message.{Message}
-use Rattle.wire_frame.specs.declared.Message.TheVariants as Message
 use Rattle.wire_pairs.specs.Pairs.{Pair, pairs_from}
 use Rattle.wire_layouts.specs.declared.Text.{Text}
 use Rattle.wire_requests.specs.Within.{bytes_at}

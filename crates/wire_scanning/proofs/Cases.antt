@@ -1,15 +1,14 @@
 -- Which case of a field holds, by what the code found. Assumes nothing.
-use Prim.Native.Nat.{ℕ, zero, suc, ◌+◌, ◌-◌, ◌≤◌, ◌<◌}
-use mathlib.Core.Bool.{Bool, true, false}
+use Prim.Native.Nat.{ℕ, zero, suc, ◌+◌, ◌≤◌, ◌<◌}
+use mathlib.Core.Bool.{true, false}
 use mathlib.Core.Path.{◌≡◌, refl, sym, ap, ◌∙◌}
-use mathlib.Core.List.{List, [], ◌∷◌, ◌++◌}
-use native.Mathlib.Omega.{arith}
+use mathlib.Core.List.{List, [], ◌∷◌}
 use native.Mathlib.Nat.{not-suc-le-zero}
 use native.Mathlib.Numerals.{add-one}
 use lib.ListN.{length, drop, get_or, drop_of_length-le}
 use lib.Seq.{drop-cons}
 use lib.Dec.{eqb, leb}
-use borrow.Author.Tests.{le-leb, lt-leb, leb-true, leb-false, eq-eqb, ne_eqb}
+use borrow.Author.Tests.{le-leb, lt-leb, eq-eqb, ne_eqb}
 use Rattle.std.specs.Prelude.{Option, Some, None, option_and_then}
 use Rattle.std.specs.Option.{option_eq}
 use Rattle.codes.specs.Codes.{most_port, digest_length, tcp_address}
@@ -20,14 +19,13 @@ use Rattle.xdr_opaque.specs.declared.Opaque.{Opaque}
 use Rattle.xdr_opaque.proofs.Laws.{word_within, word_missing}
 use Rattle.wire_layouts.specs.Layout.{one, tag, Item, four, eight, bytes, fixed, place, Piece, piece, short, piece_of}
 use Rattle.wire_layouts.specs.Layout.{part_at, Got, got, cut, prepend, and_part, and_got, parts_at, times_at, FieldGot, field_got, stop, bad, single, counted, list_at, items_of, element_at, field_at}
-use Rattle.wire_layouts.specs.Scans.{past, forget, seen, field_seen, after_seen}
+use Rattle.wire_layouts.specs.Scans.{past, forget, field_seen, after_seen}
 use Rattle.wire_layouts.specs.AddressLists.{is_tcp}
 use Rattle.wire_layouts.proofs.AddressTypes.{type_found, type_missing}
 use Rattle.wire_layouts.specs.declared.Part.{Part}
 use Rattle.wire_layouts.specs.declared.Part.TheVariants.{Word as word, Hyper as hyper, Text as text, Port as port, Digest as digest}
 use Rattle.wire_layouts.specs.declared.Text.{Text}
 use Rattle.wire_layouts.specs.declared.Seen.{Seen}
-use Rattle.wire_layouts.specs.declared.Seen.TheVariants as Seen
 
 -- ---- the code passes over the elements of a list
 forget_prepend : (is : List (Item Text)) (g : Got) → forget (prepend is g) ≡ forget g

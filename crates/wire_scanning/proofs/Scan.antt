@@ -1,21 +1,19 @@
 -- The scan, one field on. Assumes nothing.
 use Prim.Native.Nat.{ℕ, suc, ◌+◌, ◌≤◌, ◌<◌}
 use mathlib.Core.Path.{◌≡◌, refl, sym}
-use mathlib.Core.List.{List, [], ◌∷◌, map}
-use native.Mathlib.Omega.{arith}
+use mathlib.Core.List.{List, map}
 use native.Mathlib.Numerals.{add-one}
 use lib.ListN.{length, drop, get_or, drop_of_length-le}
 use lib.Seq.{drop-cons}
 use borrow.Author.Tests.{eq-eqb, ne_eqb}
 use Rattle.std.specs.Prelude.{Option, Some, None}
 use Rattle.xdr.specs.Choose.{choose}
-use Rattle.wire_layouts.specs.Layout.{Item, four, eight, bytes, fixed, Value, value, place, FieldGot, field_got, stop, bad, field_at, Read, whole, before, broken, and_value, and_read, read_fields}
+use Rattle.wire_layouts.specs.Layout.{four, eight, bytes, fixed, Value, value, FieldGot, field_got, stop, bad, field_at, Read, whole, before, broken, and_value, and_read, read_fields}
 use Rattle.wire_layouts.specs.Scans.{field_of, field_seen, empty_scan, put, puts, summed, scanned}
 use Rattle.wire_layouts.specs.declared.Field as code
 use Rattle.wire_layouts.specs.declared.Text.{Text}
 use Rattle.wire_layouts.specs.declared.Scan.{Scan}
 use Rattle.wire_layouts.specs.declared.Seen.{Seen}
-use Rattle.wire_layouts.specs.declared.Seen.TheVariants as Seen
 
 summed_first : (i : ℕ) (k : Scan) (v : Value Text) (r : Read) → summed i k (and_value v r) ≡ summed (suc i) (put i v.first k) r
 unfolding summed and_value puts

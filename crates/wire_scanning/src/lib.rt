@@ -263,6 +263,7 @@ fn count_of(seen: Option<Seen>) -> u32
 }
 
 // The addresses of the list at an offset; none where it does not decode.
+#[tactic(auto, using(wire_layouts::proofs::AddressLists::address_within))]
 pub fn addresses_at(body: &[u8], at: usize) -> Addresses
     ensures { result ≡ addresses_at body.now at }
 {

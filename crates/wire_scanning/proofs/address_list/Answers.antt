@@ -1,6 +1,6 @@
 use Rattle.wire_layouts.specs.Layout.{field_at}
 use Rattle.wire_layouts.specs.Scans.{address_at}
-use Rattle.std.proofs.Common.{rules, of_calls}
+use Rattle.std.proofs.Common.{rules}
 use Rattle.wire_scanning.proofs.address_list.Goals as goal
 
 pub returns : goal.returns

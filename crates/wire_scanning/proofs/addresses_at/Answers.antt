@@ -1,9 +1,7 @@
-use Prim.Native.Nat.{◌-◌}
 use mathlib.Core.Path.{sym, ap, ◌∙◌}
 use native.Mathlib.Omega.{arith}
-use borrow.Author.Rules.{rules}
 use Rattle.wire_layouts.specs.AddressLists.{keep, count_seen, addresses_from}
-use Rattle.wire_layouts.proofs.AddressLists.{address_within, from_more, from_short, from_none, few_addresses, some_addresses, first_of, starts_with}
+use Rattle.wire_layouts.proofs.AddressLists.{from_more, from_short, from_none, few_addresses, some_addresses, first_of, starts_with}
 use Rattle.wire_scanning.proofs.addresses_at.Goals as goal
 
 pub returns-then-count-eq0 : goal.returns-then-count-eq0
@@ -20,15 +18,6 @@ pub returns-in_default : goal.returns-in_default
 returns-in_default c =
     c.empty-in_default.ensures
     ∙ sym (c.loop-i.invariant.1 ∙ from_short c.args.body.now c.loop-i.pos c.loop-i.i c.loop-i.k _ (omega arith) c.in_default.ensures)
-
-pub read_word-requires : goal.read_word-requires
-read_word-requires c = let w = address_within _ _ _ c.in-Some.ensures in search rules
-
-pub overflow_add-pos-in-loop-i : goal.overflow_add-pos-in-loop-i
-overflow_add-pos-in-loop-i c = let w = address_within _ _ _ c.in-Some.ensures in search rules
-
-pub read_word-requires-in-loop-i : goal.read_word-requires-in-loop-i
-read_word-requires-in-loop-i c = let w = address_within _ _ _ c.in-Some.ensures in search rules
 
 pub loop-i-preserved : goal.loop-i-preserved
 unfolding keep

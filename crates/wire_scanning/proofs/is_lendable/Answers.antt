@@ -1,6 +1,6 @@
-use mathlib.Core.Path.{refl, sym, ap, ◌∙◌}
+use mathlib.Core.Path.{refl}
 use Rattle.xdr.proofs.Tests.{pick_if, pick_else, ltb_yes, ltb_no}
-use Rattle.wire_layouts.specs.AddressLists.{some_listed, lendable}
+use Rattle.wire_layouts.specs.AddressLists.{lendable}
 use Rattle.std.proofs.Common.{rules}
 use Rattle.wire_scanning.proofs.is_lendable.Goals as goal
 

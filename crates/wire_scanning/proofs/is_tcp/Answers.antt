@@ -1,4 +1,4 @@
-use mathlib.Core.Path.{sym, ap, ◌∙◌}
+use mathlib.Core.Path.{◌∙◌}
 use Rattle.wire_scanning.proofs.Cases.{tcp_word}
 use Rattle.wire_scanning.proofs.is_tcp.Goals as goal
 

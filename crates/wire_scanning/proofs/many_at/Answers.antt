@@ -1,5 +1,5 @@
 use Rattle.wire_layouts.specs.Layout.{field_at, parts_at}
-use Rattle.std.proofs.Common.{rules, of_calls}
+use Rattle.std.proofs.Common.{rules}
 use Rattle.wire_scanning.proofs.many_at.Goals as goal
 
 pub returns : goal.returns

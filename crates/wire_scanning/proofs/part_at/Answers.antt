@@ -1,4 +1,4 @@
-use mathlib.Core.Path.{sym, ap, ◌∙◌}
+use mathlib.Core.Path.{◌∙◌}
 use Rattle.std.specs.Prelude.{Some, None}
 use Rattle.wire_scanning.proofs.Cases.{after_part}
 use Rattle.wire_scanning.proofs.part_at.Goals as goal

@@ -1,6 +1,5 @@
-use mathlib.Core.Path.{sym, ap, ◌∙◌}
+use mathlib.Core.Path.{sym, ◌∙◌}
 use native.Mathlib.Omega.{arith}
-use Rattle.std.proofs.Common.{rules}
 use Rattle.wire_scanning.proofs.Cases.{parts_past, parts_short, parts_none}
 use Rattle.wire_scanning.proofs.parts_at.Goals as goal
 
