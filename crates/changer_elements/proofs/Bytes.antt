@@ -97,10 +97,6 @@ pub status_length : (slots es : List ℕ) → length (status_of slots es) ≡ 8 
 unfolding status_of be16 be24
 status_length slots es = omega arith
 
-pub descriptor_of : (slots : List ℕ) (e address flags : ℕ) → address ≡ e → flags ≡ flags_of slots address → flags < 256 →
-    be32s ((address * 65536 + flags * 256) ∷ 0 ∷ 0 ∷ []) ≡ descriptor slots e
-descriptor_of slots e address flags h k s = descriptor_is slots address flags k s ∙ ap (descriptor slots) h
-
 pub pages_most : (slots es : List ℕ) → length (of_type 1 es) + length (of_type 4 es) + length (of_type 2 es) ≤ 10 →
     length (pages slots es) ≤ 144
 unfolding pages

@@ -10,7 +10,7 @@ use borrow.Author.Tests.{leb-true}
 use Rattle.xdr.specs.Choose.{choose}
 use Rattle.xdr.proofs.Tests.{eqb_yes, eqb_no}
 use Rattle.changer_elements.specs.Elements.{has_place, place_of, is_full}
-use Rattle.changer_elements.specs.Move.{is_movable, from_to, judge_move}
+use Rattle.changer_elements.specs.Move.{is_movable, judge_move}
 
 -- ---- elements that have places
 pub both : (b : Bool) {x : Bool} → choose b x false ≡ true → (b ≡ true) × (x ≡ true)
@@ -52,9 +52,6 @@ full_yes e p slots h n = rw (← h) (ap not (eqb_no n))
 pub full_no : (e p : ℕ) (slots : List ℕ) → p ≡ place_of e → get_or slots p 0 ≡ 0 → is_full slots e ≡ false
 unfolding is_full
 full_no e p slots h n = rw (← h) (ap not (eqb_yes n))
-
-pub places_are : {p q p' q' : ℕ} → p ≡ p' → q ≡ q' → from_to p q ≡ from_to p' q'
-places_are h k = cc
 
 pub fields_are : {t s d t' s' d' : ℕ} (slots : List ℕ) (opened : Bool) → t ≡ t' → s ≡ s' → d ≡ d' →
     judge_move t s d slots opened ≡ judge_move t' s' d' slots opened

@@ -1,4 +1,4 @@
--- `JudgeLaws` has the laws of lists of tests and of outcomes, `Served` those of what services answer, `Serving` those of texts, `Endless` those of windows
+-- `JudgeLaws` has the laws of lists of tests and of outcomes, `Served` those of what services answer, `Endless` those of windows
 -- with no end, `Kept` those of the relation, `Keeping` that every request keeps it, `Changer` what a SCSI request
 -- comes to and leaves of the slot list, `ChangerRules` the rules of the changer, of tape open and of MTIO 6, `Tcp`
 -- the rules of ends by TCP, `Windows` the rules of windows, `Sending` that an answer can be sent, `Numbers` the
@@ -8,7 +8,6 @@
 -- what the changer's client is told, `Login` who becomes authorized and by which challenge, `Leaving` what each
 -- number leaves and what writes to the cartridge, `Rmt` what a command of rmt leaves and is told, `Alike` that spacing hangs on the kinds of the entries passed.
 pub mod JudgeLaws
-pub mod Serving
 pub mod Served
 pub mod Endless
 pub mod Kept
