@@ -3,10 +3,15 @@
 
 ghost use Rattle.std.specs.Prelude.{true, ◌≡◌, ◌+◌, ◌≤◌, ◌<◌, length};
 ghost use Rattle.xdr_opaque.specs.Put.{Put};
-ghost use Rattle.wire_accounts.specs.Accounts.{accounts_in, are_laid};
-ghost use Rattle.call_accounts.specs.Listing.{least_listing, line_of, listing, ListingTold};
+ghost use Rattle.codes.specs.Codes.{most_accounts};
+ghost use Rattle.wire_accounts.specs.Entry.{number_of};
+ghost use Rattle.wire_accounts.specs.Walk.{to_come};
+ghost use Rattle.call_accounts.specs.Listing.{least_listing, line_of, lines_from, ListingTold};
 ghost use Rattle.call_accounts.specs.Cases.{ListingCases};
 ghost use Rattle.call_accounts.specs.Holds.{ListingHolds};
+
+use wire_accounts::{Accounts, Kind};
+use xdr_opaque::put_bytes;
 
 // The least room that a listing must have: eight lines of twelve bytes.
 pub const LEAST_LISTING: usize = 96;
@@ -19,42 +24,28 @@ pub struct Listed {
     pub len: usize,
 }
 
-// Writes a text; returns the offset after it.
-fn put_text(out: &mut [u8], at: usize, text: &[u8]) -> usize
-    requires { at + length text.now ≤ length out.old }
-    ensures { Put at text.now out.old result out.new }
-{
-    xdr::copy_bytes(out, at, text);
-    at + text.len()
-}
-
 // Writes an account's line; returns the offset after it.
-fn put_line(out: &mut [u8], at: usize, number: u8, kind: u32) -> usize
+fn put_line(out: &mut [u8], at: usize, number: u8, kind: Kind) -> usize
     requires { (at + 12 ≤ length out.old) × (number < 10) }
-    ensures { Put at (line_of number kind) out.old result out.new }
+    ensures { Put at (line_of number (number_of kind)) out.old result out.new }
 {
     out[at] = b'0' + number;
-    if kind == codes::MD5_AUTH {
-        return put_text(out, at + 1, b" md5\n");
+    match kind {
+        Kind::Md5 => put_bytes(out, at + 1, b" md5\n"),
+        Kind::Text => put_bytes(out, at + 1, b" withdrawn\n"),
     }
-    put_text(out, at + 1, b" withdrawn\n")
 }
 
-// Writes the lines of all accounts; returns the offset after them.
-fn put_lines(out: &mut [u8], accounts: &[u8]) -> usize
-    requires { (least_listing ≤ length out.old) × (are_laid (accounts_in accounts.now) ≡ true) }
-    ensures { Put 0 (listing accounts.now) out.old result out.new }
+// Writes the lines of accounts, in their order; returns the offset after them.
+fn put_lines(out: &mut [u8], accounts: Accounts<'_>) -> usize
+    requires { (least_listing ≤ length out.old) × (length (to_come accounts) ≤ most_accounts) }
+    ensures { Put 0 (lines_from 0 (to_come accounts.entry)) out.old result out.new }
 {
     let mut next: usize = 0;
     let mut number: u8 = 0;
-    let mut at: usize = 4;
-    let mut left = xdr::read_word(accounts, 0);
-    while 0 < left {
-        let account = wire_accounts::account_at(accounts, at);
+    for account in accounts {
         next = put_line(out, next, number, account.kind);
-        at = account.next;
         number += 1;
-        left -= 1;
     }
     next
 }
@@ -69,10 +60,10 @@ pub fn list_accounts(accounts: &[u8], out: &mut [u8]) -> Listed
             len: 0,
         };
     }
-    if !wire_accounts::is_laid(accounts) {
+    let Some(entries) = Accounts::read(accounts) else {
         return Listed { code: 0, len: 0 };
-    }
-    let len = put_lines(out, accounts);
+    };
+    let len = put_lines(out, entries);
     Listed { code: 0, len }
 }
 

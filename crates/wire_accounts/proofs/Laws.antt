@@ -2,26 +2,27 @@
 use Prim.Native.Nat.{ℕ, zero, suc, ◌+◌, ◌-◌, ◌≤◌, ◌<◌}
 use mathlib.Core.Bool.{Bool, true, false}
 use mathlib.Core.List.{List, [], ◌∷◌}
-use mathlib.Core.Path.{◌≡◌, refl, sym, ap, subst, ◌∙◌}
+use mathlib.Core.Path.{◌≡◌, refl, sym, ap, ◌∙◌}
 use native.Mathlib.Omega.{arith}
 use lib.Dec.{eqb, leb}
-use lib.ListN.{length, take, drop, length-take, length-drop}
+use lib.ListN.{length, take, drop}
 use borrow.Author.Tests.{le-leb, lt-leb, leb-true, eq-eqb, ne_eqb}
-use Rattle.std.specs.Prelude.{Some, None}
-use Rattle.codes.specs.Codes.{most_accounts, longest_password}
+use Rattle.std.specs.Prelude.{Option, Some, None, IsSome, ◌&&◌, ◌||◌}
+use Rattle.codes.specs.Codes.{text_auth, md5_auth, most_accounts, longest_password}
 use Rattle.xdr.specs.Choose.{choose}
 use Rattle.xdr.specs.Xdr.{word, same_bytes}
-use Rattle.xdr_opaque.specs.Opaque.{opaque_at}
+use Rattle.xdr_opaque.specs.Opaque.{word_at, opaque_at}
 use Rattle.xdr_opaque.specs.declared.Opaque.{Opaque}
-use Rattle.xdr_opaque.proofs.Laws.{opaque_read, opaque_within}
+use Rattle.xdr_opaque.proofs.Laws.{word_short, word_missing, opaque_short}
 use Rattle.md5_digest.specs.Login.{login_digest}
 use Rattle.wire_accounts.specs.Accounts.{AccountEntry, Accounts, none, these, broken}
-use Rattle.wire_accounts.specs.Accounts.{are_laid, entries_of, entries_in}
+use Rattle.wire_accounts.specs.Accounts.{found, are_laid, entries_of, entries_in, Laid}
 use Rattle.wire_accounts.specs.Accounts.{is_kind, with_password, with_id, account_at, with_account, and_then, accounts_from}
-use Rattle.wire_accounts.specs.Accounts.{accounts_in, is_digestible, is_digest, any_of}
-use Rattle.wire_accounts.specs.Place.{bytes_of, entry_of, placed, no_account, StretchIn, AccountAt}
-use Rattle.wire_accounts.specs.declared.AccountPlace.{AccountPlace}
-use Rattle.wire_accounts.specs.declared.Stretch.{Stretch}
+use Rattle.wire_accounts.specs.Accounts.{accounts_in, is_digestible, is_digest, md5_matches, any_of}
+use Rattle.wire_accounts.specs.Entry.{number_of, read_as}
+use Rattle.wire_accounts.specs.declared.Account.{Account}
+use Rattle.wire_accounts.specs.declared.Kind.{Kind}
+use Rattle.wire_accounts.specs.declared.Kind.TheVariants.{Text, Md5}
 
 -- ---- one account
 either : (t : Bool) → choose t none none ≡ none
@@ -29,76 +30,57 @@ unfolding choose
 either true = refl
 either false = refl
 
+pub known : (k : Kind) → is_kind (number_of k) ≡ true
+unfolding is_kind choose
+known Text = refl
+known Md5 = refl
+
+pub unknown : (n : ℕ) → (n ≡ text_auth → ⊥) → (n ≡ md5_auth → ⊥) → is_kind n ≡ false
+unfolding is_kind choose
+unknown n t m = rw (ne_eqb n text_auth t, ne_eqb n md5_auth m)
+
 module _ (b : List ℕ) (at : ℕ) where
-  missing : account_at b at ≡ none → AccountAt b at no_account
-  unfolding placed choose
-  missing e = record { is = e; id = record { ends = omega arith }; password = record { ends = omega arith }; within = omega arith }
+  pub no_word : None ≡ word_at b at → account_at b at ≡ none
+  unfolding account_at with_id
+  no_word e =
+      let h : length b < at + 4 = word_missing b at e in
+      let f : None ≡ opaque_at b (at + 4) = opaque_short b (at + 4) (word_short b (at + 4) (omega arith)) in
+      rw (← f) (either (is_kind (word b at)))
 
-  module _ (a : AccountPlace) (z : a ≡ no_account) where
-    absent : account_at b at ≡ none → AccountAt b at a
-    absent e = subst (AccountAt b at) (sym z) (missing e)
+  pub no_id : None ≡ opaque_at b (at + 4) → account_at b at ≡ none
+  unfolding account_at with_id
+  no_id e = rw (← e) (either (is_kind (word b at)))
 
-    pub no_id : None ≡ opaque_at b (at + 4) → AccountAt b at a
-    unfolding account_at with_id
-    no_id e = absent (rw (← e) (either (is_kind (word b at))))
+  pub no_password : (o : Opaque) → Some o ≡ opaque_at b (at + 4) → None ≡ opaque_at b o.next → account_at b at ≡ none
+  unfolding account_at with_id with_password
+  no_password o e f = rw (← e, ← f) (either (is_kind (word b at)))
 
-    pub no_password : (o : Opaque) → Some o ≡ opaque_at b (at + 4) → None ≡ opaque_at b o.next → AccountAt b at a
-    unfolding account_at with_id with_password
-    no_password o e f = absent (rw (← e, ← f) (either (is_kind (word b at))))
+  pub no_kind : (n : ℕ) → n ≡ word b at → is_kind n ≡ false → account_at b at ≡ none
+  unfolding account_at choose
+  no_kind n e h = let g : is_kind (word b at) ≡ false = rw e at h in rw g
 
-    pub no_kind : (n : ℕ) → n ≡ word b at → is_kind n ≡ false → AccountAt b at a
-    unfolding account_at choose
-    no_kind n e h = let g : is_kind (word b at) ≡ false = rw e at h in absent (rw g)
+  pub account_there : (k : Kind) (o o' : Opaque) → number_of k ≡ word b at → Some o ≡ opaque_at b (at + 4) → Some o' ≡ opaque_at b o.next
+      → account_at b at ≡ found (record { kind = number_of k; id = take (o.start + o.len - o.start) (drop o.start b); password = take (o'.start + o'.len - o'.start) (drop o'.start b) }) o'.next
+  unfolding account_at with_id with_password choose
+  account_there k o o' e f g =
+      let h : o.start + o.len - o.start ≡ o.len = omega arith in
+      let h' : o'.start + o'.len - o'.start ≡ o'.len = omega arith in
+      rw (h, h', ← e, known k, ← f, ← g)
 
-  -- an id stands behind a kind
-  pub kind_there : (o : Opaque) → Some o ≡ opaque_at b (at + 4) → at + 4 ≤ length b
-  kind_there o e =
-      let r = opaque_read b (at + 4) o e in
-      let w = opaque_within b (at + 4) o e in
-      omega (arith, r.start, w.0, w.1)
+-- its digest, by its length
+module _ (p c d : List ℕ) where
+  pub digest_empty : length p < 1 → false ≡ is_digest p c d
+  unfolding is_digest is_digestible choose
+  digest_empty h = rw (lt-leb 1 (length p) h)
 
-  pub account_there : (n : ℕ) (o o' : Opaque) → n ≡ word b at → is_kind n ≡ true → Some o ≡ opaque_at b (at + 4) → Some o' ≡ opaque_at b o.next
-      → AccountAt b at (record { kind = n; id = record { start = o.start; len = o.len }; password = record { start = o'.start; len = o'.len }; next = o'.next })
-  unfolding account_at with_id with_password placed choose
-  account_there n o o' e h f g =
-      let u = opaque_within b (at + 4) o f in
-      let v = opaque_within b o.next o' g in
-      let r = opaque_read b o.next o' g in
-      let z : eqb o'.next 0 ≡ false = ne_eqb o'.next 0 (λ q. omega (arith, r.next, q)) in
-      record {
-        is = rw (← e, h, ← f, ← g, z);
-        id = record { ends = omega (arith, u.0, u.1) };
-        password = record { ends = omega (arith, v.0, v.1) };
-        within = v.1;
-      }
+  pub digest_long : longest_password < length p → false ≡ is_digest p c d
+  unfolding is_digest is_digestible choose
+  digest_long h = let k : 1 ≤ length p = omega arith in rw (le-leb 1 (length p) k, lt-leb (length p) longest_password h)
 
--- ---- a part of the buffer
-module _ (b : List ℕ) (p : Stretch) where
-  part_is : take (p.start + p.len - p.start) (drop p.start b) ≡ bytes_of b p
-  part_is = let e : p.start + p.len - p.start ≡ p.len = omega arith in rw e
-
-  pub part_same : (t : List ℕ) (r : Bool) → r ≡ same_bytes t (take (p.start + p.len - p.start) (drop p.start b)) → r ≡ same_bytes t (bytes_of b p)
-  part_same t r e = e ∙ ap (same_bytes t) part_is
-
-  part_length : StretchIn b p → length (bytes_of b p) ≡ p.len
-  part_length i = let w = i.ends in simp (length-take, length-drop) (omega arith)
-
-  -- its digest, by its length
-  module _ (i : StretchIn b p) (c d : List ℕ) where
-    pub digest_empty : p.len < 1 → false ≡ is_digest (bytes_of b p) c d
-    unfolding is_digest is_digestible choose
-    digest_empty h = rw (part_length i, lt-leb 1 p.len h)
-
-    pub digest_long : longest_password < p.len → false ≡ is_digest (bytes_of b p) c d
-    unfolding is_digest is_digestible choose
-    digest_long h = let k : 1 ≤ p.len = omega arith in rw (part_length i, le-leb 1 p.len k, lt-leb p.len longest_password h)
-
-    pub digest_made : (w : List ℕ) (r : Bool) → 1 ≤ p.len → p.len ≤ longest_password
-        → w ≡ login_digest (take (p.start + p.len - p.start) (drop p.start b)) c → r ≡ same_bytes d w → r ≡ is_digest (bytes_of b p) c d
-    unfolding is_digest is_digestible choose
-    digest_made w r h k e f =
-        let g : w ≡ login_digest (bytes_of b p) c = e ∙ ap (λ (l : List ℕ). login_digest l c) part_is in
-        f ∙ rw (part_length i, le-leb 1 p.len h, le-leb p.len longest_password k, g)
+  pub digest_made : (w : List ℕ) (r : Bool) → 1 ≤ length p → length p ≤ longest_password
+      → w ≡ login_digest p c → r ≡ same_bytes d w → r ≡ is_digest p c d
+  unfolding is_digest is_digestible choose
+  digest_made w r h k e f = f ∙ rw (le-leb 1 (length p) h, le-leb (length p) longest_password k, e)
 
 -- ---- so many accounts
 laid_prepend : (e : AccountEntry) (x : Accounts) → are_laid (with_account e x) ≡ are_laid x
@@ -127,26 +109,23 @@ entries_if true = refl
 entries_if false = refl
 
 module _ (b : List ℕ) where
-  -- the first of them, where there is one, and where there is none
-  module _ {at : ℕ} {a : AccountPlace} (r : AccountAt b at a) where
-    turn : (n : ℕ) → 0 < n → accounts_from b n at ≡ and_then (placed b a) (accounts_from b (n - 1))
-    unfolding accounts_from
-    turn zero h = absurd (omega arith)
-    turn (suc n) h = let e : suc n - 1 ≡ n = omega arith in rw (e, r.is)
+  -- the first of them, where there is none, and where there is one
+  turn : (at n : ℕ) → 0 < n → accounts_from b n at ≡ and_then (account_at b at) (accounts_from b (n - 1))
+  unfolding accounts_from
+  turn at zero h = absurd (omega arith)
+  turn at (suc n) h = let e : suc n - 1 ≡ n = omega arith in rw e
 
-    pub laid_none : (n : ℕ) → 0 < n → a.next ≡ 0 → are_laid (accounts_from b n at) ≡ false
-    unfolding are_laid and_then placed choose
-    laid_none n h z = rw (turn n h, eq-eqb a.next 0 z)
+  pub laid_none : (at n : ℕ) → 0 < n → account_at b at ≡ none → are_laid (accounts_from b n at) ≡ false
+  unfolding are_laid and_then
+  laid_none at n h z = rw (turn at n h, z)
 
-    first : (n : ℕ) → 0 < n → (a.next ≡ 0 → ⊥) → accounts_from b n at ≡ with_account (entry_of b a) (accounts_from b (n - 1) a.next)
-    unfolding and_then placed choose
-    first n h z = rw (turn n h, ne_eqb a.next 0 z)
+  module _ (at : ℕ) {x : ℕ} {e : AccountEntry} (r : account_at b at ≡ found e x) where
+    first : (n : ℕ) → 0 < n → accounts_from b n at ≡ with_account e (accounts_from b (n - 1) x)
+    unfolding and_then
+    first n h = rw (turn at n h, r)
 
-    pub laid_next : (n : ℕ) → 0 < n → (a.next ≡ 0 → ⊥) → are_laid (accounts_from b n at) ≡ are_laid (accounts_from b (n - 1) a.next)
-    laid_next n h z = ap are_laid (first n h z) ∙ laid_prepend (entry_of b a) (accounts_from b (n - 1) a.next)
-
-    laid_is : (n : ℕ) → 0 < n → are_laid (accounts_from b n at) ≡ true → a.next ≡ 0 → ⊥
-    laid_is n h e z = let f = laid_none n h z in let k : ◌≡◌ {A = ℕ} 0 1 = cc in omega arith
+    pub laid_next : (n : ℕ) → 0 < n → are_laid (accounts_from b n at) ≡ are_laid (accounts_from b (n - 1) x)
+    laid_next n h = ap are_laid (first n h) ∙ laid_prepend e (accounts_from b (n - 1) x)
 
   pub laid_end : (n at : ℕ) → n ≤ 0 → are_laid (accounts_from b n at) ≡ eqb at (length b)
   unfolding accounts_from
@@ -170,11 +149,6 @@ module _ (b : List ℕ) where
   laid_few n e h k = rw (le-leb 4 (length b) h, ← e, le-leb n most_accounts k)
 
 -- ---- over all accounts
--- so many accounts are laid out from an offset on, to the end of the buffer
-pub record Laid (b : List ℕ) (n at : ℕ) : Type 0 where
-  pub within : at ≤ length b
-  pub laid : are_laid (accounts_from b n at) ≡ true
-
 both : (x y : Bool) (a : Accounts) → are_laid (choose x (choose y a broken) broken) ≡ true → (x ≡ true) × (y ≡ true)
 unfolding are_laid choose
 both true true a e = (refl, refl)
@@ -200,55 +174,69 @@ module _ (b : List ℕ) (n : ℕ) (e : n ≡ word b 0) (h : are_laid (accounts_i
   pub entries_first : entries_in b ≡ entries_of (accounts_from b n 4)
   entries_first = ap entries_of all_from
 
-module _ {b : List ℕ} {n at : ℕ} {a : AccountPlace} (l : Laid b n at) (r : AccountAt b at a) (h : 0 < n) where
-  there : a.next ≡ 0 → ⊥
-  there = laid_is b r n h l.laid
+module _ {b : List ℕ} {n at : ℕ} (l : Laid b n at) (h : 0 < n) where
+  pub laid_on : {e : AccountEntry} {x : ℕ} → account_at b at ≡ found e x → x ≤ length b → Laid b (n - 1) x
+  laid_on r k = record { within = k; laid = sym (laid_next b at r n h) ∙ l.laid }
 
-  pub laid_on : Laid b (n - 1) a.next
-  laid_on = record { within = r.within; laid = sym (laid_next b r n h there) ∙ l.laid }
+  pub entries_on : {e : AccountEntry} {x : ℕ} → account_at b at ≡ found e x → x ≤ length b
+      → entries_of (accounts_from b n at) ≡ e ∷ entries_of (accounts_from b (n - 1) x)
+  entries_on {e} {x} r k = ap entries_of (first b at r n h) ∙ entries_prepend e (accounts_from b (n - 1) x) (laid_on r k).laid
 
-  pub entries_on : entries_of (accounts_from b n at) ≡ entry_of b a ∷ entries_of (accounts_from b (n - 1) a.next)
-  entries_on = ap entries_of (first b r n h there) ∙ entries_prepend (entry_of b a) (accounts_from b (n - 1) a.next) laid_on.laid
+  -- the first account is there
+  pub laid_there : account_at b at ≡ none → ⊥
+  laid_there z = let f = laid_none b at n h z in let k : ◌≡◌ {A = Bool} true false = sym l.laid ∙ f in cc
 
--- what is known in front of n accounts at an offset: whether one before them let in, or one of them does, is whether one of all does
-pub record Going (p : AccountEntry → Bool) (b : List ℕ) (some : Bool) (n at : ℕ) : Type 0 where
-  pub ahead : Laid b n at
-  pub rest : any_of p (entries_in b) ≡ choose some true (any_of p (entries_of (accounts_from b n at)))
+-- what the code gave of the first account
+module _ {b : List ℕ} {n at : ℕ} (l : Laid b n at) (h : 0 < n) where
+  pub is_there : (r : Option (Account × ℕ)) → account_at b at ≡ read_as r → IsSome r
+  is_there (Some p) e = refl
+  is_there None e = absurd (laid_there l h e)
 
-hit : (some t r : Bool) → t ≡ true → choose some true (choose t true r) ≡ choose true true r
+both_hold : (a b : Bool) → (a && b) ≡ choose a b false
 unfolding choose
-hit true t r e = refl
-hit false t r e = rw e
+both_hold true b = refl
+both_hold false b = refl
 
-miss : (some t r : Bool) → t ≡ false → choose some true (choose t true r) ≡ choose some true r
+-- whom an entry lets in, by its kind
+module _ (id c d : List ℕ) (e : AccountEntry) where
+  pub text_shuts : e.kind ≡ text_auth → false ≡ md5_matches id c d e
+  unfolding md5_matches choose
+  text_shuts k = rw k
+
+  pub md5_judges : (a b : Bool) → e.kind ≡ md5_auth → a ≡ same_bytes id e.id → b ≡ is_digest e.password c d → (a && b) ≡ md5_matches id c d e
+  unfolding md5_matches choose
+  md5_judges a b k f g = rw (eq-eqb e.kind md5_auth k, ← f, ← g) (both_hold a b)
+
+-- ---- who gets in: whether an account before let in, or one of those to come does
+on : (some t r : Bool) → choose some true (choose t true r) ≡ choose (some || t) true r
 unfolding choose
-miss some t r e = rw e
+on true t r = refl
+on false t r = refl
 
 end : (some : Bool) → choose some true false ≡ some
 unfolding choose
 end true = refl
 end false = refl
 
-module _ (p : AccountEntry → Bool) (b : List ℕ) where
-  pub shut : are_laid (accounts_in b) ≡ false → false ≡ any_of p (entries_in b)
+module _ (p : AccountEntry → Bool) where
+  pub shut : (b : List ℕ) → are_laid (accounts_in b) ≡ false → false ≡ any_of p (entries_in b)
   unfolding any_of
-  shut h = rw (none_in b h)
+  shut b h = rw (none_in b h)
 
-  pub going_first : (n : ℕ) → n ≡ word b 0 → are_laid (accounts_in b) ≡ true → Going p b false n 4
+  -- among the entries es: of those before the rest, one let in or none did
+  pub record Going (es : List AccountEntry) (some : Bool) (rest : List AccountEntry) : Type 0 where
+    pub so_far : any_of p es ≡ choose some true (any_of p rest)
+
+  pub going_first : {es rest : List AccountEntry} → es ≡ rest → Going es false rest
   unfolding choose
-  going_first n e h = record { ahead = laid_first b n e h; rest = ap (any_of p) (entries_first b n e h) }
+  going_first e = record { so_far = ap (any_of p) e }
 
-  module _ {some : Bool} {n at : ℕ} {a : AccountPlace} (g : Going p b some n at) (r : AccountAt b at a) (h : 0 < n) where
-    rest_on : any_of p (entries_in b) ≡ choose some true (choose (p (entry_of b a)) true (any_of p (entries_of (accounts_from b (n - 1) a.next))))
+  module _ {es rest others : List AccountEntry} {some : Bool} {e : AccountEntry} (g : Going es some rest) (r : rest ≡ e ∷ others) where
+    pub going_on : (t : Bool) → t ≡ p e → Going es (some || t) others
     unfolding any_of
-    rest_on = g.rest ∙ ap (λ (es : List AccountEntry). choose some true (any_of p es)) (entries_on g.ahead r h)
+    going_on t k =
+        record { so_far = g.so_far ∙ ap (λ (fs : List AccountEntry). choose some true (any_of p fs)) r ∙ rw (← k) (on some t (any_of p others)) }
 
-    pub going_hit : p (entry_of b a) ≡ true → Going p b true (n - 1) a.next
-    going_hit e = record { ahead = laid_on g.ahead r h; rest = rest_on ∙ hit some _ _ e }
-
-    pub going_miss : p (entry_of b a) ≡ false → Going p b some (n - 1) a.next
-    going_miss e = record { ahead = laid_on g.ahead r h; rest = rest_on ∙ miss some _ _ e }
-
-  pub going_end : (some : Bool) (n at : ℕ) → Going p b some n at → n ≤ 0 → some ≡ any_of p (entries_in b)
+  pub going_end : {es rest : List AccountEntry} {some : Bool} → Going es some rest → rest ≡ [] → some ≡ any_of p es
   unfolding any_of
-  going_end some n at g h = sym (g.rest ∙ ap (λ (es : List AccountEntry). choose some true (any_of p es)) (entries_end b n at h) ∙ end some)
+  going_end {some = some} g h = sym (g.so_far ∙ ap (λ (fs : List AccountEntry). choose some true (any_of p fs)) h ∙ end some)

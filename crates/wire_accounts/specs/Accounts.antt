@@ -1,7 +1,7 @@
 -- The accounts that a host lends (02 No. 2): "The accounts grow to eight, each marked text or MD5". The layout of the
 -- buffer is ours, and is XDR (RFC 4506): a count, and of each account its kind, as 004 numbers auth types, its id and its
 -- password, both strings. "Account stores still holding text entries are read without complaint" (02 No. 10).
-use Rattle.std.specs.Prelude.{ℕ, zero, suc, ◌+◌, Bool, true, false, List, [], ◌∷◌, eqb, leb, length, take, drop, Option, Some, None}
+use Rattle.std.specs.Prelude.{ℕ, zero, suc, ◌+◌, ◌≤◌, ◌≡◌, Bool, true, false, List, [], ◌∷◌, eqb, leb, length, take, drop, Option, Some, None}
 use Rattle.codes.specs.Codes.{text_auth, md5_auth, most_accounts, longest_password}
 use Rattle.xdr.specs.Choose.{choose}
 use Rattle.xdr.specs.Xdr.{word, same_bytes}
@@ -65,6 +65,11 @@ entries_of broken = []
 unfoldable pub are_laid : Accounts → Bool
 are_laid (these es) = true
 are_laid broken = false
+
+-- so many accounts are laid out from an offset on, to the end of the buffer
+pub record Laid (b : List ℕ) (n at : ℕ) : Type 0 where
+  pub within : at ≤ length b
+  pub laid : are_laid (accounts_from b n at) ≡ true
 
 abbrev pub entries_in : List ℕ → List AccountEntry
 entries_in b = entries_of (accounts_in b)

@@ -1,5 +1,6 @@
 pub mod Accounts
 pub mod Written
-pub mod Place
+pub mod Entry
+pub mod Walk
 pub mod Cases
 pub mod Holds

@@ -1,33 +1,37 @@
-use mathlib.Core.Path.{sym, ◌∙◌}
-use borrow.Author.Tests.{not-false}
-use Rattle.xdr.proofs.Tests.{asked}
-use Rattle.wire_accounts.proofs.Laws.{no_id, no_password, no_kind, kind_there, account_there}
-use mathlib.Core.Path.{ap}
-use mathlib.Core.Bool.{not}
+use mathlib.Core.Path.{◌∙◌}
+use native.Mathlib.Omega.{arith}
+use Rattle.xdr_opaque.proofs.Laws.{word_within, opaque_within}
+use Rattle.wire_accounts.proofs.Laws.{no_word, no_id, no_password, no_kind, account_there}
 use Rattle.wire_accounts.proofs.account_at.Goals as goal
 
-pub returns-in_default : goal.returns-in_default
-returns-in_default c = no_id _ _ _ c.no_account.ensures (sym c.in_default.is ∙ c.opaque_at.ensures)
+pub returns-in_err-number-clause-read : goal.returns-in_err-number-clause-read
+returns-in_err-number-clause-read c = rw c.from_residual.ensures (no_word _ _ c.in_err-number.ensures)
 
-pub returns-in_default-opaque_at : goal.returns-in_default-opaque_at
-returns-in_default-opaque_at c = let o = c in
-    no_password _ _ _ c.no_account-in_default-opaque_at.ensures _
-    (sym c.in-Some.is ∙ o.opaque_at.ensures)
-    (sym c.in_default-opaque_at.is ∙ c.opaque_at-2.ensures)
+pub returns-in_err-id-clause-read : goal.returns-in_err-id-clause-read
+returns-in_err-id-clause-read c = rw c.from_residual-in_err-id.ensures (no_id _ _ c.in_err-id.ensures)
 
-pub read_word-kind-requires : goal.read_word-kind-requires
-read_word-kind-requires c = let i = c in
-    kind_there _ _ _ (sym i.in-Some.is ∙ i.opaque_at.ensures)
+pub returns-in_err-password-clause-read : goal.returns-in_err-password-clause-read
+returns-in_err-password-clause-read c = rw c.from_residual-in_err-password.ensures (no_password _ _ _ c.in_ok-id.ensures c.in_err-password.ensures)
 
-pub returns-then-not-is_kind : goal.returns-then-not-is_kind
-returns-then-not-is_kind c = no_kind _ _ _ c.no_account-then-not-is_kind.ensures _ c.read_word-kind.ensures
-    (asked c.is_kind.ensures c.if-not-is_kind.true)
+pub returns-in_default-clause-read : goal.returns-in_default-clause-read
+returns-in_default-clause-read c = let w = word_within _ _ _ c.in_ok-number.ensures in no_kind _ _ _ w.1 c.in_default.ensures
 
-pub returns : goal.returns
-returns c = let k = c in
-    let i = k in
-    account_there _ _ _ _ _
-    c.read_word-kind.ensures
-    (asked c.is_kind.ensures (not-false _ (ap not c.if-not-is_kind.false)))
-    (sym i.in-Some.is ∙ i.opaque_at.ensures)
-    (sym k.in-Some-opaque_at.is ∙ k.opaque_at-2.ensures)
+pub overflow_add-account : goal.overflow_add-account
+overflow_add-account c = omega (arith, opaque_within _ _ _ c.in_ok-id.ensures)
+
+pub slice_bounds-account-end : goal.slice_bounds-account-end
+slice_bounds-account-end c = let w = opaque_within _ _ _ c.in_ok-id.ensures in omega arith
+
+pub overflow_add-account-2 : goal.overflow_add-account-2
+overflow_add-account-2 c = let w = opaque_within _ _ _ c.in_ok-password.ensures in omega arith
+
+pub slice_bounds-account-end-2 : goal.slice_bounds-account-end-2
+slice_bounds-account-end-2 c = let w = opaque_within _ _ _ c.in_ok-password.ensures in omega arith
+
+pub returns-clause-read : goal.returns-clause-read
+returns-clause-read c =
+    let w = word_within _ _ _ c.in_ok-number.ensures in
+    account_there _ _ _ _ _ (c.in-Ok.ensures ∙ w.1) c.in_ok-id.ensures c.in_ok-password.ensures
+
+pub returns-clause-within : goal.returns-clause-within
+returns-clause-within c = (opaque_within _ _ _ c.in_ok-password.ensures).1
