@@ -11,7 +11,8 @@ ghost use Rattle.tape_calls.specs.Handing.{Handed};
 use codes::NdmpError;
 use tape_ops::Part;
 
-// An entry of a cartridge: of a record its length, of a mark 0; and where it starts in the body. The error is 0, 13 past the last entry, or 15.
+// An entry of a cartridge: of a record its length, of a mark 0; and where it starts in the body. The error, a number as C's
+// struct has it, is 0, 13 past the last entry, or 15.
 #[repr(C)]
 #[derive(Clone, Copy)]
 pub struct Entry {

@@ -1,5 +1,7 @@
 // The cartridge image in a caller's byte slice: where its words lie. No other crate knows the layout. `tape_sound` judges an image, `tape_walking` walks
 // over its entries.
+// What is known of an image (`Table`, `Sound`, `Placed`) is a record over its bytes: it is lent to read and to write, and a struct that keeps such a fact
+// would be needed twice, for & and for &mut.
 #![tactic(auto)]
 
 ghost use Rattle.std.specs.Prelude.{◌≡◌, ◌+◌, ◌-◌, ◌*◌, ◌<◌, ◌≤◌, length};

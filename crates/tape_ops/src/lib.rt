@@ -176,6 +176,7 @@ fn marks(image: &mut [u8], position: usize, times: u32) -> Spaced
 }
 
 // MTIO: 0 FSF, 1 BSF, 2 FSR, 3 BSR, 4 REW, 5 write marks, 6 off, which rewinds here; its caller closes the device.
+// The operation is the number that a request or C gives (`cartridge_mtio`), and `mtio_step` judges it.
 #[tactic(auto, using(crate::proofs::Answering::mark_outcome, crate::proofs::Answering::space_outcome), unfolding(crate::specs::Operations::mtio_step, crate::specs::Answers::is_refusal, xdr::specs::Choose::choose))]
 pub fn mtio(image: &mut [u8], op: u32, position: usize, times: u32) -> Result<Spaced, NdmpError>
     ensures { MtioGave image.old op position times result image.new }

@@ -9,7 +9,8 @@ ghost use Rattle.tape_spacing.specs.Spacing.{spacing};
 use tape_image::Place;
 use tape_spacing::{Direction, Spaced};
 
-// FSF 0, BSF 1, FSR 2, BSR 3: one walk over the table, forward or back, that counts marks or records.
+// FSF 0, BSF 1, FSR 2, BSR 3: one walk over the table, forward or back, that counts marks or records. It is left by break with error, position and
+// residue (docs/DECISIONS.md, D10), which a `for` cannot hand on.
 pub fn space(image: &[u8], op: u32, position: usize, times: u32) -> Spaced
     requires { Placed image.now position }
     ensures { result ≡ spacing image.now op position times }
@@ -19,25 +20,26 @@ pub fn space(image: &[u8], op: u32, position: usize, times: u32) -> Spaced
     let marks = op < codes::FORWARD_RECORDS;
     let mut at = position;
     let mut left = times;
-    for _ in 0..direction.ahead(n, position) {
-        if left == 0 {
-            break;
+    let mut rest = direction.ahead(n, position);
+    loop {
+        if left == 0 || rest == 0 {
+            break Spaced {
+                error: if left == 0 { 0 } else { codes::AT_END },
+                position: at,
+                residue: left,
+            };
         }
         let is_mark = tape_image::entry_len(image, direction.entry_passed(at)) == 0;
         at = direction.position_after(at);
+        rest -= 1;
         if is_mark && !marks {
-            return Spaced {
+            break Spaced {
                 error: codes::AT_MARK,
                 position: at,
                 residue: left,
             };
         }
         left -= u32::from(is_mark == marks);
-    }
-    Spaced {
-        error: if left == 0 { 0 } else { codes::AT_END },
-        position: at,
-        residue: left,
     }
 }
 

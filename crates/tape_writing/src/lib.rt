@@ -19,7 +19,8 @@ fn kept_bytes(image: &[u8], position: usize) -> usize
     }
 }
 
-// Writes a record of size bytes at a position, the part and then zeros, and says whether there was room; where there was none it changes nothing.
+// Writes a record of size bytes at a position, the part and then zeros, and says whether there was room, which is all that there is to say; where there
+// was none it changes nothing.
 #[tactic(auto, using(crate::proofs::Laws::filled_is), unfolding(crate::specs::Writing::room_for, xdr::specs::Choose::all_of, xdr::specs::Choose::choose))]
 pub fn write_filled(image: &mut [u8], position: usize, part: &[u8], size: usize) -> bool
     requires { Placed image.old position × (length part.now ≤ size) × (size ≤ longest_record) }
