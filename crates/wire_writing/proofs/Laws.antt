@@ -120,30 +120,6 @@ elements_within r image s f = rw f at s
 pub part : (start len : ℕ) (l : List ℕ) → take (start + len - start) (drop start l) ≡ take len (drop start l)
 part start len l = let e : start + len - start ≡ len = omega arith in rw e
 
--- ---- the error in the header: none in a reply of any kind but the first
-pub no_header : (r : Reply) → ((e : ℕ) → r ≡ Header e → ⊥) → 0 ≡ header_error r
-unfolding header_error
-no_header (Header e) h = absurd (h e refl)
-no_header (Refused b e a) h = refl
-no_header Plain h = refl
-no_header Listening h = refl
-no_header ListeningTcp h = refl
-no_header ConnectionTypes h = refl
-no_header Challenge h = refl
-no_header (ServerInfo known) h = refl
-no_header ScsiState h = refl
-no_header Cdb h = refl
-no_header (Sense n key code qualifier) h = refl
-no_header (Check key code qualifier) h = refl
-no_header Elements h = refl
-no_header (TapeState file block) h = refl
-no_header (Mtio e residue) h = refl
-no_header (Wrote e count) h = refl
-no_header (Read e start len) h = refl
-no_header (DataState v) h = refl
-no_header Environment h = refl
-no_header (MoverState v) h = refl
-
 -- ---- a record: the mark and the header, written in front of a body
 pub seal : (at next n s t k m e err : ℕ) (b l x y : List ℕ) → Put (at + 28) b l next x → at + 28 ≤ length l → n ≡ length b
     → y ≡ overlay at (be32s (header_words n s t k m e err)) x → Put at (record_bytes s t k m e err b) l next y

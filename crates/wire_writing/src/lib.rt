@@ -8,7 +8,7 @@ ghost use Rattle.xdr_opaque.specs.Put.{Put};
 ghost use Rattle.wire_pairs.specs.Store.{is_laid};
 ghost use Rattle.wire_frame.specs.Frame.{record_bytes};
 ghost use Rattle.wire_replies.specs.declared.Reply.TheVariants as Reply;
-ghost use Rattle.wire_replies.specs.Replies.{words_only, sense, address_words, shape_of, body_bytes, header_error, reply_bytes, notice_bytes};
+ghost use Rattle.wire_replies.specs.Replies.{high, low, words_only, sense, address_words, shape_of, body_bytes, header_error, reply_bytes, notice_bytes};
 ghost use Rattle.wire_replies.specs.Fit.{Sendable};
 ghost use Rattle.wire_replies.specs.Writers.{PutUpTo, header_words};
 
@@ -133,17 +133,40 @@ fn put_address(out: &mut [u8], at: usize, address: u32) -> usize
     xdr_opaque::put_words(out, at, &[codes::LOCAL_ADDRESS])
 }
 
+// The first word of a hyper.
+fn high(v: u64) -> u32
+    ensures { result ≡ high v }
+{
+    (v / 4_294_967_296) as u32
+}
+
+// The second word of a hyper.
+fn low(v: u64) -> u32
+    ensures { result ≡ low v }
+{
+    (v % 4_294_967_296) as u32
+}
+
 // Writes the data end: 3 marks the two estimates unsupported; what is not kept is zero.
 fn put_data_state(out: &mut [u8], at: usize, v: DataView) -> usize
     requires { at + 64 ≤ length out.old }
     ensures { Put at (body_bytes (shape_of (Reply.DataState v) [])) out.old result out.new }
 {
-    let high = (v.processed / 4294967296) as u32;
-    let low = (v.processed % 4294967296) as u32;
     let first = xdr_opaque::put_words(
         out,
         at,
-        &[3, 0, v.operation, v.state, v.reason, high, low, 0, 0, 0],
+        &[
+            3,
+            0,
+            v.operation,
+            v.state,
+            v.reason,
+            high(v.processed),
+            low(v.processed),
+            0,
+            0,
+            0,
+        ],
     );
     let second = put_address(out, first, v.address);
     xdr_opaque::put_words(out, second, &[0, 0, 0, 0])
@@ -175,16 +198,16 @@ fn put_mover_state(out: &mut [u8], at: usize, v: MoverView) -> usize
             v.halt,
             v.size,
             v.number,
-            (v.moved / 4294967296) as u32,
-            (v.moved % 4294967296) as u32,
-            (v.seek / 4294967296) as u32,
-            (v.seek % 4294967296) as u32,
-            (v.left / 4294967296) as u32,
-            (v.left % 4294967296) as u32,
-            (v.offset / 4294967296) as u32,
-            (v.offset % 4294967296) as u32,
-            (v.length / 4294967296) as u32,
-            (v.length % 4294967296) as u32,
+            high(v.moved),
+            low(v.moved),
+            high(v.seek),
+            low(v.seek),
+            high(v.left),
+            low(v.left),
+            high(v.offset),
+            low(v.offset),
+            high(v.length),
+            low(v.length),
         ],
     );
     put_address(out, first, v.address)
@@ -229,32 +252,45 @@ pub fn write_body(out: &mut [u8], at: usize, reply: Reply, image: &[u8]) -> usiz
 }
 
 // The error that stands in a reply's header.
+#[tactic(auto, unfolding(wire_replies::specs::Replies::header_error))]
 pub fn header_error(reply: Reply) -> u32
     ensures { result ≡ header_error reply }
 {
-    let Reply::Header(error) = reply else {
-        return 0;
-    };
-    error
+    match reply {
+        Reply::Header(error) => error,
+        _ => 0,
+    }
 }
 
-// Writes the mark and the header in front of a body of len bytes.
-fn write_header(
-    out: &mut [u8],
-    at: usize,
-    len: usize,
+// The six words of a header, of a request, a reply or a notice.
+#[derive(Clone, Copy)]
+struct Header {
     sequence: u32,
     time: u32,
     kind: u32,
     message: u32,
     echo: u32,
     error: u32,
-)
-    requires { (at + 28 ≤ length out.old) × (24 + len ≤ largest_message) }
-    ensures { out.new ≡ overlay at (be32s (header_words len sequence time kind message echo error)) out.old }
-{
-    let mark = 0x8000_0000 + (24 + len) as u32;
-    xdr::write_words(out, at, &[mark, sequence, time, kind, message, echo, error]);
+}
+
+impl Header {
+    // Writes the mark and the header in front of a body of len bytes.
+    fn write(self, out: &mut [u8], at: usize, len: usize)
+        requires { (at + 28 ≤ length out.old) × (24 + len ≤ largest_message) }
+        ensures { out.new ≡ overlay at (be32s (header_words len self.sequence self.time self.kind self.message self.echo self.error)) out.old }
+    {
+        let mark = 0x8000_0000 + (24 + len) as u32;
+        let words = [
+            mark,
+            self.sequence,
+            self.time,
+            self.kind,
+            self.message,
+            self.echo,
+            self.error,
+        ];
+        xdr::write_words(out, at, &words);
+    }
 }
 
 // Writes a reply at the front of the output; returns its length.
@@ -271,8 +307,15 @@ pub fn write_reply(
     ensures { PutUpTo 32804 0 (reply_bytes sequence time message echo reply image.now) out.old result out.new }
 {
     let end = write_body(out, 28, reply, image);
-    let error = header_error(reply);
-    write_header(out, 0, end - 28, sequence, time, 1, message, echo, error);
+    let header = Header {
+        sequence,
+        time,
+        kind: 1,
+        message,
+        echo,
+        error: header_error(reply),
+    };
+    header.write(out, 0, end - 28);
     end
 }
 
@@ -289,7 +332,15 @@ fn put_notice(
     ensures { PutUpTo (at + 40) at (record_bytes sequence time 0 message 0 0 (be32s ws.now)) out.old result out.new }
 {
     let end = xdr_opaque::put_words(out, at + 28, ws);
-    write_header(out, at, 4 * ws.len(), sequence, time, 0, message, 0, 0);
+    let header = Header {
+        sequence,
+        time,
+        kind: 0,
+        message,
+        echo: 0,
+        error: 0,
+    };
+    header.write(out, at, 4 * ws.len());
     end
 }
 
@@ -315,11 +366,7 @@ pub fn write_notice(out: &mut [u8], at: usize, sequence: u32, time: u32, notice:
             sequence,
             time,
             0x504,
-            &[
-                reason,
-                (seek / 4294967296) as u32,
-                (seek % 4294967296) as u32,
-            ],
+            &[reason, high(seek), low(seek)],
         ),
     }
 }

@@ -22,4 +22,4 @@ unfolding shape_of
 returns c = let b = c in
     let front = b.put_words-first.ensures in
     let w = more_words _ _ front (more_words _ _ b.put_address-second.ensures c.put_words.ensures) in
-    only _ w
+    rw (c.high.ensures, c.low.ensures) at (only _ w)

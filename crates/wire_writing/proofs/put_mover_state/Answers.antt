@@ -4,12 +4,6 @@ use Rattle.wire_replies.specs.Replies.{shape_of}
 use Rattle.wire_writing.proofs.Laws.{only, more_words}
 use Rattle.wire_writing.proofs.put_mover_state.Goals as goal
 
-pub overflow_cast-v-7 : goal.overflow_cast-v-7
-overflow_cast-v-7 c = omega (arith, c.struct_known-7-1.given)
-
-pub overflow_cast-v-9 : goal.overflow_cast-v-9
-overflow_cast-v-9 c = omega (arith, c.struct_known-9-1.given)
-
 pub put_words-first-requires : goal.put_words-first-requires
 put_words-first-requires c = let b = c in
     omega (arith, b.requires)
@@ -23,4 +17,4 @@ pub returns : goal.returns
 unfolding shape_of
 returns c = let front = c.put_words-first.ensures in
     let w = more_words _ _ front c.put_address.ensures in
-    only _ w
+    rw (c.high.ensures, c.low.ensures, c.high-2.ensures, c.low-2.ensures, c.high-3.ensures, c.low-3.ensures, c.high-4.ensures, c.low-4.ensures, c.high-5.ensures, c.low-5.ensures) at (only _ w)

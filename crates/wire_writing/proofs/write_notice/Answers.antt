@@ -16,4 +16,4 @@ returns-in-MoverHalted c = rw c.in-MoverHalted.is c.put_notice-in-MoverHalted.en
 
 pub returns-in-MoverPaused : goal.returns-in-MoverPaused
 unfolding notice_bytes notice_number notice_words
-returns-in-MoverPaused c = rw c.in-MoverPaused.is c.put_notice-in-MoverPaused.ensures
+returns-in-MoverPaused c = rw c.in-MoverPaused.is (rw (c.high.ensures, c.low.ensures) at c.put_notice-in-MoverPaused.ensures)
