@@ -2,20 +2,19 @@
 use Prim.Native.Nat.{ℕ, ◌+◌, ◌≤◌}
 use Prim.{tt}
 use mathlib.Core.Bool.{true, false}
-use mathlib.Core.List.{List, [], ◌++◌, append-nil}
+use mathlib.Core.List.{List, ◌++◌, append-nil}
 use mathlib.Core.Path.{◌≡◌, refl, sym, ap, ◌∙◌}
 use native.Mathlib.Nat.{zero-add}
 use lib.ListN.{length}
 use Rattle.xdr.specs.Choose.{choose}
 use Rattle.xdr.specs.Xdr.{overlay}
-use Rattle.xdr.proofs.Tests.{eqb_yes, eqb_no}
+use Rattle.xdr.proofs.Tests.{eqb_yes}
 use Rattle.xdr_opaque.specs.Put.{Put}
 use Rattle.changer_elements.specs.Slots.{in_drive}
 use Rattle.wire_requests.specs.Within.{texts_within}
 use Rattle.wire_requests.specs.declared.TapeRequest.{TapeRequest}
 use Rattle.wire_requests.specs.declared.Request.{Request}
 use Rattle.wire_replies.specs.declared.Reply.{Reply}
-use Rattle.wire_replies.specs.Replies.{number_of}
 use Rattle.wire_replies.specs.Fit.{Sendable}
 use Rattle.wire_rmt.specs.declared.Command.{Command}
 use Rattle.wire_rmt.specs.Commands.{rmt_command}
@@ -28,7 +27,7 @@ use Rattle.std.specs.Prelude.{Option, Some, None}
 use Rattle.rules.specs.Judge.{Outcome, refuse, accept, judge, onto, Accepts}
 use Rattle.rules.specs.TapeService.{Loaded, loaded, with_loaded, device_step, tape_step}
 use Rattle.rules.specs.Answer.{Kept, held, Answered, silent, guarded, tape_part, with_tape, outcome, needs_login, is_locked, verdict}
-use Rattle.rules.specs.Rmt.{tape_request, rmt_request, in_record, bare, said, told, counted_in, rmt_reply, saying, replied, commanded}
+use Rattle.rules.specs.Rmt.{tape_request, rmt_request, in_record, bare, said, told, rmt_reply, saying, replied, commanded}
 use Rattle.rules.proofs.Guarding.{when_stopped, when_goes}
 use Rattle.rules.proofs.Sending.{tape_sends}
 use Rattle.rules.proofs.Calls.{verdict_free}
@@ -48,44 +47,9 @@ read_within c q e = texts_of q c (rw e (command_within c))
 
 -- ---- what is told
 module _ (e n : ℕ) (b : List ℕ) {next : ℕ} {l m : List ℕ} where
-  pub told_refused : (e ≡ 0 → ⊥) → Put 0 (refused (error_of e)) l next m → Put 0 (told e n b) l next m
-  unfolding told choose
-  told_refused h p = rw (eqb_no h) p
-
   pub told_accepted : e ≡ 0 → Put 0 (accepted n ++ b) l next m → Put 0 (told e n b) l next m
   unfolding told choose
   told_accepted h p = rw (eqb_yes h) p
-
--- a reply that begins with no outcome
-pub record Other (r : Reply) : Type 0 where
-  pub no_header : (e : ℕ) → r ≡ Reply.Header e → ⊥
-  pub no_refusal : (b e a : ℕ) → r ≡ Reply.Refused b e a → ⊥
-  pub no_mtio : (e residue : ℕ) → r ≡ Reply.Mtio e residue → ⊥
-  pub no_write : (e count : ℕ) → r ≡ Reply.Wrote e count → ⊥
-  pub no_read : (e start len : ℕ) → r ≡ Reply.Read e start len → ⊥
-
-pub other_told : (r : Reply) (shown : List ℕ) → Other r → rmt_reply r shown ≡ told 0 0 []
-unfolding rmt_reply counted_in number_of
-other_told (Reply.Header e) shown h = absurd (h.no_header e refl)
-other_told (Reply.Refused b e a) shown h = absurd (h.no_refusal b e a refl)
-other_told Reply.Plain shown h = refl
-other_told Reply.Listening shown h = refl
-other_told Reply.ListeningTcp shown h = refl
-other_told Reply.ConnectionTypes shown h = refl
-other_told Reply.Challenge shown h = refl
-other_told (Reply.ServerInfo known) shown h = refl
-other_told Reply.ScsiState shown h = refl
-other_told Reply.Cdb shown h = refl
-other_told (Reply.Sense n key code qualifier) shown h = refl
-other_told (Reply.Check key code qualifier) shown h = refl
-other_told Reply.Elements shown h = refl
-other_told (Reply.TapeState file block) shown h = refl
-other_told (Reply.Mtio e residue) shown h = absurd (h.no_mtio e residue refl)
-other_told (Reply.Wrote e count) shown h = absurd (h.no_write e count refl)
-other_told (Reply.Read e start len) shown h = absurd (h.no_read e start len refl)
-other_told (Reply.DataState v) shown h = refl
-other_told Reply.Environment shown h = refl
-other_told (Reply.MoverState v) shown h = refl
 
 -- ---- a reply that was written, in a whole call
 pub said_told : (b : List ℕ) (s : Session) (n : ℕ) (image variables l l' : List ℕ) → Put 0 b l n l'

@@ -35,6 +35,7 @@ fn tape_request(q: Command) -> TapeRequest
 }
 
 // Writes `A`, a number and bytes behind it; or the refusal that an outcome of the tape is. Returns its length.
+#[tactic(auto, using(wire_rmt::proofs::Replies::accepted_fits), unfolding(xdr::specs::Choose::choose, rules::specs::Rmt::told))]
 fn put_told(out: &mut [u8], outcome: u32, count: u32, bytes: &[u8]) -> usize
     requires { (least_room ≤ length out.old) × (length bytes.now ≤ longest_record) }
     ensures { Put 0 (told outcome count bytes.now) out.old result out.new }
@@ -43,11 +44,11 @@ fn put_told(out: &mut [u8], outcome: u32, count: u32, bytes: &[u8]) -> usize
         return wire_rmt_writing::put_refused(out, 0, outcome);
     }
     let next = wire_rmt_writing::put_accepted(out, 0, count);
-    xdr::copy_bytes(out, next, bytes);
-    next + bytes.len()
+    xdr_opaque::put_bytes(out, next, bytes)
 }
 
 // Writes what an accepted request is told; a read's bytes lie in the image. Returns its length.
+#[tactic(auto, using(wire_writing::proofs::Laws::part), unfolding(rules::specs::Rmt::rmt_reply, rules::specs::Rmt::counted_in, wire_replies::specs::Replies::number_of, wire_replies::specs::Fit::Sendable))]
 fn put_reply(out: &mut [u8], reply: Reply, image: &[u8]) -> usize
     requires { (least_room ≤ length out.old) × Sendable reply image.now }
     ensures { Put 0 (rmt_reply reply image.now) out.old result out.new }

@@ -1,29 +1,24 @@
 -- Bodies and records by the writes that make them. Assumes nothing.
 use Prim.Native.Nat.{ℕ, ◌+◌, ◌-◌, ◌*◌, ◌≤◌}
-use Prim.{tt}
-use mathlib.Core.Bool.{Bool, true}
-use mathlib.Core.Path.{◌≡◌, refl, sym, ◌∙◌}
+use mathlib.Core.Path.{◌≡◌, sym, ◌∙◌}
 use mathlib.Core.List.{List, [], ◌∷◌, ◌++◌}
 use native.Mathlib.Omega.{arith}
 use native.Mathlib.Nat.{add-zero}
 use lib.ListN.{length, take, drop, replicate, length-append, length-replicate}
 use lib.Seq.{length-take-le}
-use types.Run.{OneOf, miss}
-use denote.Enum.Declared.{tag_of}
 use Rattle.xdr.specs.Xdr.{be32s, overlay}
 use Rattle.xdr.proofs.Laws.{length_be32s, be32s_append, overlay_none, overlay_front}
 use Rattle.xdr_opaque.specs.Put.{Put, opaque}
 use Rattle.xdr_opaque.proofs.Laws.{then}
 use Rattle.wire_pairs.specs.Pairs.{pair_bytes}
-use Rattle.wire_pairs.specs.Store.{is_laid, environment_of}
+use Rattle.wire_pairs.specs.Store.{environment_of}
 use Rattle.wire_frame.specs.Frame.{record_bytes}
 use Rattle.wire_replies.specs.declared.Reply.{Reply}
-use Rattle.wire_replies.specs.declared.Reply.TheVariants.{Header, Refused, Plain, Listening, ListeningTcp, ConnectionTypes, Challenge, ServerInfo, ScsiState}
-use Rattle.wire_replies.specs.declared.Reply.TheVariants.{Cdb, Sense, Check, Elements, TapeState, Mtio, Wrote, Read, DataState, Environment, MoverState}
+use Rattle.wire_replies.specs.declared.Reply.TheVariants.{Refused}
+use Rattle.wire_replies.specs.declared.Reply.TheVariants.{Environment}
 use Rattle.wire_replies.specs.Replies.{Body, opaques, body_bytes, words_only, sense, shape_of, header_error, reply_bytes}
 use Rattle.wire_replies.specs.Fit.{Sendable}
 use Rattle.wire_replies.specs.Writers.{PutUpTo, header_words}
-use Rattle.wire_replies.specs.contracts.Reply.{the_type}
 use Rattle.wire_replies.proofs.Laws.{length_sense, opaques_texts, body_small}
 
 -- ---- a body by its writes
@@ -80,41 +75,11 @@ pub counted : {at next last : ℕ} {l m m' : List ℕ} (n : ℕ) (store : List �
 unfolding shape_of
 counted n store e p q = whole _ (rw e at p) none (rw opaques_texts q) no_words
 
--- ---- what a reply that can be sent copies
-pub refused_within : (r : Reply) (image : List ℕ) (b e a : ℕ) → Sendable r image → r ≡ Refused b e a → b + a ≤ 17
-unfolding Sendable
-refused_within r image b e a s f = rw f at s
-
-pub sense_within : (r : Reply) (image : List ℕ) (n key code qualifier : ℕ) → Sendable r image → r ≡ Sense n key code qualifier → n ≤ 18
-unfolding Sendable
-sense_within r image n key code qualifier s e = rw e at s
-
-pub read_within : (r : Reply) (image : List ℕ) (e start len : ℕ) → Sendable r image → r ≡ Read e start len → (start + len ≤ length image) × (len ≤ 32768)
-unfolding Sendable
-read_within r image e start len s f = rw f at s
-
-pub lent_within : (r : Reply) (image : List ℕ) → Sendable r image → r ≡ ListeningTcp → length image ≤ 16384
-unfolding Sendable
-lent_within r image s f = rw f at s
-
-pub challenge_within : (r : Reply) (image : List ℕ) → Sendable r image → r ≡ Challenge → length image ≤ 64
-unfolding Sendable
-challenge_within r image s f = rw f at s
-
-pub store_within : (r : Reply) (image : List ℕ) → Sendable r image → r ≡ Environment → (is_laid image ≡ true) × (length image ≤ 16384)
-unfolding Sendable
-store_within r image s f = rw f at s
-
 -- the first bytes of the sense
 pub sense_length_lem : (n key code qualifier : ℕ) (l : List ℕ) → l ≡ sense key code qualifier → n ≤ 18 → length (take n l) ≡ n
 sense_length_lem n key code qualifier l e h =
     let k : n ≤ length (sense key code qualifier) = omega (arith, length_sense key code qualifier) in
     rw (e, length-take-le n (sense key code qualifier) k)
-
--- a status of elements is short
-pub elements_within : (r : Reply) (image : List ℕ) → Sendable r image → r ≡ Elements → length image ≤ 152
-unfolding Sendable
-elements_within r image s f = rw f at s
 
 -- a part of the image, as a slice of it is told
 pub part : (start len : ℕ) (l : List ℕ) → take (start + len - start) (drop start l) ≡ take len (drop start l)

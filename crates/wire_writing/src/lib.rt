@@ -52,6 +52,7 @@ fn put_server_texts(
 }
 
 // Writes server info; its texts are empty before auth.
+#[tactic(auto, unfolding(wire_replies::specs::Replies::shape_of, wire_replies::specs::Replies::server_texts))]
 fn put_server_info(out: &mut [u8], at: usize, known: bool) -> usize
     requires { at + 64 ≤ length out.old }
     ensures { Put at (body_bytes (shape_of (Reply.ServerInfo known) [])) out.old result out.new }
@@ -64,6 +65,7 @@ fn put_server_info(out: &mut [u8], at: usize, known: bool) -> usize
 }
 
 // Writes the reply to execute CDB: no data out is told.
+#[tactic(auto, using(crate::proofs::Laws::whole), unfolding(xdr::specs::Xdr::be32s, xdr::specs::Xdr::be32))]
 fn put_cdb(out: &mut [u8], at: usize, status: u32, data_in: &[u8], sense: &[u8]) -> usize
     requires { (at + 200 ≤ length out.old) × (length data_in.now ≤ most_status) × (length sense.now ≤ sense_bytes) }
     ensures { Put at (body_bytes (record { words = 0 ∷ status ∷ 0 ∷ []; raw = []; texts = data_in.now ∷ sense.now ∷ []; tail = [] })) out.old result out.new }
@@ -74,6 +76,7 @@ fn put_cdb(out: &mut [u8], at: usize, status: u32, data_in: &[u8], sense: &[u8])
 }
 
 // The 18 sense bytes: the key is byte 2, the code byte 12 and its qualifier byte 13.
+#[tactic(auto, unfolding(wire_replies::specs::Replies::sense))]
 fn sense_bytes(key: u8, code: u8, qualifier: u8) -> [u8; 18]
     ensures { result ≡ sense key code qualifier }
 {
@@ -85,6 +88,7 @@ fn sense_bytes(key: u8, code: u8, qualifier: u8) -> [u8; 18]
 }
 
 // Writes the first n bytes of the sense as data in.
+#[tactic(auto, using(crate::proofs::Laws::sense_length_lem), unfolding(wire_replies::specs::Replies::shape_of))]
 fn put_sense(out: &mut [u8], at: usize, n: u32, key: u8, code: u8, qualifier: u8) -> usize
     requires { (at + 200 ≤ length out.old) × (n ≤ sense_bytes) }
     ensures { Put at (body_bytes (shape_of (Reply.Sense n key code qualifier) [])) out.old result out.new }
@@ -95,6 +99,7 @@ fn put_sense(out: &mut [u8], at: usize, n: u32, key: u8, code: u8, qualifier: u8
 }
 
 // Writes status 2 with the extended sense.
+#[tactic(auto, unfolding(wire_replies::specs::Replies::shape_of))]
 fn put_check(out: &mut [u8], at: usize, key: u8, code: u8, qualifier: u8) -> usize
     requires { at + 200 ≤ length out.old }
     ensures { Put at (body_bytes (shape_of (Reply.Check key code qualifier) [])) out.old result out.new }
@@ -123,6 +128,7 @@ fn put_lent(out: &mut [u8], at: usize, kind: u32, bytes: &[u8]) -> usize
 }
 
 // Writes an address with nothing but its type: behind TCP an empty list.
+#[tactic(auto, unfolding(wire_replies::specs::Replies::address_words, xdr::specs::Choose::choose))]
 fn put_address(out: &mut [u8], at: usize, address: u32) -> usize
     requires { at + 8 ≤ length out.old }
     ensures { Put at (be32s (address_words address)) out.old result out.new }
@@ -215,6 +221,7 @@ fn put_mover_state(out: &mut [u8], at: usize, v: MoverView) -> usize
 
 // Writes a reply's body at an offset; returns the offset after it. The bytes of a read lie in the image; in its place a
 // listen by TCP is lent its list, a challenge its bytes, an environment the store, and a status of elements its bytes.
+#[tactic(auto, using(crate::proofs::Laws::part), unfolding(wire_replies::specs::Replies::shape_of, wire_replies::specs::Fit::Sendable))]
 pub fn write_body(out: &mut [u8], at: usize, reply: Reply, image: &[u8]) -> usize
     requires { (at + 32800 ≤ length out.old) × Sendable reply image.now }
     ensures { Put at (body_bytes (shape_of reply image.now)) out.old result out.new }
@@ -345,6 +352,7 @@ fn put_notice(
 }
 
 // Writes a notice at an offset; returns the offset after it.
+#[tactic(auto, unfolding(wire_replies::specs::Replies::notice_bytes, wire_replies::specs::Replies::notice_number, wire_replies::specs::Replies::notice_words))]
 pub fn write_notice(out: &mut [u8], at: usize, sequence: u32, time: u32, notice: Notice) -> usize
     requires { at + 40 ≤ length out.old }
     ensures { PutUpTo (at + 40) at (notice_bytes sequence time notice) out.old result out.new }

@@ -4,7 +4,6 @@ use Rattle.xdr.proofs.Laws.{length_be32s}
 use Rattle.wire_replies.specs.Replies.{shape_of, address_words}
 use Rattle.wire_replies.proofs.Laws.{address_short}
 use Rattle.wire_writing.proofs.Laws.{only, more_words}
-use borrow.Author.Rules.{rules}
 use Rattle.wire_writing.proofs.put_data_state.Goals as goal
 
 pub put_address-second-requires : goal.put_address-second-requires

@@ -2,7 +2,6 @@ use native.Mathlib.Omega.{arith}
 use Rattle.xdr.specs.Xdr.{be32, be32s}
 use Rattle.xdr_opaque.proofs.Laws.{length_opaque}
 use Rattle.wire_writing.proofs.Laws.{none, whole, text, no_texts}
-use borrow.Author.Rules.{rules}
 use Rattle.wire_writing.proofs.put_server_texts.Goals as goal
 
 pub put_opaque-second-requires : goal.put_opaque-second-requires
