@@ -13,7 +13,7 @@ pub fn put_number(out: &mut impl Write, label: &[u8], n: u64) -> io::Result<()> 
 
 // The words from byte 28 up to an end, or up to the last: the body of a reply.
 pub fn put_body(out: &mut impl Write, s: &[u8], end: usize) -> io::Result<()> {
-    let stop = xdr::lesser_len(end, s.len());
+    let stop = end.min(s.len());
     let mut at: usize = 28;
     while at < stop {
         if stop - at < 4 {
