@@ -1,6 +1,7 @@
 -- Digits and texts written out, and what each is. They keep the definitions to what hex is.
-use Rattle.std.specs.Prelude.{ℕ, ◌≡◌, List, [], ◌∷◌, map, replicate}
-use Rattle.hex_text.specs.Hex.{digit_of, HexHeld, bytes, other, more, hex_held}
+use Rattle.std.specs.Prelude.{ℕ, ◌≡◌, List, [], ◌∷◌, map, replicate, Some, None, Ok, Err}
+use Rattle.hex_text.specs.Hex.{digit_of, hex_held}
+use Rattle.hex_text.specs.declared.HexError.TheVariants.{NotHex, NoRoom}
 
 -- "0123456789abcdef"
 abbrev pub digits : List ℕ
@@ -15,11 +16,11 @@ others = 47 ∷ 58 ∷ 96 ∷ 103 ∷ 65 ∷ 32 ∷ 0 ∷ 255 ∷ []
 
 -- " 0a f9\n", "0 a", "0", "0g" and "0a0b0"
 pub record HexCases : Type 0 where
-  pub digit : map digit_of digits ≡ values
-  pub none : map digit_of others ≡ replicate 8 16
-  pub pairs : hex_held 2 (32 ∷ 48 ∷ 97 ∷ 32 ∷ 102 ∷ 57 ∷ 10 ∷ []) ≡ bytes (10 ∷ 249 ∷ [])
-  pub empty : hex_held 0 [] ≡ bytes []
-  pub parted : hex_held 2 (48 ∷ 32 ∷ 97 ∷ []) ≡ other
-  pub half : hex_held 2 (48 ∷ []) ≡ other
-  pub not : hex_held 2 (48 ∷ 103 ∷ []) ≡ other
-  pub room : hex_held 1 (48 ∷ 97 ∷ 48 ∷ 98 ∷ 48 ∷ []) ≡ more
+  pub digit : map digit_of digits ≡ map Some values
+  pub none : map digit_of others ≡ replicate 8 None
+  pub pairs : hex_held 2 (32 ∷ 48 ∷ 97 ∷ 32 ∷ 102 ∷ 57 ∷ 10 ∷ []) ≡ Ok (10 ∷ 249 ∷ [])
+  pub empty : hex_held 0 [] ≡ Ok []
+  pub parted : hex_held 2 (48 ∷ 32 ∷ 97 ∷ []) ≡ Err NotHex
+  pub half : hex_held 2 (48 ∷ []) ≡ Err NotHex
+  pub not : hex_held 2 (48 ∷ 103 ∷ []) ≡ Err NotHex
+  pub room : hex_held 1 (48 ∷ 97 ∷ 48 ∷ 98 ∷ 48 ∷ []) ≡ Err NoRoom

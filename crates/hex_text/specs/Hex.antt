@@ -1,59 +1,52 @@
 -- Bytes as text: two hex digits a byte, the high one first. Blanks may stand between bytes, and not within one.
-use Rattle.std.specs.Prelude.{ℕ, ◌+◌, ◌-◌, ◌*◌, ◌≤◌, Bool, true, ◌≡◌, List, [], ◌∷◌, ◌++◌, take, leb, ltb, eqb}
+use Rattle.std.specs.Prelude.{ℕ, ◌+◌, ◌-◌, ◌*◌, ◌≤◌, Bool, true, ◌≡◌, List, [], ◌∷◌, ◌++◌, take, leb, ltb, eqb, Option, Some, None, Result, Ok, Err, IfOk}
 use Rattle.xdr.specs.Choose.{choose}
-use Rattle.hex_text.specs.declared.Decoded.{Decoded}
-use Rattle.hex_text.specs.declared.Decoded.TheVariants.{Bytes, NotHex, NoRoom}
+use Rattle.hex_text.specs.declared.HexError.{HexError}
+use Rattle.hex_text.specs.declared.HexError.TheVariants.{NotHex, NoRoom}
 
--- the value of a digit, 0 to 9 and a to f, by its character; 16 of any other byte
-unfoldable pub digit_of : ℕ → ℕ
+-- the value of a digit, 0 to 9 and a to f, by its character
+unfoldable pub digit_of : ℕ → Option ℕ
 digit_of c =
-    choose (ltb c 48) 16
-    (choose (leb c 57) (c - 48)
-    (choose (ltb c 97) 16
-    (choose (leb c 102) (c - 87) 16)))
+    choose (ltb c 48) None
+    (choose (leb c 57) (Some (c - 48))
+    (choose (ltb c 97) None
+    (choose (leb c 102) (Some (c - 87)) None)))
 
--- the byte of two digits; 256 where one of them is none
-unfoldable pub pair_of : ℕ → ℕ → ℕ
-pair_of a b = choose (leb 16 (digit_of a)) 256 (choose (leb 16 (digit_of b)) 256 (digit_of a * 16 + digit_of b))
+unfoldable pub joined : Option ℕ → Option ℕ → Option ℕ
+joined None low = None
+joined (Some high) None = None
+joined (Some high) (Some low) = Some (high * 16 + low)
+
+-- the byte of two digits
+unfoldable pub pair_of : ℕ → ℕ → Option ℕ
+pair_of a b = joined (digit_of a) (digit_of b)
 
 -- a space or the end of a line
 unfoldable pub blank_of : ℕ → Bool
 blank_of c = choose (eqb c 32) true (eqb c 10)
 
--- what a text holds: its bytes, or something else than digits, or more bytes than there is room for, whichever comes first
-pub data HexHeld : Type 0 where
-  bytes : List ℕ → HexHeld
-  other : HexHeld
-  more : HexHeld
-
 -- bytes that come before the others
-unfoldable pub put_before : List ℕ → HexHeld → HexHeld
-put_before l (bytes m) = bytes (l ++ m)
-put_before l other = other
-put_before l more = more
+unfoldable pub put_before : List ℕ → Result (List ℕ) HexError → Result (List ℕ) HexError
+put_before l (Ok m) = Ok (l ++ m)
+put_before l (Err e) = Err e
 
--- what a text holds, where there is room for so many bytes
-unfoldable pub hex_held : ℕ → List ℕ → HexHeld
-hex_held room [] = bytes []
-hex_held room (a ∷ []) = choose (blank_of a) (bytes []) other
-hex_held room (a ∷ b ∷ l) =
-    choose (blank_of a) (hex_held room (b ∷ l))
-    (choose (leb 256 (pair_of a b)) other
-    (choose (eqb room 0) more
-    (put_before (pair_of a b ∷ []) (hex_held (room - 1) l))))
+-- a byte, where two digits make one and there is room for it, and what comes behind it
+unfoldable pub held_first : Option ℕ → ℕ → Result (List ℕ) HexError → Result (List ℕ) HexError
+held_first None room behind = Err NotHex
+held_first (Some byte) room behind = choose (eqb room 0) (Err NoRoom) (put_before (byte ∷ []) behind)
+
+-- what a text holds, where there is room for so many bytes: its bytes, or what keeps them from being read, whichever comes first
+unfoldable pub hex_held : ℕ → List ℕ → Result (List ℕ) HexError
+hex_held room [] = Ok []
+hex_held room (a ∷ []) = choose (blank_of a) (Ok []) (Err NotHex)
+hex_held room (a ∷ b ∷ l) = choose (blank_of a) (hex_held room (b ∷ l)) (held_first (pair_of a b) room (hex_held (room - 1) l))
 
 -- what the answer says of the output that was written
-unfoldable pub said_of : Decoded → List ℕ → HexHeld
-said_of (Bytes n) out = bytes (take n out)
-said_of NotHex out = other
-said_of NoRoom out = more
-
-abbrev pub decoded_count : Decoded → ℕ
-decoded_count (Bytes n) = n
-decoded_count NotHex = 0
-decoded_count NoRoom = 0
+unfoldable pub said_of : Result ℕ HexError → List ℕ → Result (List ℕ) HexError
+said_of (Ok n) out = Ok (take n out)
+said_of (Err e) out = Err e
 
 -- the answer for a text and an output of a length, and the output as it is left
-pub record Reads (text : List ℕ) (room : ℕ) (out : List ℕ) (r : Decoded) : Type 0 where
+pub record Reads (text : List ℕ) (room : ℕ) (out : List ℕ) (r : Result ℕ HexError) : Type 0 where
   pub same : said_of r out ≡ hex_held room text
-  pub within : decoded_count r ≤ room
+  pub within : IfOk r (λ n. n ≤ room)

@@ -1,89 +1,87 @@
 // Bytes from text in hex.
 #![tactic(auto)]
 
-ghost use Rattle.std.specs.Prelude.{◌≡◌, length};
+ghost use Rattle.std.specs.Prelude.{◌≡◌, ◌<◌, length, IfSome};
 ghost use Rattle.hex_text.specs.Hex.{digit_of, pair_of, blank_of, Reads};
 ghost use Rattle.hex_text.specs.Cases.{HexCases};
 
-// How many bytes a text held; or that it holds something else than pairs of digits and blanks, or more bytes than the output.
-#[derive(Clone, Copy)]
-pub enum Decoded {
-    Bytes(usize),
+use std::error::Error;
+use std::fmt;
+
+// Why a text is not read: it holds something else than pairs of digits and blanks, or more bytes than the output.
+#[derive(Clone, Copy, Debug, PartialEq, Eq)]
+pub enum HexError {
     NotHex,
     NoRoom,
 }
 
-// The value of a digit; 16 of any other byte.
-fn digit(c: u8) -> u16
-    ensures { result ≡ digit_of c }
-{
-    let n = c as u16;
-    if n < 48 {
-        return 16;
+impl fmt::Display for HexError {
+    fn fmt<W: fmt::Write>(&self, f: &mut fmt::Formatter<W>) -> fmt::Result {
+        f.write_str(match self {
+            HexError::NotHex => "not hex",
+            HexError::NoRoom => "no room",
+        })
     }
-    if n <= 57 {
-        return n - 48;
-    }
-    if n < 97 {
-        return 16;
-    }
-    if n <= 102 {
-        return n - 87;
-    }
-    16
 }
 
-// The byte of two digits; 256 where one of them is none.
-fn pair(a: u8, b: u8) -> u16
+impl Error for HexError {}
+
+// The value of a digit.
+#[tactic(auto, using(crate::proofs::Laws::digits))]
+fn digit(c: u8) -> Option<u8>
+    ensures value { result ≡ digit_of c }
+    ensures small { IfSome result (λ n. n < 16) }
+{
+    match c {
+        b'0'..=b'9' => Some(c - b'0'),
+        b'a'..=b'f' => Some(c - b'a' + 10),
+        _ => None,
+    }
+}
+
+// The byte of two digits.
+#[tactic(auto, using(crate::proofs::Laws::pairs))]
+fn pair(a: u8, b: u8) -> Option<u8>
     ensures { result ≡ pair_of a b }
 {
-    let high = digit(a);
-    if 16 <= high {
-        return 256;
-    }
-    let low = digit(b);
-    if 16 <= low {
-        return 256;
-    }
-    high * 16 + low
+    let high = digit(a)?;
+    let low = digit(b)?;
+    Some(high * 16 + low)
 }
 
 // A space or the end of a line.
-fn blank(c: u8) -> bool
+#[tactic(auto, using(crate::proofs::Laws::blanks))]
+fn is_blank(c: u8) -> bool
     ensures { result ≡ blank_of c }
 {
-    if c == 32 {
-        return true;
-    }
-    c == 10
+    matches!(c, b' ' | b'\n')
 }
 
-// The bytes of any text, into the front of the output.
-pub fn decode(text: &[u8], out: &mut [u8]) -> Decoded
+// The bytes of any text, into the front of the output: how many.
+pub fn decode(text: &[u8], out: &mut [u8]) -> Result<usize, HexError>
     ensures { Reads text.now (length out.old) out.new result }
 {
-    let mut i = 0;
+    let mut rest = text;
     let mut n = 0;
-    while i < text.len() {
-        if blank(text[i]) {
-            i += 1;
-        } else {
-            if text.len() - i < 2 {
-                return Decoded::NotHex;
-            }
-            let byte = pair(text[i], text[i + 1]);
-            if 256 <= byte {
-                return Decoded::NotHex;
-            }
-            if n == out.len() {
-                return Decoded::NoRoom;
-            }
-            out[n] = byte as u8;
-            n += 1;
-            i += 2;
+    while let Some((&first, behind)) = rest.split_first() {
+        rest = behind;
+        if is_blank(first) {
+            continue;
         }
+        let Some((&second, behind)) = rest.split_first() else {
+            return Err(HexError::NotHex);
+        };
+        let Some(byte) = pair(first, second) else {
+            return Err(HexError::NotHex);
+        };
+        if n == out.len() {
+            return Err(HexError::NoRoom);
+        }
+        out[n] = byte;
+        n += 1;
+        rest = behind;
     }
-    Decoded::Bytes(n)
+    Ok(n)
 }
 
 // No work: its contract is digits and texts written out, and what each is, computed.
