@@ -3,127 +3,71 @@
 // A line that begins with = is passed over: there the file says what the record above is to be read as.
 #![tactic(auto)]
 
-ghost use Rattle.std.specs.Prelude.{◌≤◌, length};
-
-mod line; // line.rt: the parts of a line
 mod shown; // shown.rt: a request with its fields
 
-use hex_text::Decoded;
-use line::{put, put_number};
+use hex_text::HexError;
+use shown::{Numbered, Shown};
 use std::io;
 use std::io::Write;
 use wire_frame::Unframed;
-use wire_requests::Request;
 
 const LARGEST_INPUT: usize = 1_048_576;
 
-// The request of a message number and a body.
-fn show_request(out: &mut impl Write, number: u32, body: &[u8]) -> io::Result<()> {
-    let row = wire_frame::row_of(number);
-    let kind = row.kind;
-    let r = wire_decoding::decode(kind, body);
-    match r {
-        Request::Connect(k) => shown::connect(out, k, body),
-        Request::Config(k) => shown::config(out, k),
-        Request::Scsi(k) => shown::scsi(out, k, body),
-        Request::Tape(k) => shown::tape(out, k, body),
-        Request::Data(k) => shown::data(out, k, body),
-        Request::Mover(k) => shown::mover(out, k),
-        Request::Joint(k) => shown::joint(out, k),
-        Request::Unknown => shown::unknown(out, number),
-        Request::Bad => put(out, b" bad"),
-    }
-}
+// Any record above 36,868 bytes is broken, so that there is room for all that differ.
+const ROOM: usize = 36_870;
 
 // Any bytes: a request has its sequence number in front.
-fn show(out: &mut impl Write, record: &[u8]) -> io::Result<()> {
+fn show_record(out: &mut impl Write, record: &[u8]) -> io::Result<()> {
     match wire_frame::read_frame(record) {
         Ok(frame) => {
-            put_number(out, b"", u64::from(frame.sequence))?;
-            show_request(out, frame.message, &record[28..])?;
+            let body = &record[28..];
+            let number = frame.message;
+            let of = wire_decoding::decode(wire_frame::row_of(number).kind, body);
+            let request = Shown { of, body };
+            writeln!(out, "{} {}", frame.sequence, Numbered { number, request })
         }
-        Err(Unframed::Broken) => put(out, b"broken")?,
-        Err(Unframed::NotRequest) => put(out, b"not a request")?,
+        Err(Unframed::Broken) => writeln!(out, "broken"),
+        Err(Unframed::NotRequest) => writeln!(out, "not a request"),
     }
-    put(out, b"\n")
-}
-
-// The place of the first such byte, or the end.
-fn find(s: &[u8], b: u8) -> usize
-    ensures { result ≤ length s.now }
-{
-    for (i, x) in s.iter().enumerate() {
-        if *x == b {
-            return i;
-        }
-    }
-    s.len()
-}
-
-// Any record above 36,868 bytes is broken, so that there is room for all that differ.
-fn empty_record() -> [u8; 36870] {
-    [0u8; 36870]
 }
 
 // A command of the remote tape protocol.
-fn show_command(out: &mut impl Write, bytes: &[u8]) -> io::Result<()> {
-    let c = wire_rmt_reading::command(bytes);
-    shown::command(out, c, bytes)?;
-    put(out, b"\n")
-}
-
-// Whether a name is a command's.
-fn is_command(name: &[u8]) -> bool {
-    name.starts_with(b"rmt")
-}
-
-// A record, or a command, by the name.
-fn show_named(out: &mut impl Write, name: &[u8], bytes: &[u8]) -> io::Result<()> {
-    if is_command(name) {
-        show_command(out, bytes)
-    } else {
-        show(out, bytes)
+fn show_command(out: &mut impl Write, body: &[u8]) -> io::Result<()> {
+    match wire_rmt_reading::command(body) {
+        Some(of) => writeln!(out, "{}", Shown { of, body }),
+        None => writeln!(out, "bad"),
     }
 }
 
-// A name, then a record in hex. One that is above the buffer is said to be so, and not shown in part.
+// A name, which ends at the first space, then a record in hex, or a command by its name. One that is above the buffer is said to be so, and not
+// shown in part.
 fn show_vector(out: &mut impl Write, line: &[u8]) -> io::Result<()> {
-    let n = find(line, 32);
-    put(out, &line[..n])?;
-    put(out, b": ")?;
-    let mut record = empty_record();
-    let d = hex_text::decode(&line[n..], &mut record);
-    match d {
-        Decoded::Bytes(len) => show_named(out, &line[..n], &record[..len]),
-        Decoded::NotHex => put(out, b"not hex\n"),
-        Decoded::NoRoom => put(out, b"above 36870 bytes\n"),
+    let end = line.iter().position(|b| *b == b' ').unwrap_or(line.len());
+    let (name, text) = line.split_at(end);
+    out.write_all(name)?;
+    write!(out, ": ")?;
+    let mut record = [0u8; ROOM];
+    match hex_text::decode(text, &mut record) {
+        Ok(len) if name.starts_with(b"rmt") => show_command(out, &record[..len]),
+        Ok(len) => show_record(out, &record[..len]),
+        Err(HexError::NotHex) => writeln!(out, "not hex"),
+        Err(HexError::NoRoom) => writeln!(out, "above {ROOM} bytes"),
     }
 }
 
-// Whether a line says what is expected. It is not read: what is printed is of the record alone.
-fn is_expected(line: &[u8]) -> bool {
-    line.starts_with(b"=")
-}
-
-fn show_line(out: &mut impl Write, line: &[u8]) -> io::Result<()> {
-    if is_expected(line) {
-        return Ok(());
-    }
-    show_vector(out, line)
-}
-
-// Any text, line by line.
+// Any text, line by line. A line that says what is expected is not read: what is printed is of the record alone.
 fn show_lines(out: &mut impl Write, text: &[u8]) -> io::Result<()> {
-    let mut at = 0;
-    while at < text.len() {
-        let n = find(&text[at..], 10);
-        show_line(out, &text[at..at + n])?;
-        at += n + 1;
+    for line in text.split_inclusive(|b| *b == b'\n') {
+        let line = line.strip_suffix(b"\n").unwrap_or(line);
+        if !line.starts_with(b"=") {
+            show_vector(out, line)?;
+        }
     }
     Ok(())
 }
 
-// One byte above the limit is enough to know that the input is too long.
+// One byte above the limit is enough to know that the input is too long. In a function of its own: where a goal can see so long an
+// array, the check computes it whole, and does not end.
 fn empty_input() -> [u8; LARGEST_INPUT + 1] {
     [0u8; LARGEST_INPUT + 1]
 }
@@ -133,7 +77,7 @@ fn main(rt: HostRuntime) -> io::Result<()> {
     let mut text = empty_input();
     let n = run_reading::read_full(&mut rt.stdin(), &mut text)?;
     if LARGEST_INPUT < n {
-        put(&mut out, b"above 1048576 bytes\n")?;
+        writeln!(out, "above {LARGEST_INPUT} bytes")?;
     } else {
         show_lines(&mut out, &text[..n])?;
     }
