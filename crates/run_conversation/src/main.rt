@@ -1,11 +1,9 @@
 // Opens a session and lends it the record, in hex, of each file that an argument names: of each a line with its name, the code and the bytes sent.
 #![tactic(auto)]
 
-mod line; // line.rt: the parts of a line
-
-use hex_text::Decoded;
-use line::{put, put_first, put_number};
-use rules_parts::types::Session;
+use hex_text::HexError;
+use rules_parts::types::{Answer, Session};
+use run_writing::Hex;
 use std::io::Write;
 use std::rt::Files;
 use std::{env, fs, io};
@@ -24,114 +22,104 @@ const CHALLENGE: [u8; 64] =
 // The slot list: a cartridge in the drive, and none in a slot.
 const SLOTS: [u32; 9] = [1, 0, 0, 0, 0, 0, 0, 0, 0];
 
+const LARGEST_RECORD: usize = 20_000;
+
+const LARGEST_TEXT: usize = 40_000;
+
+// A session, its cartridge and its store.
+#[derive(Drop)]
+struct Vault {
+    session: Session,
+    image: [u8; 2128],
+    store: [u8; codes::STORE_LENGTH],
+}
+
 // The code of an answer and the bytes sent.
-fn show(out: &mut impl Write, code: u32, len: usize, sent: &[u8]) -> io::Result<()> {
-    put_number(out, b": ", code as u64)?;
-    if len > 0 {
-        put(out, b" ")?;
-        put_first(out, sent, len)?;
-    }
-    put(out, b"\n")
-}
-
-// A new session.
-fn begin(out: &mut impl Write) -> io::Result<Session> {
-    let mut sent = [0u8; codes::LARGEST_MESSAGE];
-    let a = call_request::open(SLOTS, TIME, &mut sent);
-    put(out, b"open")?;
-    show(out, a.code, a.len, &sent)?;
-    Ok(a.session)
-}
-
-// One record.
-fn ask(
-    out: &mut impl Write,
-    s: Session,
-    image: &mut [u8],
-    store: &mut [u8],
-    input: &[u8],
-) -> io::Result<Session> {
-    let mut sent = [0u8; codes::LARGEST_MESSAGE];
-    let a = call_request::request(
-        s, &ACCOUNTS, &CHALLENGE, b"", false, image, store, input, TIME, &mut sent,
-    );
-    show(out, a.code, a.len, &sent)?;
-    Ok(a.session)
-}
-
-// A record in hex. What is none is said, and not asked.
-fn ask_text(
-    out: &mut impl Write,
-    s: Session,
-    image: &mut [u8],
-    store: &mut [u8],
-    text: &[u8],
-) -> io::Result<Session> {
-    let mut record = [0u8; 20000];
-    let d = hex_text::decode(text, &mut record);
-    match d {
-        Decoded::Bytes(len) => ask(out, s, image, store, &record[..len]),
-        Decoded::NotHex => {
-            put(out, b": not hex\n")?;
-            Ok(s)
-        }
-        Decoded::NoRoom => {
-            put(out, b": above 20000 bytes\n")?;
-            Ok(s)
-        }
+fn show(out: &mut impl Write, answer: &Answer, sent: &[u8]) -> io::Result<()> {
+    write!(out, ": {}", answer.code)?;
+    match sent.get(..answer.len) {
+        Some(sent) if !sent.is_empty() => writeln!(out, " {}", Hex(sent)),
+        _ => writeln!(out),
     }
 }
 
-// A file's text. One that is too long is said, and not asked.
-fn ask_bytes(
-    out: &mut impl Write,
-    s: Session,
-    image: &mut [u8],
-    store: &mut [u8],
-    text: &[u8],
-) -> io::Result<Session> {
-    if 40000 < text.len() {
-        put(out, b": above 40000 bytes\n")?;
-        return Ok(s);
+impl Vault {
+    // A new session. The cartridge is empty: 1, a capacity of 8, no entries, no bytes used; then room for 8 entries and 2,048 bytes.
+    // The store is all zeros: no pairs.
+    fn open(out: &mut impl Write) -> io::Result<Vault> {
+        let mut sent = [0u8; codes::LARGEST_MESSAGE];
+        let answer = call_request::open(SLOTS, TIME, &mut sent);
+        write!(out, "open")?;
+        show(out, &answer, &sent)?;
+        let mut image = [0u8; 2128];
+        image[3] = 1;
+        image[7] = 8;
+        Ok(Vault {
+            session: answer.session,
+            image,
+            store: [0u8; codes::STORE_LENGTH],
+        })
     }
-    ask_text(out, s, image, store, text)
-}
 
-// One that cannot be opened is told on standard error, and the session goes on.
-fn ask_file(
-    rt: &(impl Files + Eprint),
-    out: &mut impl Write,
-    path: &str,
-    s: Session,
-    image: &mut [u8],
-    store: &mut [u8],
-) -> io::Result<Session> {
-    put(out, path.as_bytes())?;
-    match fs::open(rt, path) {
-        Ok(mut file) => {
-            let mut text = [0u8; 40001];
-            let n = run_reading::read_full(&mut file, &mut text)?;
-            ask_bytes(out, s, image, store, &text[..n])
+    // One record.
+    fn ask(&mut self, out: &mut impl Write, input: &[u8]) -> io::Result<()> {
+        let mut sent = [0u8; codes::LARGEST_MESSAGE];
+        let answer = call_request::request(
+            self.session,
+            &ACCOUNTS,
+            &CHALLENGE,
+            b"",
+            false,
+            &mut self.image,
+            &mut self.store,
+            input,
+            TIME,
+            &mut sent,
+        );
+        self.session = answer.session;
+        show(out, &answer, &sent)
+    }
+
+    // A record in hex. What is none, or is too long, is said, and not asked.
+    fn ask_text(&mut self, out: &mut impl Write, text: &[u8]) -> io::Result<()> {
+        if LARGEST_TEXT < text.len() {
+            return writeln!(out, ": above {LARGEST_TEXT} bytes");
         }
-        Err(e) => {
-            out.flush()?;
-            eprintln!(rt; "{path}: {e}")?;
-            Ok(s)
+        let mut record = [0u8; LARGEST_RECORD];
+        match hex_text::decode(text, &mut record) {
+            Ok(len) => self.ask(out, &record[..len]),
+            Err(HexError::NotHex) => writeln!(out, ": not hex"),
+            Err(HexError::NoRoom) => writeln!(out, ": above {LARGEST_RECORD} bytes"),
+        }
+    }
+
+    // The record of a file. One that cannot be opened is told on standard error, and the session goes on.
+    fn ask_file(
+        &mut self,
+        rt: &(impl Files + Eprint),
+        out: &mut impl Write,
+        path: &str,
+    ) -> io::Result<()> {
+        write!(out, "{path}")?;
+        match fs::open(rt, path) {
+            Ok(mut file) => {
+                let mut text = [0u8; LARGEST_TEXT + 1];
+                let n = run_reading::read_full(&mut file, &mut text)?;
+                self.ask_text(out, &text[..n])
+            }
+            Err(e) => {
+                out.flush()?;
+                eprintln!(rt; "{path}: {e}")
+            }
         }
     }
 }
 
-// The cartridge is empty: 1, a capacity of 8, no entries, no bytes used; then room for 8 entries and 2,048 bytes. The store is
-// all zeros: no pairs.
 fn main(rt: HostRuntime) -> io::Result<()> {
     let mut out = rt.stdout();
-    let mut image = [0u8; 2128];
-    image[3] = 1;
-    image[7] = 8;
-    let mut store = [0u8; codes::STORE_LENGTH];
-    let mut s = begin(&mut out)?;
+    let mut vault = Vault::open(&mut out)?;
     for path in env::args(&rt)?.skip(1) {
-        s = ask_file(&rt, &mut out, path.as_str(), s, &mut image, &mut store)?;
+        vault.ask_file(&rt, &mut out, path.as_str())?;
     }
     out.flush()
 }
