@@ -22,7 +22,7 @@ use Rattle.wire_accounts.specs.Holds.{Among, here, later, ByMd5, AccountsHold}
 both : (a b : Bool) → choose a b false ≡ true → (a ≡ true) × (b ≡ true)
 unfolding choose
 both true b e = (refl, e)
-both false b e = let z : ◌≡◌ {A = ℕ} 0 1 = cc in absurd (omega arith)
+both false b e = cc
 
 all_true : (a b : Bool) → a ≡ true → b ≡ true → choose a b false ≡ true
 unfolding choose
@@ -36,7 +36,7 @@ first_or p e es false h f k = later (f k)
 
 found : (p : AccountEntry → Bool) (es : List AccountEntry) → any_of p es ≡ true → Among p es
 unfolding any_of
-found p [] h = let z : ◌≡◌ {A = ℕ} 0 1 = cc in absurd (omega arith)
+found p [] h = cc
 found p (e ∷ es) h = first_or p e es (p e) refl (found p es) h
 
 or_true : (t : Bool) → choose t true true ≡ true

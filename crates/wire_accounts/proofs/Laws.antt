@@ -91,11 +91,11 @@ laid_prepend e broken = refl
 entries_prepend : (e : AccountEntry) (x : Accounts) → are_laid x ≡ true → entries_of (with_account e x) ≡ e ∷ entries_of x
 unfolding are_laid with_account entries_of
 entries_prepend e (these es) h = refl
-entries_prepend e broken h = let z : ◌≡◌ {A = ℕ} 0 1 = cc in absurd (omega arith)
+entries_prepend e broken h = cc
 
 entries_broken : (x : Accounts) → are_laid x ≡ false → entries_of x ≡ []
 unfolding are_laid entries_of
-entries_broken (these es) h = let z : ◌≡◌ {A = ℕ} 0 1 = cc in absurd (omega arith)
+entries_broken (these es) h = cc
 entries_broken broken h = refl
 
 laid_if : (t : Bool) → are_laid (choose t (these []) broken) ≡ t
@@ -152,8 +152,8 @@ module _ (b : List ℕ) where
 both : (x y : Bool) (a : Accounts) → are_laid (choose x (choose y a broken) broken) ≡ true → (x ≡ true) × (y ≡ true)
 unfolding are_laid choose
 both true true a e = (refl, refl)
-both true false a e = let z : ◌≡◌ {A = ℕ} 0 1 = cc in absurd (omega arith)
-both false y a e = let z : ◌≡◌ {A = ℕ} 0 1 = cc in absurd (omega arith)
+both true false a e = cc
+both false y a e = cc
 
 pub counted : (b : List ℕ) → are_laid (accounts_in b) ≡ true → (4 ≤ length b) × (word b 0 ≤ most_accounts)
 unfolding accounts_in

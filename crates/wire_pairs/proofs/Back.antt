@@ -1,6 +1,6 @@
 -- A store that a start wrote: it is laid out so, and its pairs are read back. Assumes nothing.
 use Prim.Native.Nat.{ℕ, ◌+◌, ◌*◌, ◌^◌, ◌≤◌, ◌<◌}
-use mathlib.Core.Bool.{Bool, true, false}
+use mathlib.Core.Bool.{true}
 use mathlib.Core.Path.{◌≡◌, refl, ap, ◌∙◌}
 use mathlib.Core.List.{List, [], ◌∷◌, ◌++◌, append_assoc}
 use native.Mathlib.Omega.{arith}
@@ -18,14 +18,10 @@ use Rattle.wire_pairs.specs.Pairs.{Pair, with_separator}
 use Rattle.wire_pairs.specs.Store.{pair_words, pair_texts, store_bytes, storing, text_bytes, fits}
 use Rattle.wire_pairs.specs.Store.{laid_from, is_laid, pair_at, kept_from, kept_pairs, environment_of}
 use Rattle.wire_pairs.specs.Holds.{taken, Stored}
-
-pub both : (t : Bool) {r : Bool} → choose t r false ≡ true → (t ≡ true) × (r ≡ true)
-unfolding choose
-both true h = (refl, h)
-both false h = absurd (let z : ◌≡◌ {A = ℕ} 0 1 = cc in omega arith)
+use Rattle.wire_pairs.proofs.Sizes.{both}
 
 -- ---- how long
-length_words : (sum : ℕ) (ps : List Pair) → length (pair_words sum ps) ≡ 4 * length ps
+pub length_words : (sum : ℕ) (ps : List Pair) → length (pair_words sum ps) ≡ 4 * length ps
 unfolding pair_words
 length_words sum [] = refl
 length_words sum (p ∷ ps) = let e = length_words (sum + length p.name + length p.value) ps in omega arith

@@ -7,14 +7,15 @@ use native.Mathlib.Omega.{arith}
 use native.Mathlib.Nat.{add-zero}
 use lib.ListN.{length, take, drop, get_or, length-drop, take-append-drop}
 use lib.Seq.{drop-cons, drop-drop, length-take-le}
-use lib.Dec.{eqb, leb}
+use lib.Dec.{eqb}
 use borrow.Author.Tests.{leb-true, eqb-true}
-use Rattle.codes.specs.Codes.{most_listed, store_length}
+use Rattle.codes.specs.Codes.{store_length}
 use Rattle.xdr.specs.Xdr.{be32, be32s, word}
 use Rattle.wire_pairs.specs.Pairs.{Pair}
 use Rattle.wire_pairs.specs.Store.{pair_words, pair_texts, text_bytes, laid_from, is_laid, pair_at, kept_from, kept_pairs}
 use Rattle.wire_pairs.specs.Holds.{Bytes, taken, Written}
-use Rattle.wire_pairs.proofs.Back.{both, ended, fit_if, pair_words_lem, store_parts, storing_is}
+use Rattle.wire_pairs.proofs.Sizes.{both, laid_count, laid_pairs}
+use Rattle.wire_pairs.proofs.Back.{ended, fit_if, pair_words_lem, store_parts, storing_is}
 
 -- ---- a word is what it is written as
 module _ (a b c d : ℕ) (ha : a < 256) (hb : b < 256) (hc : c < 256) (hd : d < 256) where
@@ -173,28 +174,20 @@ module _ (store : List ℕ) (h : Bytes store) (first : ℕ) where
 
 -- ---- the whole store
 module _ (store : List ℕ) (h : Bytes store) (k : is_laid store ≡ true) where
-  laid_count : word store 0 ≤ most_listed
-  unfolding is_laid
-  laid_count = leb-true _ _ (both (leb (word store 0) most_listed) k).0
-
-  laid_all : laid_from store (word store 0) 4 0 ≡ true
-  unfolding is_laid
-  laid_all = (both (leb (word store 0) most_listed) k).1
-
   all_spelled : Spelled store (word store 0) 4 (4 + 16 * word store 0) 0 (kept_pairs store)
   unfolding kept_pairs
-  all_spelled = kept_spelled store h (4 + 16 * word store 0) (word store 0) 4 0 refl laid_all
+  all_spelled = kept_spelled store h (4 + 16 * word store 0) (word store 0) 4 0 refl (laid_pairs store k)
 
   pub only : length store ≤ store_length → Written store
   only m =
       let s = all_spelled in
       let ps : List Pair = kept_pairs store in
       let first : ℕ = 4 + 16 * word store 0 in
-      let r = laid_room store (word store 0) 4 0 laid_all in
+      let r = laid_room store (word store 0) 4 0 (laid_pairs store k) in
       let c : drop 0 store ≡ be32 (word store 0) ++ drop (0 + 4) store = word_spelled store 0 h (omega arith) in
       let e : first + text_bytes ps ≡ taken ps = omega (arith, s.count) in
       let t : drop first store ≡ pair_texts ps ++ drop (taken ps) store = rw (add-zero, e) at s.texts in
       record {
         whole = storing_is ps store ∙ store_parts ps (drop (taken ps) store) ∙ rw (← t, ← s.words, s.count) (sym c);
-        fit = fit_if ps (rw s.count laid_count) (omega (arith, s.within, s.count));
+        fit = fit_if ps (rw s.count (laid_count store k)) (omega (arith, s.within, s.count));
       }

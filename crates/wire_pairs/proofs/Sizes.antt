@@ -17,10 +17,10 @@ use Rattle.wire_pairs.specs.Pairs.{Pair, pair, separator_name, separator, is_nam
 use Rattle.wire_pairs.specs.Store.{laid_from, is_laid, kept_from, kept_pairs, environment_of}
 
 -- both of two tests hold
-both : (a b : Bool) → choose a b false ≡ true → (a ≡ true) × (b ≡ true)
+pub both : (t : Bool) {r : Bool} → choose t r false ≡ true → (t ≡ true) × (r ≡ true)
 unfolding choose
-both true b e = (refl, e)
-both false b e = let z : ◌≡◌ {A = ℕ} 0 1 = cc in absurd (omega arith)
+both true h = (refl, h)
+both false h = cc
 
 -- ---- what a store that is laid out so says
 pub record Laid (store : List ℕ) (n at sum : ℕ) : Type 0 where
@@ -31,8 +31,8 @@ pub record Laid (store : List ℕ) (n at sum : ℕ) : Type 0 where
 pub laid_one : (store : List ℕ) (n at sum : ℕ) → laid_from store (suc n) at sum ≡ true → Laid store n at sum
 unfolding laid_from
 laid_one store n at sum h =
-    let p = both (eqb (word store at) sum) _ h in
-    let q = both (eqb (word store (at + 8)) (sum + word store (at + 4))) _ p.1 in
+    let p = both (eqb (word store at) sum) h in
+    let q = both (eqb (word store (at + 8)) (sum + word store (at + 4))) p.1 in
     record { name_starts = eqb-true _ _ p.0; value_starts = eqb-true _ _ q.0; others = q.1 }
 
 pub laid_none : (store : List ℕ) (at sum : ℕ) → laid_from store 0 at sum ≡ true → at + sum ≤ length store
@@ -41,11 +41,11 @@ laid_none store at sum h = leb-true _ _ h
 
 pub laid_count : (store : List ℕ) → is_laid store ≡ true → word store 0 ≤ most_listed
 unfolding is_laid
-laid_count store h = leb-true _ _ (both (leb (word store 0) most_listed) _ h).0
+laid_count store h = leb-true _ _ (both (leb (word store 0) most_listed) h).0
 
 pub laid_pairs : (store : List ℕ) → is_laid store ≡ true → laid_from store (word store 0) 4 0 ≡ true
 unfolding is_laid
-laid_pairs store h = (both (leb (word store 0) most_listed) _ h).1
+laid_pairs store h = (both (leb (word store 0) most_listed) h).1
 
 -- ---- how many pairs
 pub length_kept : (store : List ℕ) (first n at : ℕ) → length (kept_from store first n at) ≡ n

@@ -1,6 +1,6 @@
 -- Laws of a store that is judged, and of one that is written pair by pair. Assumes nothing.
 use Prim.Native.Nat.{ℕ, zero, suc, ◌+◌, ◌-◌, ◌*◌, ◌≤◌, ◌<◌}
-use mathlib.Core.Bool.{Bool, true, false}
+use mathlib.Core.Bool.{true, false}
 use mathlib.Core.List.{List, [], ◌∷◌, ◌++◌}
 use mathlib.Core.Path.{◌≡◌, refl, sym, ap, ◌∙◌}
 use native.Mathlib.Omega.{arith}
@@ -17,11 +17,8 @@ use Rattle.xdr_opaque.specs.Opaque.{opaque_at}
 use Rattle.xdr_opaque.specs.declared.Opaque.{Opaque}
 use Rattle.wire_pairs.specs.Pairs.{Pair, pair, text_in, behind, pairs_from, text_at, next_at}
 use Rattle.wire_pairs.specs.Store.{pair_words, pair_texts, store_bytes, storing, text_bytes, fits, laid_from, is_laid}
-
-both : (a b : Bool) → choose a b false ≡ true → (a ≡ true) × (b ≡ true)
-unfolding choose
-both true b e = (refl, e)
-both false b e = let z : ◌≡◌ {A = ℕ} 0 1 = cc in absurd (omega arith)
+use Rattle.wire_pairs.proofs.Back.{length_words}
+use Rattle.wire_pairs.proofs.Sizes.{both}
 
 -- ---- judged
 module _ (s : List ℕ) where
@@ -129,7 +126,7 @@ module _ (b : List ℕ) (n at : ℕ) where
   pub fits_room : fits (pairs_from b n at) ≡ true → (n ≤ most_listed) × (4 + 16 * n + text_bytes (pairs_from b n at) ≤ store_length)
   unfolding fits
   fits_room e =
-      let p = both (leb (length (pairs_from b n at)) most_listed) (leb (4 + 16 * length (pairs_from b n at) + text_bytes (pairs_from b n at)) store_length) e in
+      let p = both (leb (length (pairs_from b n at)) most_listed) e in
       let k = length_pairs b n at in
       let h : length (pairs_from b n at) ≤ most_listed = leb-true _ _ p.0 in
       let j : 4 + 16 * length (pairs_from b n at) + text_bytes (pairs_from b n at) ≤ store_length = leb-true _ _ p.1 in
@@ -155,11 +152,6 @@ module _ (ps : List Pair) (h : ps ≡ []) (to : ℕ) (out : List ℕ) where
 
 -- ---- written
 -- the count, the words and the texts, written one after another, are a store
-length_words : (from : ℕ) (ps : List Pair) → length (pair_words from ps) ≡ 4 * length ps
-unfolding pair_words
-length_words from [] = refl
-length_words from (p ∷ ps) = let e = length_words (from + length p.name + length p.value) ps in omega arith
-
 pub stored : (b : List ℕ) (n at : ℕ) (out m m' m'' : List ℕ) → m ≡ overlay 0 (be32 n) out → m' ≡ overlay 4 (be32s (pair_words 0 (pairs_from b n at))) m
     → m'' ≡ overlay (4 + 16 * n) (pair_texts (pairs_from b n at)) m' → m'' ≡ storing (pairs_from b n at) out
 unfolding storing store_bytes be32s
