@@ -1,13 +1,18 @@
 -- A call without a request, by what its guard found and by what its move came to. Assumes nothing.
 use Prim.Native.Nat.{ℕ}
 use Rattle.std.specs.Prelude.{Option, Some, None}
-use mathlib.Core.Bool.{Bool}
+use mathlib.Core.Bool.{Bool, false}
 use mathlib.Core.List.{List, []}
 use mathlib.Core.Path.{◌≡◌}
 use Rattle.rules_parts.specs.declared.types.Answer.{Answer}
 use Rattle.rules_parts.specs.declared.types.Moved.{Moved}
 use Rattle.rules.specs.Answer.{Kept, Lent, Answered, silent, guarded}
-use Rattle.rules.proofs.Guarding.{when_stopped, when_goes}
+use Rattle.rules_parts.specs.declared.types.Mover.{Mover}
+use Rattle.rules_parts.specs.declared.types.Tape.{Tape}
+use Rattle.rules_parts.specs.declared.types.Session.{Session}
+use Rattle.rules.specs.Relation.{mover_wrong}
+use Rattle.rules.proofs.Calls.{kept_facts}
+use Rattle.rules.proofs.Guarding.{when_stopped, when_goes, guard_goes}
 use Rattle.call_sending.specs.Call.{CallTold}
 use Rattle.rules_moves.specs.declared.Move.{Move}
 use Rattle.rules_moves.specs.Events.{Moving, idling, announced, moved, feeding, handing, moved_to_tape, moved_from_tape}
@@ -52,3 +57,7 @@ pub moved_as : (k : Kept) (l : Lent) (mv mv₂ : Move) (i i₂ b b₂ : List ℕ
     (image variables dest out out' : List ℕ) → mv ≡ mv₂ → i ≡ i₂ → b ≡ b₂
     → MoveTold (moved k l mv i b) r image variables dest out out' → MoveTold (moved k l mv₂ i₂ b₂) r image variables dest out out'
 moved_as k l mv mv₂ i i₂ b b₂ r image variables dest out out' e f g h = rw (e, f, g) at h
+
+-- the parts of a session that is not stopped are in order
+pub movable : (s : Session) (room : ℕ) (m : Mover) (t : Tape) → ◌≡◌ {A = Option ℕ} None (guarded s room Some None) → m ≡ s.mover → t ≡ s.tape → mover_wrong m t ≡ false
+movable s room m t g em et = rw (em, et) (kept_facts s (guard_goes s room g).valid).mover

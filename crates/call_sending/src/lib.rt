@@ -53,7 +53,8 @@ pub fn refuse(s: Session, error: u32, input: &[u8], time: u32, out: &mut [u8]) -
     )
 }
 
-// A notice behind what was sent, where there is a reason for one: in NDMP 0 is none.
+// A notice behind what was sent, where there is a reason for one: in NDMP 0 is none. That the output has room each contract asks, and no type's
+// invariant: it is the caller's slice, and what it holds after a call is said of it by name.
 pub fn notify(sent: Answer, time: u32, why: u32, notice: Notice, out: &mut [u8]) -> Answer
     requires { (sent.len ≤ 36000) × (least_room ≤ length out.old) }
     ensures { (result.len ≤ sent.len + 40) × ((a : Answered) (image variables l : List ℕ) → CallTold a sent image variables l out.old → CallTold (noticed time why notice a) result image variables l out.new) }

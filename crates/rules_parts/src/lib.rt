@@ -177,7 +177,7 @@ impl Mover {
         Mover::TOP - offset < length
     }
 
-    // Whether a window with this length is one that set window refuses.
+    // Whether a window with this length is one that set window refuses. The window that is asked for is no mover's yet, so its numbers stand apart.
     #[tactic(auto, unfolding(crate::specs::Parts::length_wrong, xdr::specs::Choose::choose))]
     pub fn is_length_wrong(size: u32, offset: u64, length: u64) -> bool
         requires { 1 ≤ size }
@@ -403,7 +403,7 @@ impl Changer {
         }
     }
 
-    // With a sense pending.
+    // With a sense pending: three fields of the session, as C has it.
     pub fn refused(self, key: u8, code: u8, qualifier: u8) -> Changer
         ensures { result ≡ changer_refused key code qualifier self }
     {

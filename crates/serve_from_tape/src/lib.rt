@@ -12,7 +12,7 @@ use rules_moves::{Found, Move};
 use rules_parts::types::{Data, Mover, Tape};
 use serve_moves::Parts;
 
-// Hands over what is asked for of record i.
+// Hands over what is asked for of record i. `Seekable` is of the mover and of the image that is lent, so no one type has it as its invariant.
 fn read_record(i: usize, p: Parts, image: &[u8], dest: &mut [u8]) -> Move
     requires { Seekable p.mover image.now × (p.mover.offset ≤ p.mover.seek) × (i < count image.now) }
     ensures { HandedAs (reading i p.source p.mover p.tape image.now dest.old) result dest.new }

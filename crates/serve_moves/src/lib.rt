@@ -170,7 +170,11 @@ impl Parts {
         if self.source.state != Data::ACTIVE {
             return self.stay();
         }
-        let why = if ok { Data::SUCCESSFUL } else { Data::INTERNAL_ERROR };
+        let why = if ok {
+            Data::SUCCESSFUL
+        } else {
+            Data::INTERNAL_ERROR
+        };
         if self.source.address == codes::TCP_ADDRESS {
             self.halt_source(why)
         } else {
@@ -199,7 +203,7 @@ impl Parts {
         }
     }
 
-    // A connection was made, with the mover or else with the data end: it joins the end that listens by TCP.
+    // A connection was made, with the mover or else with the data end (the flag is C's): it joins the end that listens by TCP.
     #[tactic(auto, unfolding(rules_moves::specs::Moves::made_at, rules_moves::specs::Moves::at_tcp, xdr::specs::Choose::choose))]
     pub fn made_at(self, mover: bool) -> Move
         ensures { result ≡ made_at mover self.source self.mover self.tape }
@@ -214,7 +218,7 @@ impl Parts {
         }
     }
 
-    // A connection was lost, of the mover or else of the data end: it halts the end that is joined by TCP.
+    // A connection was lost, of the mover or else of the data end (the flag is C's): it halts the end that is joined by TCP.
     #[tactic(auto, unfolding(rules_moves::specs::Moves::lost_at, rules_moves::specs::Moves::at_tcp, xdr::specs::Choose::choose))]
     pub fn lost_at(self, mover: bool) -> Move
         ensures { result ≡ lost_at mover self.source self.mover self.tape }

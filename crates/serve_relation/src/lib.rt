@@ -48,11 +48,13 @@ fn are_numbers_wrong(m: Mover) -> bool
 }
 
 #[tactic(auto, unfolding(rules::specs::Relation::window_wrong, xdr::specs::Choose::choose))]
-fn is_window_wrong(size: u32, offset: u64, length: u64) -> bool
-    ensures { result ≡ window_wrong size offset length }
+fn is_window_wrong(m: Mover) -> bool
+    ensures { result ≡ window_wrong m.size m.offset m.length }
 {
-    length != 0
-        && (size == 0 || offset % size as u64 != 0 || Mover::is_length_wrong(size, offset, length))
+    m.length != 0
+        && (m.size == 0
+            || m.offset % m.size as u64 != 0
+            || Mover::is_length_wrong(m.size, m.offset, m.length))
 }
 
 #[tactic(auto, unfolding(rules::specs::Relation::start_wrong, xdr::specs::Choose::choose))]
@@ -72,18 +74,18 @@ fn is_hold_wrong(m: Mover, t: Tape) -> bool
 
 // Whether the bytes moved lie past the window's end; the sum itself could be too large.
 #[tactic(auto, using(rules_parts::proofs::Ending::end_endless, rules_parts::proofs::Ending::end_other))]
-fn is_beyond(offset: u64, length: u64, moved: u64) -> bool
-    requires { offset ≤ moved }
-    ensures { result ≡ ltb (window_end offset length) moved }
+fn is_beyond(m: Mover) -> bool
+    requires { m.offset ≤ m.moved }
+    ensures { result ≡ ltb (window_end m.offset m.length) m.moved }
 {
-    length != Mover::ENDLESS && length < moved - offset
+    m.length != Mover::ENDLESS && m.length < m.moved - m.offset
 }
 
 #[tactic(auto, unfolding(rules::specs::Relation::strays, xdr::specs::Choose::choose))]
-fn has_strayed(size: u32, offset: u64, length: u64, moved: u64) -> bool
-    ensures { result ≡ strays size offset length moved }
+fn has_strayed(m: Mover) -> bool
+    ensures { result ≡ strays m.size m.offset m.length m.moved }
 {
-    size == 0 || moved < offset || is_beyond(offset, length, moved) || moved % size as u64 != 0
+    m.size == 0 || m.moved < m.offset || is_beyond(m) || m.moved % m.size as u64 != 0
 }
 
 #[tactic(auto, unfolding(rules::specs::Relation::place_wrong, xdr::specs::Choose::choose))]
@@ -95,17 +97,17 @@ fn is_place_wrong(m: Mover) -> bool
     }
     match m.state {
         Mover::LISTEN => m.offset != 0,
-        Mover::ACTIVE => has_strayed(m.size, m.offset, m.length, m.moved),
-        Mover::PAUSED => is_resume_wrong(m.length, m.offset, m.moved),
+        Mover::ACTIVE => has_strayed(m),
+        Mover::PAUSED => is_resume_wrong(m),
         _ => false,
     }
 }
 
 #[tactic(auto, unfolding(rules::specs::Relation::resume_wrong, xdr::specs::Choose::choose))]
-fn is_resume_wrong(length: u64, offset: u64, moved: u64) -> bool
-    ensures { result ≡ resume_wrong length offset moved }
+fn is_resume_wrong(m: Mover) -> bool
+    ensures { result ≡ resume_wrong m.length m.offset m.moved }
 {
-    length != 0 && offset != moved
+    m.length != 0 && m.offset != m.moved
 }
 
 #[tactic(auto, unfolding(rules::specs::Relation::origin_wrong, xdr::specs::Choose::choose))]
@@ -120,7 +122,7 @@ fn is_mover_wrong(m: Mover, t: Tape) -> bool
     ensures { result ≡ mover_wrong m t }
 {
     are_numbers_wrong(m)
-        || is_window_wrong(m.size, m.offset, m.length)
+        || is_window_wrong(m)
         || is_start_wrong(m)
         || is_hold_wrong(m, t)
         || is_place_wrong(m)

@@ -4,9 +4,8 @@ use native.Mathlib.Omega.{arith}
 use lib.ListN.{length}
 use Rattle.rules.specs.Answer.{held}
 use Rattle.rules_moves.specs.Events.{stamped}
-use Rattle.rules.proofs.Calls.{kept_facts}
 use Rattle.rules.proofs.Guarding.{guard_goes}
-use Rattle.call_moves.proofs.Telling.{from_stopped, from_goes, moved_as}
+use Rattle.call_moves.proofs.Telling.{from_stopped, from_goes, movable, moved_as}
 use Rattle.call_moves.proofs.move_from_tape.Goals as goal
 
 pub returns-in-Err : goal.returns-in-Err
@@ -16,8 +15,7 @@ returns-in-Err c = λ variables.
     (ap Some c.code.ensures ∙ c.in-Err.ensures) (c.unmoved.ensures _ _ _ _)
 
 pub from_tape-mv-requires : goal.from_tape-mv-requires
-from_tape-mv-requires c = let g = guard_goes _ _ c.in_default.ensures in
-    rw (c.of.ensures.mover, c.of.ensures.tape) (kept_facts c.args.s g.valid).mover
+from_tape-mv-requires c = movable _ _ _ _ c.in_default.ensures c.of.ensures.mover c.of.ensures.tape
 
 pub report-requires : goal.report-requires
 report-requires c = omega (arith, (guard_goes _ _ c.in_default.ensures).roomy)
