@@ -75,7 +75,9 @@ pub fn error_of(code: u32) -> UnixError
     }
 }
 
-// Writes the reply to what NDMP refuses by a number; returns the offset after it.
+// Writes the reply to what NDMP refuses by a number; returns the offset after it. Kept out of its callers: where the error is known
+// by name, the compiler would lay out a table of the texts' addresses, which counts as data.
+#[inline(never)]
 pub fn put_refused(out: &mut [u8], at: usize, code: u32) -> usize
     requires { at + 29 ≤ length out.old }
     ensures { Put at (refused (error_of code)) out.old result out.new }
