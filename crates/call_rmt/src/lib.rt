@@ -34,7 +34,8 @@ fn tape_request(q: Command) -> TapeRequest
     }
 }
 
-// Writes `A`, a number and bytes behind it; or the refusal that an outcome of the tape is. Returns its length.
+// Writes `A`, a number and bytes behind it; or the refusal that an outcome of the tape is. Returns its length. The outcome is the number that a reply
+// carries, in which 0 is none (`told`).
 #[tactic(auto, using(wire_rmt::proofs::Replies::accepted_fits), unfolding(xdr::specs::Choose::choose, rules::specs::Rmt::told))]
 fn put_told(out: &mut [u8], outcome: u32, count: u32, bytes: &[u8]) -> usize
     requires { (least_room ≤ length out.old) × (length bytes.now ≤ longest_record) }

@@ -142,7 +142,7 @@ fn line(kind: Message, before: u32, after: u32) -> Row
     }
 }
 
-// The row of a message number.
+// The row of a message number. A number that names no message has a row too, as in the definitions: Unknown, which is refused by one.
 #[tactic(auto, unfolding(xdr::specs::Choose::choose, crate::specs::Messages::look, crate::specs::Messages::row_of))]
 pub fn row_of(number: u32) -> Row
     ensures { result ≡ row_of number }

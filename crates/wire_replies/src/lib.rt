@@ -47,7 +47,7 @@ pub struct MoverView {
 // qualifier) as data in, Check one that ends with status 2 and the extended sense, and Elements one that hands over what
 // it was lent, the status of the changer's elements. TapeState is the file and the block, Mtio
 // the residue, Wrote the count, and Read where the bytes lie in the image. Environment gives the pairs of the store
-// that was lent.
+// that was lent. The numbers are those that go onto the wire, as the definitions (`number_of`, `shape_of`) have them.
 #[derive(Clone, Copy)]
 pub enum Reply {
     Header(u32),

@@ -15,6 +15,9 @@ ghost use Rattle.wire_replies.specs.Writers.{PutUpTo, header_words};
 use wire_giving::Store;
 use wire_replies::{DataView, MoverView, Notice, Reply};
 
+// Each writer is handed its offset and returns the one behind what it wrote: `Put` says both in one fact, and the facts of a body chain by `then`. A
+// cursor would hide the offset in a field that each clause names again.
+
 // Writes a body of words alone; returns the offset after it.
 fn put_body(out: &mut [u8], at: usize, ws: &[u32]) -> usize
     requires { at + 4 * length ws.now ≤ length out.old }
@@ -87,7 +90,7 @@ fn sense_bytes(key: u8, code: u8, qualifier: u8) -> [u8; 18]
     bytes
 }
 
-// Writes the first n bytes of the sense as data in.
+// Writes the first n bytes of the sense as data in. It and the next differ in which of the two texts of put_cdb they lend.
 #[tactic(auto, using(crate::proofs::Laws::sense_length_lem), unfolding(wire_replies::specs::Replies::shape_of))]
 fn put_sense(out: &mut [u8], at: usize, n: u32, key: u8, code: u8, qualifier: u8) -> usize
     requires { (at + 200 ≤ length out.old) × (n ≤ sense_bytes) }
@@ -123,8 +126,7 @@ fn put_lent(out: &mut [u8], at: usize, kind: u32, bytes: &[u8]) -> usize
     ensures { Put at (body_bytes (record { words = 0 ∷ kind ∷ []; raw = bytes.now; texts = []; tail = [] })) out.old result out.new }
 {
     let first = xdr_opaque::put_words(out, at, &[0, kind]);
-    xdr::copy_bytes(out, first, bytes);
-    first + bytes.len()
+    xdr_opaque::put_bytes(out, first, bytes)
 }
 
 // Writes an address with nothing but its type: behind TCP an empty list.
@@ -300,7 +302,8 @@ impl Header {
     }
 }
 
-// Writes a reply at the front of the output; returns its length.
+// Writes a reply at the front of the output; returns its length. What the caller knows of the header stands apart, as in `reply_bytes`: the rest is the
+// reply's own, and a caller has no header before it.
 pub fn write_reply(
     out: &mut [u8],
     sequence: u32,
