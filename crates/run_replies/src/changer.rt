@@ -8,36 +8,18 @@ use std::io;
 use std::io::Write;
 use wire_replies::Reply;
 
-fn check(out: &mut impl Write, name: &[u8], n: u32, code: u8, qualifier: u8) -> io::Result<()>
+fn check(out: &mut impl Write, name: &str, n: u32, code: u8, qualifier: u8) -> io::Result<()>
     requires { n ≤ 100 }
 {
-    send(
-        out,
-        name,
-        n,
-        n + 1000,
-        0x206,
-        n + 500,
-        Reply::Check(5, code, qualifier),
-        b"",
-    )
+    send(out, name, n, 0x206, Reply::Check(5, code, qualifier), b"")
 }
 
-fn status(out: &mut impl Write, name: &[u8], n: u32, asked: Asked) -> io::Result<()>
+fn status(out: &mut impl Write, name: &str, n: u32, asked: Asked) -> io::Result<()>
     requires { n ≤ 100 }
 {
     let mut bytes = [0xAAu8; codes::MOST_STATUS];
     let len = changer_status::write_status(&mut bytes, asked, [9, 0, 3, 0, 0, 0, 0, 0, 7]);
-    send(
-        out,
-        name,
-        n,
-        n + 1000,
-        0x206,
-        n + 500,
-        Reply::Elements,
-        &bytes[..len],
-    )
+    send(out, name, n, 0x206, Reply::Elements, &bytes[..len])
 }
 
 fn whole(kind: u32, start: u32, cut: u32) -> Asked {
@@ -50,18 +32,16 @@ fn whole(kind: u32, start: u32, cut: u32) -> Asked {
 }
 
 fn checks(out: &mut impl Write) -> io::Result<()> {
-    check(out, b"check_short", 58, 0x24, 0x00)?;
-    check(out, b"check_element", 59, 0x21, 0x01)?;
-    check(out, b"check_full", 60, 0x3B, 0x0D)?;
-    check(out, b"check_empty", 61, 0x3B, 0x0E)?;
-    check(out, b"check_held", 62, 0x53, 0x02)?;
+    check(out, "check_short", 58, 0x24, 0x00)?;
+    check(out, "check_element", 59, 0x21, 0x01)?;
+    check(out, "check_full", 60, 0x3B, 0x0D)?;
+    check(out, "check_empty", 61, 0x3B, 0x0E)?;
+    check(out, "check_held", 62, 0x53, 0x02)?;
     send(
         out,
-        b"sense_full_14",
+        "sense_full_14",
         63,
-        1063,
         0x206,
-        563,
         Reply::Sense(14, 5, 0x3B, 0x0D),
         b"",
     )
@@ -69,12 +49,12 @@ fn checks(out: &mut impl Write) -> io::Result<()> {
 
 pub fn replies(out: &mut impl Write) -> io::Result<()> {
     checks(out)?;
-    status(out, b"status_all", 64, whole(0, 0, 255))?;
-    status(out, b"status_cut_101", 65, whole(0, 0, 101))?;
-    status(out, b"status_cut_8", 66, whole(0, 0, 8))?;
-    status(out, b"status_cut_0", 67, whole(0, 0, 0))?;
-    status(out, b"status_drive", 68, whole(4, 0, 255))?;
-    status(out, b"status_from_22", 69, whole(0, 22, 255))?;
-    status(out, b"status_none", 70, whole(3, 0, 255))?;
-    refuse(out, b"tape_open_not_loaded", 71, 1071, 0x300, 571, 0, 10, 0)
+    status(out, "status_all", 64, whole(0, 0, 255))?;
+    status(out, "status_cut_101", 65, whole(0, 0, 101))?;
+    status(out, "status_cut_8", 66, whole(0, 0, 8))?;
+    status(out, "status_cut_0", 67, whole(0, 0, 0))?;
+    status(out, "status_drive", 68, whole(4, 0, 255))?;
+    status(out, "status_from_22", 69, whole(0, 22, 255))?;
+    status(out, "status_none", 70, whole(3, 0, 255))?;
+    refuse(out, "tape_open_not_loaded", 71, 0x300, 0, 10, 0)
 }

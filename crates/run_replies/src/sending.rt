@@ -36,44 +36,62 @@ fn put_notice(
     wire_writing::write_notice(out, at, sequence, time, notice)
 }
 
+// A record of a name: its sequence number n, and a time stamp and an echo that go with it.
 pub fn send(
     out: &mut impl Write,
-    name: &[u8],
-    sequence: u32,
-    time: u32,
+    name: &str,
+    n: u32,
     message: u32,
-    echo: u32,
     reply: Reply,
     image: &[u8],
 ) -> io::Result<()>
-    requires { Sending reply image.now }
+    requires { (n ≤ 100) × Sending reply image.now }
 {
     let mut sent = [0xAAu8; codes::LARGEST_MESSAGE];
-    let end = put_reply(&mut sent, sequence, time, message, echo, reply, image);
+    let end = put_reply(&mut sent, n, n + 1000, message, n + 500, reply, image);
     put_sent(out, name, &sent, end)
 }
 
 // A refusal: its number, with the zero words before and after it.
 pub fn refuse(
     out: &mut impl Write,
-    name: &[u8],
-    sequence: u32,
-    time: u32,
+    name: &str,
+    n: u32,
     message: u32,
-    echo: u32,
     before: u32,
     error: u32,
     after: u32,
 ) -> io::Result<()>
-    requires { before + after ≤ 17 }
+    requires { (n ≤ 100) × (before + after ≤ 17) }
 {
-    let reply = Reply::Refused(before, error, after);
-    send(out, name, sequence, time, message, echo, reply, b"")
+    send(
+        out,
+        name,
+        n,
+        message,
+        Reply::Refused(before, error, after),
+        b"",
+    )
+}
+
+// A refusal in the header, with the largest numbers there.
+pub fn largest(out: &mut impl Write) -> io::Result<()> {
+    let mut sent = [0xAAu8; codes::LARGEST_MESSAGE];
+    let end = put_reply(
+        &mut sent,
+        u32::MAX,
+        0,
+        0x300,
+        u32::MAX - 1,
+        Reply::Header(18),
+        b"",
+    );
+    put_sent(out, "header_bad", &sent, end)
 }
 
 pub fn notify(
     out: &mut impl Write,
-    name: &[u8],
+    name: &str,
     sequence: u32,
     time: u32,
     notice: Notice,
@@ -89,5 +107,5 @@ pub fn answer(out: &mut impl Write) -> io::Result<()> {
     let first = put_reply(&mut sent, 40, 1040, 0x403, 540, Reply::Plain, b"");
     let second = put_notice(&mut sent, first, 41, 1040, Notice::DataHalted(2));
     let end = put_notice(&mut sent, second, 42, 1040, Notice::MoverHalted(1));
-    put_sent(out, b"answer", &sent, end)
+    put_sent(out, "answer", &sent, end)
 }
