@@ -236,7 +236,8 @@ fn header_call(s: Session, error: NdmpError, input: &[u8], time: u32, out: &mut 
     call_sending::finish(s, input, time, Reply::Header(error.number()), b"", out)
 }
 
-// A request that is not locked, at its service.
+// A request that is not locked, at its service. The record and its time stay apart: of a struct each of the calls above would first take them out, as
+// `Lent` is here.
 fn serve_call(
     s: Session,
     q: Request,

@@ -200,10 +200,8 @@ pub fn serve(d: Data, m: Mover, t: Tape, q: JointRequest, made: bool) -> Served<
             halt_unless(resting, mover_halted(Mover::ABORTED, d, m))
         }
         JointRequest::MoverClose => {
-            halt_unless(
-                m.state != Mover::PAUSED,
-                mover_halted(Mover::CONNECT_CLOSED, d, m),
-            )
+            let unpaused = m.state != Mover::PAUSED;
+            halt_unless(unpaused, mover_halted(Mover::CONNECT_CLOSED, d, m))
         }
         JointRequest::MoverConnect(mode, address, count) => {
             mover_connect(d, m, t, mode, address, count, made)

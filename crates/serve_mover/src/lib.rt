@@ -17,9 +17,10 @@ fn record_number(moved: u64, size: u32) -> u32
     ensures { result ≡ record_number moved size }
 {
     if size == 0 {
-        return 0;
+        0
+    } else {
+        (moved / size as u64 % 4294967296) as u32
     }
-    (moved / size as u64 % 4294967296) as u32
 }
 
 #[tactic(auto, unfolding(xdr::specs::Choose::choose, rules::specs::Judge::judge, rules::specs::MoverService::mover_state))]
