@@ -80,7 +80,8 @@ impl Direction {
     {
         match self {
             Direction::Forward => at,
-            Direction::Back => at.saturating_sub(1),
+            Direction::Back if at == 0 => 0,
+            Direction::Back => at - 1,
         }
     }
 
@@ -91,7 +92,8 @@ impl Direction {
     {
         match self {
             Direction::Forward => at + 1,
-            Direction::Back => at.saturating_sub(1),
+            Direction::Back if at == 0 => 0,
+            Direction::Back => at - 1,
         }
     }
 }

@@ -22,24 +22,35 @@ pub fn space(image: &[u8], op: u32, position: usize, times: u32) -> Spaced
     let mut left = times;
     let mut rest = direction.ahead(n, position);
     loop {
-        if left == 0 || rest == 0 {
+        if left == 0 {
             break Spaced {
-                error: if left == 0 { 0 } else { codes::AT_END },
+                error: 0,
+                position: at,
+                residue: 0,
+            };
+        }
+        if rest == 0 {
+            break Spaced {
+                error: codes::AT_END,
                 position: at,
                 residue: left,
             };
         }
-        let is_mark = tape_image::entry_len(image, direction.entry_passed(at)) == 0;
+        let len = tape_image::entry_len(image, direction.entry_passed(at));
         at = direction.position_after(at);
         rest -= 1;
-        if is_mark && !marks {
-            break Spaced {
-                error: codes::AT_MARK,
-                position: at,
-                residue: left,
-            };
+        if len == 0 {
+            if !marks {
+                break Spaced {
+                    error: codes::AT_MARK,
+                    position: at,
+                    residue: left,
+                };
+            }
+            left -= 1;
+        } else if !marks {
+            left -= 1;
         }
-        left -= u32::from(is_mark == marks);
     }
 }
 

@@ -1,2 +1,0 @@
--- `Walking` has a step of a walk.
-pub mod Walking
