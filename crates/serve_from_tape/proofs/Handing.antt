@@ -1,7 +1,7 @@
 -- From what callees give to what a move from tape says of a record, and the facts that the tests leave. Assumes nothing.
-use Prim.Native.Nat.{ℕ, ◌+◌, ◌-◌, ◌≤◌, ◌<◌}
+use Prim.Native.Nat.{ℕ, ◌+◌, ◌-◌, ◌≤◌}
 use mathlib.Core.List.{List}
-use mathlib.Core.Bool.{Bool, true, false}
+use mathlib.Core.Bool.{false}
 use mathlib.Core.Path.{◌≡◌, refl, sym, ap, ◌∙◌}
 use native.Mathlib.Omega.{arith}
 use lib.ListN.{length, take, drop}
@@ -9,21 +9,19 @@ use borrow.Author.Tests.{ltb-false, eq-eqb, ne_eqb}
 use Rattle.xdr.specs.Choose.{choose}
 use Rattle.xdr.specs.Xdr.{overlay}
 use Rattle.xdr.proofs.Tests.{none_of}
-use Rattle.tape_image.specs.Image.{count, entry_len, entry_start, entry_bytes, body_at, faulty}
+use Rattle.tape_image.specs.Image.{entry_len, entry_start, entry_bytes, body_at, faulty}
 use Rattle.tape_image.proofs.Laws.{placed}
 use Rattle.tape_ops.proofs.Reading.{entry_part_lem}
 use Rattle.rules_parts.specs.declared.types.Data.{Data}
 use Rattle.rules_parts.specs.declared.types.Mover.{Mover}
 use Rattle.rules_parts.specs.declared.types.Tape.{Tape}
-use Rattle.rules_parts.specs.Names.{from_tape_mode, recover_operation, data_connect_error, mover_media_error, end_of_medium, end_of_file}
+use Rattle.rules_parts.specs.Names.{from_tape_mode, recover_operation, data_connect_error, mover_media_error}
 use Rattle.rules.specs.Relation.{mover_wrong}
-use Rattle.rules.specs.TapeService.{moved_to}
 use Rattle.rules.proofs.Kept.{mover_kept}
 use Rattle.rules.proofs.Keeping.{active_holds}
 use Rattle.rules_moves.proofs.Moving.{running}
 use Rattle.rules_moves.specs.declared.Move.{Move}
-use Rattle.rules_moves.specs.declared.Found.{Found}
-use Rattle.rules_moves.specs.Moves.{idle, outside, halts_with, hands, pauses, in_record, amount, sought, reading, on_found, Handing, untouched, HandedAs}
+use Rattle.rules_moves.specs.Moves.{idle, outside, halts_with, hands, in_record, amount, reading, untouched, HandedAs}
 use Rattle.serve_from_tape.specs.Facts.{Seekable}
 
 handed_same : {q r : Move} {l : List ℕ} → r ≡ q → HandedAs (untouched l q) r l
