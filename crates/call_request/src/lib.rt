@@ -2,7 +2,7 @@
 // What a request of each service comes to is kept out of its callers: inlined, their frames add up on the stack.
 #![tactic(auto)]
 
-ghost use Rattle.std.specs.Prelude.{◌≡◌, Bool, true, false, List, [], ℕ, ◌+◌, ◌≤◌, length, eqb};
+ghost use Rattle.std.specs.Prelude.{◌≡◌, false, List, [], ℕ, length, eqb};
 ghost use Rattle.codes.specs.Codes.{store_length};
 ghost use Rattle.codes.specs.Errors.{number_of};
 ghost use Rattle.xdr.specs.Choose.{choose};
@@ -14,7 +14,6 @@ ghost use Rattle.wire_requests.specs.Within.{texts_within};
 ghost use Rattle.wire_requests.specs.declared.Request.{Request};
 ghost use Rattle.wire_requests.specs.declared.Request.TheVariants as Request;
 ghost use Rattle.wire_replies.specs.declared.Reply.TheVariants as Reply;
-ghost use Rattle.wire_replies.specs.Fit.{Sendable};
 ghost use Rattle.rules.specs.Judge.{Accepts, onto};
 ghost use Rattle.rules.specs.DataService.{data_step, data_shown};
 ghost use Rattle.rules.specs.TapeService.{tape_step, mover_part_step};

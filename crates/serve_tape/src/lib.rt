@@ -2,8 +2,7 @@
 #![tactic(auto)]
 
 ghost use Rattle.std.specs.Prelude.{◌≡◌, ℕ, List};
-ghost use Rattle.xdr.specs.Xdr.{same_bytes};
-ghost use Rattle.wire_requests.specs.Within.{bytes_at, Within, texts_within};
+ghost use Rattle.wire_requests.specs.Within.{texts_within};
 ghost use Rattle.wire_requests.specs.declared.Request.TheVariants as Request;
 ghost use Rattle.rules.specs.Judge.{first};
 ghost use Rattle.rules.specs.Served.{told};
@@ -13,7 +12,6 @@ ghost use Rattle.serve_tape.specs.Done.{Tells, held_tests};
 use codes::NdmpError;
 use rules::{Accepted, Served};
 use rules_parts::types::{Mover, Tape};
-use wire_layouts::Text;
 use wire_replies::Reply;
 use wire_requests::TapeRequest;
 
