@@ -1,7 +1,7 @@
 // The accounts that a host lends, listed: a line for each, by its number and its kind. No session is looked at, and no password.
 #![tactic(auto)]
 
-ghost use Rattle.std.specs.Prelude.{true, ◌≡◌, ◌+◌, ◌≤◌, ◌<◌, length};
+ghost use Rattle.std.specs.Prelude.{◌+◌, ◌≤◌, ◌<◌, length};
 ghost use Rattle.xdr_opaque.specs.Put.{Put};
 ghost use Rattle.codes.specs.Codes.{most_accounts};
 ghost use Rattle.wire_accounts.specs.Entry.{number_of};

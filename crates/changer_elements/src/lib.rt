@@ -79,13 +79,6 @@ impl Sense {
         code: 0x53,
         qualifier: 0x02,
     };
-
-    // Nothing is pending.
-    pub const NONE: Sense = Sense {
-        key: 0,
-        code: 0,
-        qualifier: 0,
-    };
 }
 
 // The places that a move takes the cartridge from and to, for `moved`.

@@ -86,9 +86,6 @@ pub record Putting (at : ℕ) (whole rest l m : List ℕ) (next : ℕ) : Type 0 
   pub goes : overlay at whole l ≡ overlay next rest m
   pub long : length m ≡ length l
 
-pub putting_start : (at : ℕ) (whole l : List ℕ) → Putting at whole whole l l at
-putting_start at whole l = record { ends = refl; goes = refl; long = refl }
-
 pub putting_more : (at next next' : ℕ) (whole rest x rest' l m m' : List ℕ) → Putting at whole rest l m next → rest ≡ x ++ rest' →
     Put next x m next' m' → length m' ≡ length m → Putting at whole rest' l m' next'
 putting_more at next next' whole rest x rest' l m m' p e q n =

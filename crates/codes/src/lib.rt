@@ -5,9 +5,6 @@ ghost use Rattle.std.specs.Prelude.{◌≡◌};
 ghost use Rattle.codes.specs.Codes.{AsWritten};
 ghost use Rattle.codes.specs.Errors.{number_of, ErrorsNumbered};
 
-use std::error::Error;
-use std::fmt;
-
 // Refusals and outcomes, as 004 names them.
 pub const NOT_SUPPORTED: u32 = 1;
 
@@ -178,30 +175,3 @@ impl NdmpError {
         }
     }
 }
-
-impl fmt::Display for NdmpError {
-    fn fmt<W: fmt::Write>(&self, f: &mut fmt::Formatter<W>) -> fmt::Result {
-        f.write_str(match self {
-            NdmpError::NotSupported => "not supported",
-            NdmpError::DeviceOpened => "device opened",
-            NdmpError::NotAuthorized => "not authorized",
-            NdmpError::PermissionDenied => "permission denied",
-            NdmpError::NotOpen => "device not open",
-            NdmpError::IoError => "I/O error",
-            NdmpError::IllegalArguments => "illegal arguments",
-            NdmpError::NoTapeLoaded => "no tape loaded",
-            NdmpError::AtMark => "at a mark",
-            NdmpError::AtEnd => "at the end of the medium",
-            NdmpError::BadFile => "bad file",
-            NdmpError::NoDevice => "no such device",
-            NdmpError::Undecodable => "not decoded",
-            NdmpError::IllegalState => "illegal state",
-            NdmpError::NoMemory => "no memory",
-            NdmpError::OtherNotListening => "the other end does not listen",
-            NdmpError::ReadInProgress => "a read is in progress",
-            NdmpError::Precondition => "a precondition is not met",
-        })
-    }
-}
-
-impl Error for NdmpError {}

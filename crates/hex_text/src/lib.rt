@@ -5,26 +5,12 @@ ghost use Rattle.std.specs.Prelude.{◌≡◌, ◌<◌, length, IfSome};
 ghost use Rattle.hex_text.specs.Hex.{digit_of, pair_of, blank_of, Reads};
 ghost use Rattle.hex_text.specs.Cases.{HexCases};
 
-use std::error::Error;
-use std::fmt;
-
 // Why a text is not read: it holds something else than pairs of digits and blanks, or more bytes than the output.
 #[derive(Clone, Copy, Debug, PartialEq, Eq)]
 pub enum HexError {
     NotHex,
     NoRoom,
 }
-
-impl fmt::Display for HexError {
-    fn fmt<W: fmt::Write>(&self, f: &mut fmt::Formatter<W>) -> fmt::Result {
-        f.write_str(match self {
-            HexError::NotHex => "not hex",
-            HexError::NoRoom => "no room",
-        })
-    }
-}
-
-impl Error for HexError {}
 
 // The value of a digit.
 #[tactic(auto, using(crate::proofs::Laws::digits))]

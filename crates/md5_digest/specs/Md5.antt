@@ -57,7 +57,7 @@ table =
     ∷ 0x6fa8_7e4f ∷ 0xfe2c_e6e0 ∷ 0xa301_4314 ∷ 0x4e08_11a1 ∷ 0xf753_7e82 ∷ 0xbd3a_f235 ∷ 0x2ad7_d2bb ∷ 0xeb86_d391 ∷ []
 
 -- what a round has of its own: four amounts, the auxiliary function and the order of the words, each by what a call of it may give
-pub record OfRound (round : ℕ) (amounts : List ℕ) (Mixes : ℕ → ℕ → ℕ → ℕ → Type 0) (Orders : ℕ → ℕ → Type 0) : Type 0 where
+pub record RoundOwn (round : ℕ) (amounts : List ℕ) (Mixes : ℕ → ℕ → ℕ → ℕ → Type 0) (Orders : ℕ → ℕ → Type 0) : Type 0 where
   pub one : round < 4
   pub rotates : amounts ≡ take 4 (drop (round * 4) shifts)
   pub mixes : (x y z r : ℕ) → Mixes x y z r → r ≡ auxiliary_of round x y z

@@ -5,7 +5,7 @@
 ghost use Rattle.std.specs.Prelude.{◌≡◌, ℕ, ◌+◌, ◌-◌, ◌*◌, ◌%◌, ◌<◌, ◌≤◌, length};
 ghost use Rattle.codes.specs.Codes.{longest_password};
 ghost use Rattle.xdr.specs.Xdr.{overlay};
-ghost use Rattle.md5_digest.specs.Md5.{OfRound, le_word, operations, compressed, processed};
+ghost use Rattle.md5_digest.specs.Md5.{RoundOwn, le_word, operations, compressed, processed};
 ghost use Rattle.md5_digest.specs.Md5.{le32, PaddedEnd, Blank, Padded, PaddingHolds, md5_registers, md5};
 ghost use Rattle.md5_digest.specs.Login.{login_string, login_digest, LoginBlank};
 ghost use Rattle.md5_digest.specs.Cases.{Md5Cases, LoginCases};
@@ -107,7 +107,7 @@ fn one_round<M: Fn(u32, u32, u32) -> u32, W: Fn(usize) -> usize>(
 ) -> Registers
     requires mixes { M.IsAlwaysCallable mix }
     requires orders { (i : ℕ) → i < 64 → W.pre word i }
-    requires own { OfRound round shifts (M.post mix) (W.post word) }
+    requires own { RoundOwn round shifts (M.post mix) (W.post word) }
     requires whole { 64 ≤ length block.now }
     ensures { result ≡ operations 16 (16 * round) block.now start }
 {

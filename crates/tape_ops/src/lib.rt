@@ -2,7 +2,7 @@
 // above the number of entries is refused, as are arguments out of range; a mark and an end are outcomes of the tape.
 #![tactic(auto)]
 
-ghost use Rattle.std.specs.Prelude.{◌≡◌, ◌<◌, ◌≤◌, true, false, length, MatchResult};
+ghost use Rattle.std.specs.Prelude.{◌≡◌, ◌<◌, ◌≤◌, true, false, MatchResult};
 ghost use Rattle.codes.specs.Codes.{longest_record};
 ghost use Rattle.codes.specs.declared.NdmpError.TheVariants as NdmpError;
 ghost use Rattle.tape_image.specs.Image.{faulty};

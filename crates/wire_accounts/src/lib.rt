@@ -3,7 +3,6 @@
 
 ghost use Rattle.std.specs.Prelude.{◌≡◌, true, false, ◌+◌, ◌≤◌, length, IfSome, MatchOption};
 ghost use Rattle.std.specs.Iterator.{YieldsFirstBy, at_most};
-ghost use Rattle.xdr.specs.Xdr.{same_bytes};
 ghost use Rattle.wire_accounts.specs.Accounts.{account_at, accounts_in, are_laid, entries_in, Laid};
 ghost use Rattle.wire_accounts.specs.Accounts.{is_digest, md5_matches, any_of};
 ghost use Rattle.wire_accounts.specs.Entry.{KindOf, entry_of, read_as};
