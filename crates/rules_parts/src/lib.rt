@@ -163,11 +163,11 @@ impl Mover {
     // The record size of a new session.
     pub const FIRST_SIZE: u32 = 10240;
 
-    // The last position of a stream, which no byte has.
-    pub const TOP: u64 = u64::MAX;
+    // The last position of a stream, which no byte has. The number is written out: rust/core's test reads these numbers.
+    pub const TOP: u64 = 18446744073709551615;
 
     // The length of a window with no end.
-    pub const ENDLESS: u64 = u64::MAX;
+    pub const ENDLESS: u64 = 18446744073709551615;
 
     // Whether a part of the stream ends above 2^64 - 1. The sum itself would overflow.
     #[tactic(auto, unfolding(crate::specs::Parts::is_past_top))]

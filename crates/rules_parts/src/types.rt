@@ -1,6 +1,6 @@
 // The session and its parts, and what calls return, by value. This file holds nothing but the declarations, so that a host in Rust can include
 // it as it is. C hands in any number and any flag here, and a broken session gets 1002: so states, modes and reasons are numbers, 0 is no reason and
-// no cartridge, and `challenged` stands beside the challenge.
+// no cartridge, and `challenged` stands beside the challenge. The `code` of Answer and of Moved is C's number too.
 
 // The data end. The reason is why it halted; address is the type of its address, LOCAL or TCP; processed counts the stream's bytes.
 #[repr(C)]
