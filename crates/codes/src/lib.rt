@@ -5,7 +5,7 @@ ghost use Rattle.std.specs.Prelude.{◌≡◌};
 ghost use Rattle.codes.specs.Codes.{AsWritten};
 ghost use Rattle.codes.specs.Errors.{number_of, ErrorsNumbered};
 
-// Refusals and outcomes, as 004 names them.
+// Refusals and outcomes, as 004 names them. Numbers beside NdmpError, since the wire, C and the definitions have numbers.
 pub const NOT_SUPPORTED: u32 = 1;
 
 pub const DEVICE_OPENED: u32 = 3;
@@ -125,8 +125,9 @@ pub fn as_written()
     ensures { AsWritten × ErrorsNumbered }
 {}
 
-// An error of 004 by its name: what a request is refused by. Its number stands in a reply.
-#[derive(Clone, Copy, Debug, PartialEq, Eq, Hash)]
+// An error of 004 by its name: what a request is refused by. Its number stands in a reply. AtMark and AtEnd are errors of 004 too,
+// though an operation of the tape tells them as outcomes.
+#[derive(Clone, Copy, Debug, PartialEq, Eq)]
 pub enum NdmpError {
     NotSupported,
     DeviceOpened,
