@@ -42,11 +42,14 @@ loop-left-preserved c = let more : c.loop-left.rest ≡ suc (c.loop-left.rest - 
 )
 
 pub returns-then-left-eq0 : goal.returns-then-left-eq0
-returns-then-left-eq0 c = sym (c.loop-left.invariant.2 ∙ walk_done _ _ _ _ _ _ c.if-left-eq0.true)
+returns-then-left-eq0 c = c.ended.ensures ∙ sym (c.loop-left.invariant.2 ∙ walk_done _ _ _ _ _ _ c.if-left-eq0.true)
 
 pub returns-then-rest-eq0 : goal.returns-then-rest-eq0
-returns-then-rest-eq0 c = sym (c.loop-left.invariant.2 ∙ walk_end _ _ _ _ _ _ c.if-left-eq0.false c.if-rest-eq0.true)
+returns-then-rest-eq0 c =
+    c.ended-then-rest-eq0.ensures
+    ∙ sym (c.loop-left.invariant.2 ∙ walk_end _ _ _ _ _ _ c.if-left-eq0.false c.if-rest-eq0.true)
 
 pub returns-then-not-marks : goal.returns-then-not-marks
 returns-then-not-marks c =
-    sym (c.loop-left.invariant.2 ∙ walk_stop _ _ _ _ _ _ c.if-left-eq0.false c.if-rest-eq0.false (ltb_no c.if-not-marks.true) (cc) ∙ (cc))
+    c.ended-then-not-marks.ensures
+    ∙ sym (c.loop-left.invariant.2 ∙ walk_stop _ _ _ _ _ _ c.if-left-eq0.false c.if-rest-eq0.false (ltb_no c.if-not-marks.true) (cc) ∙ (cc))
