@@ -40,7 +40,9 @@ pub extern "C" fn cartridge_write(image: &mut [u8], position: usize, bytes: &[u8
 pub extern "C" fn cartridge_mtio(image: &mut [u8], op: u32, position: usize, times: u32) -> Spaced
     ensures { Told (mtio_step image.old op position times) result image.new }
 {
-    tape_ops::mtio(image, op, position, times).unwrap_or_else(|error| Spaced::refused(position, error))
+    tape_ops::mtio(image, op, position, times).unwrap_or_else(|error| Spaced::refused(
+        position, error,
+    ))
 }
 
 // Reads the record at a position, up to a number of bytes, to the front of out. Where out is too short for them nothing is

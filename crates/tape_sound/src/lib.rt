@@ -45,7 +45,12 @@ fn table_sound(image: &[u8], entries: usize, total: usize) -> bool
 pub fn sound(image: &[u8]) -> bool
     ensures { result ≡ is_sound image.now }
 {
-    header_sound(image) && table_sound(image, tape_image::count(image), tape_image::used_bytes(image))
+    header_sound(image)
+        && table_sound(
+            image,
+            tape_image::count(image),
+            tape_image::used_bytes(image),
+        )
 }
 
 // The image is unsound, or the position is above its number of entries.
