@@ -8,6 +8,7 @@ ghost use Rattle.wire_layouts.specs.AddressLists.{AddressesGiven, empty_addresse
 ghost use Rattle.wire_layouts.specs.AddressCases.{AddressCases};
 
 // A text or opaque data in the body: where it starts, and how long it is.
+// A start and a length in place of a slice: a decoded request keeps no borrow of its record, and its definitions speak of places.
 #[derive(Clone, Copy)]
 pub struct Text {
     pub start: usize,

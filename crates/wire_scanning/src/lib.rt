@@ -251,7 +251,7 @@ pub fn scan_body(layout: &[Field], body: &[u8]) -> Option<Scan>
     Some(k)
 }
 
-// The count of a list.
+// The count of a list; 0 where no list was seen, as `count_seen` has it.
 #[tactic(auto, unfolding(wire_layouts::specs::AddressLists::count_seen))]
 fn count_of(seen: Option<Seen>) -> u32
     ensures { result ≡ count_seen seen }

@@ -8,6 +8,7 @@ ghost use Rattle.xdr_opaque.specs.Put.{Put, opaque};
 ghost use Rattle.xdr_opaque.specs.RoundTrip.{OpaqueRoundTrip};
 
 // Opaque data or a string in a slice: its bytes start at start and are len long; next is past the fill.
+// A start and a length in place of a slice: a decoded request keeps no borrow of its record, and its definitions speak of places.
 #[derive(Clone, Copy, Debug, PartialEq, Eq)]
 pub struct Opaque {
     pub start: usize,
