@@ -59,7 +59,7 @@ pub fn entry_at(image: &[u8], i: usize) -> Entry
     find_entry(image, i).unwrap_or_else(Entry::refused)
 }
 
-// What C gets of a read, by its place in the image.
+// What C gets of a read, by its place in the image. Image, position and times stay three parameters, as C gives them (`cartridge_read`).
 fn read_part(image: &[u8], position: usize, times: u32) -> Part
     ensures { result ≡ read_part image.now position times }
 {

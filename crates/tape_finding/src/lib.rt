@@ -13,7 +13,8 @@ use tape_spacing::{Direction, Spaced};
 // The bytes of a word.
 const WORD_SIZE: usize = 4;
 
-// Word j of the m that lie from an offset on.
+// Word j of the m that lie from an offset on. The image, the offset and m stay three parameters: `names_marks` judges any three, so that
+// a struct of them could promise nothing of them.
 #[tactic(auto, using(tape_marks::proofs::Words::word_listed))]
 fn listed(image: &[u8], at: usize, m: usize, j: usize) -> usize
     requires { (j < m) × (j < most_entries) × (at + j * 4 + 4 ≤ length image.now) }

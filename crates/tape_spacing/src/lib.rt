@@ -42,7 +42,7 @@ pub enum Direction {
 
 #[tactic(auto, unfolding(crate::specs::Spacing::ahead_of, crate::specs::Spacing::passes, crate::specs::Spacing::position_after))]
 impl Direction {
-    // Of FSF 0, BSF 1, FSR 2 and BSR 3, the even ones go forward.
+    // Of FSF 0, BSF 1, FSR 2 and BSR 3, the even ones go forward. The operation is the number that a request or C gives (`cartridge_mtio`).
     pub fn of(op: u32) -> Direction
         ensures { is_forward result ≡ goes_forward op }
     {
