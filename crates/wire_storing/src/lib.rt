@@ -26,6 +26,7 @@ fn pairs_laid(store: &[u8], count: u32) -> bool
 {
     let mut at: usize = 4;
     let mut sum: usize = 0;
+    // `i` is named by the invariant alone.
     for i in 0..count {
         let name = xdr::read_word(store, at + 4) as usize;
         let value = xdr::read_word(store, at + 12) as usize;
@@ -77,6 +78,19 @@ struct SentPairs<'a> {
     left: u32,
 }
 
+impl<'a> SentPairs<'a> {
+    // So many pairs of a body, from an offset on.
+    fn of(body: &'a [u8], at: usize, count: u32) -> SentPairs<'a>
+        ensures { sent result ≡ pairs_from body.now count at }
+    {
+        SentPairs {
+            body,
+            at,
+            left: count,
+        }
+    }
+}
+
 impl<'a> Iterator for SentPairs<'a> {
     type Item = (&'a [u8], &'a [u8]);
 
@@ -108,12 +122,7 @@ pub fn fit(body: &[u8], start: usize, count: u32) -> bool
         return false;
     }
     let mut room = codes::STORE_LENGTH - 4 - 16 * (count as usize);
-    let pairs = SentPairs {
-        body,
-        at: start,
-        left: count,
-    };
-    for (name, value) in pairs {
+    for (name, value) in SentPairs::of(body, start, count) {
         if room < name.len() {
             return false;
         }
@@ -163,11 +172,7 @@ pub fn keep(store: &mut [u8], body: &[u8], start: usize, count: u32)
     requires { (store_length ≤ length store.old) × (fits (pairs_from body.now count start) ≡ true) }
     ensures { store.new ≡ storing (pairs_from body.now count start) store.old }
 {
-    let pairs = SentPairs {
-        body,
-        at: start,
-        left: count,
-    };
+    let pairs = SentPairs::of(body, start, count);
     xdr::write_word(store, 0, count);
     keep_words(store, pairs);
     keep_texts(store, 4 + 16 * (count as usize), pairs);

@@ -8,7 +8,7 @@ pub returns-then-count-gt-MOST_LISTED : goal.returns-then-count-gt-MOST_LISTED
 returns-then-count-gt-MOST_LISTED c = sym (fits_many _ _ _ (omega arith))
 
 pub loop-name-init : goal.loop-name-init
-loop-name-init c = rw c.into_iter-name-iterator.ensures.into_iter_gives (omega arith, omega arith)
+loop-name-init c = rw (c.into_iter-name-iterator.ensures.into_iter_gives, c.of-name-items.ensures) (omega arith, omega arith)
 
 pub returns-then-room-name : goal.returns-then-room-name
 returns-then-room-name c = let e = size_next c.in-Some.ensures.steps in sym (fits_not _ _ _ (omega arith))
