@@ -7,7 +7,8 @@ use native.Mathlib.Omega.{arith}
 use lib.Dec.{eqb, leb}
 use lib.ListN.{length, take, drop}
 use borrow.Author.Tests.{le-leb, lt-leb, leb-true, eq-eqb, ne_eqb}
-use Rattle.std.specs.Prelude.{Option, Some, None, IsSome, ◌&&◌, ◌||◌}
+use Rattle.std.specs.Prelude.{Option, Some, None, Result, Ok, Err, MatchOption, IsSome, ◌&&◌, ◌||◌}
+use Rattle.std.specs.Result.{result_ok}
 use Rattle.codes.specs.Codes.{text_auth, md5_auth, most_accounts, longest_password}
 use Rattle.xdr.specs.Choose.{choose}
 use Rattle.xdr.specs.Xdr.{word, same_bytes}
@@ -19,10 +20,11 @@ use Rattle.wire_accounts.specs.Accounts.{AccountEntry, Accounts, none, these, br
 use Rattle.wire_accounts.specs.Accounts.{found, are_laid, entries_of, entries_in, Laid}
 use Rattle.wire_accounts.specs.Accounts.{is_kind, with_password, with_id, account_at, with_account, and_then, accounts_from}
 use Rattle.wire_accounts.specs.Accounts.{accounts_in, is_digestible, is_digest, md5_matches, any_of}
-use Rattle.wire_accounts.specs.Entry.{number_of, read_as}
+use Rattle.wire_accounts.specs.Entry.{number_of, KindOf, read_as}
 use Rattle.wire_accounts.specs.declared.Account.{Account}
 use Rattle.wire_accounts.specs.declared.Kind.{Kind}
 use Rattle.wire_accounts.specs.declared.Kind.TheVariants.{Text, Md5}
+use Rattle.wire_accounts.specs.declared.UnknownKind.{UnknownKind}
 
 -- ---- one account
 either : (t : Bool) → choose t none none ≡ none
@@ -240,3 +242,9 @@ module _ (p : AccountEntry → Bool) where
   pub going_end : {es rest : List AccountEntry} {some : Bool} → Going es some rest → rest ≡ [] → some ≡ any_of p es
   unfolding any_of
   going_end {some = some} g h = sym (g.so_far ∙ ap (λ (fs : List AccountEntry). choose some true (any_of p fs)) h ∙ end some)
+
+-- the kind that a number is read as, as an option
+pub of_kind : (n : ℕ) (r : Result Kind UnknownKind) (o : Option Kind) → o ≡ result_ok r → KindOf n r
+    → MatchOption o (is_kind n ≡ false) (λ k. number_of k ≡ n)
+of_kind n (Ok k) o e h = rw e h
+of_kind n (Err u) o e h = rw e h

@@ -53,9 +53,7 @@ pub fn account_at<'a>(accounts: &'a [u8], at: usize) -> Option<(Account<'a>, usi
     let number = word_at(accounts, at)?;
     let id = opaque_at(accounts, at + 4)?;
     let password = opaque_at(accounts, id.next)?;
-    let Ok(kind) = Kind::try_from(number) else {
-        return None;
-    };
+    let kind = Kind::try_from(number).ok()?;
     let account = Account {
         kind,
         id: &accounts[id.start..id.start + id.len],
@@ -75,6 +73,7 @@ pub fn is_laid(accounts: &[u8]) -> bool
         return false;
     }
     let mut at: usize = 4;
+    // `i` is named by the invariant alone.
     for i in 0..count {
         let Some((_, next)) = account_at(accounts, at) else {
             return false;

@@ -1,7 +1,8 @@
 use mathlib.Core.Path.{◌∙◌}
 use native.Mathlib.Omega.{arith}
+use Rattle.std.specs.Prelude.{Some, None}
 use Rattle.xdr_opaque.proofs.Laws.{word_within, opaque_within}
-use Rattle.wire_accounts.proofs.Laws.{no_word, no_id, no_password, no_kind, account_there}
+use Rattle.wire_accounts.proofs.Laws.{no_word, no_id, no_password, no_kind, of_kind, account_there}
 use Rattle.wire_accounts.proofs.account_at.Goals as goal
 
 pub returns-in_err-number-clause-read : goal.returns-in_err-number-clause-read
@@ -13,8 +14,9 @@ returns-in_err-id-clause-read c = rw c.from_residual-in_err-id.ensures (no_id _ 
 pub returns-in_err-password-clause-read : goal.returns-in_err-password-clause-read
 returns-in_err-password-clause-read c = rw c.from_residual-in_err-password.ensures (no_password _ _ _ c.in_ok-id.ensures c.in_err-password.ensures)
 
-pub returns-in_default-clause-read : goal.returns-in_default-clause-read
-returns-in_default-clause-read c = let w = word_within _ _ _ c.in_ok-number.ensures in no_kind _ _ _ w.1 c.in_default.ensures
+pub returns-in_err-kind-clause-read : goal.returns-in_err-kind-clause-read
+returns-in_err-kind-clause-read c = let w = word_within _ _ _ c.in_ok-number.ensures in
+    rw c.from_residual-in_err-kind.ensures (no_kind _ _ _ w.1 (of_kind _ _ None c.in_err-kind.ensures.value c.try_from.ensures))
 
 pub overflow_add-account : goal.overflow_add-account
 overflow_add-account c = omega (arith, opaque_within _ _ _ c.in_ok-id.ensures)
@@ -31,7 +33,7 @@ slice_bounds-account-end-2 c = let w = opaque_within _ _ _ c.in_ok-password.ensu
 pub returns-clause-read : goal.returns-clause-read
 returns-clause-read c =
     let w = word_within _ _ _ c.in_ok-number.ensures in
-    account_there _ _ _ _ _ (c.in-Ok.ensures ∙ w.1) c.in_ok-id.ensures c.in_ok-password.ensures
+    account_there _ _ _ _ _ (of_kind _ _ (Some _) c.in_ok-kind.ensures.value c.try_from.ensures ∙ w.1) c.in_ok-id.ensures c.in_ok-password.ensures
 
 pub returns-clause-within : goal.returns-clause-within
 returns-clause-within c = (opaque_within _ _ _ c.in_ok-password.ensures).1
