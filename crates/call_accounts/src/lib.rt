@@ -16,7 +16,7 @@ use xdr_opaque::put_bytes;
 // The least room that a listing must have: eight lines of twelve bytes.
 pub const LEAST_LISTING: usize = 96;
 
-// What a listing returns; len is how many bytes stand at the output's start.
+// What a listing returns; code is a number, as C has it, and len is how many bytes stand at the output's start.
 #[repr(C)]
 #[derive(Clone, Copy)]
 pub struct Listed {

@@ -1,5 +1,6 @@
 // The changer's elements, the slot list, moves and element status, as definitions. The list is nine words by value: the drive
-// first (element 1), then the slots (elements 16 to 23); 0 is an empty place, any other word a cartridge's number.
+// first (element 1), then the slots (elements 16 to 23); 0 is an empty place, any other word a cartridge's number:
+// the session has the list as words that C hands in.
 #![tactic(auto)]
 
 ghost use Rattle.changer_elements.specs.MovesHold.{ElementsHold};

@@ -34,7 +34,7 @@ pub fn place_of(element: u32) -> usize
     if element == DRIVE {
         return 0;
     }
-    (element - 15) as usize
+    (element - FIRST_SLOT + 1) as usize
 }
 
 // Whether a list names no cartridge twice.

@@ -138,7 +138,7 @@ impl<'a> Told<'a> {
         end
     }
 
-    // The first address that is reported; 0 where there is none.
+    // The first address that is reported; 0 where there is none, as the header's field has it.
     #[tactic(auto, unfolding(changer_elements::specs::Status::first_of))]
     fn first(self) -> u32
         ensures { (result ≡ first_of self.entry.es.now) × (result < 65536) }

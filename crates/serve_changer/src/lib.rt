@@ -82,6 +82,7 @@ fn request_sense(c: Changer, cdb: Cdb) -> Accepted
     ensures { Shows c (senses c cdb.entry.bytes.now cdb.entry.room) [] result }
 {
     let n = sense_length(cdb);
+    // Nothing is pending then.
     let next = c.refused(0, 0, 0);
     Accepted::Replies(Reply::Sense(n, c.key, c.code, c.qualifier), next)
 }
@@ -95,7 +96,8 @@ fn check(c: Changer, sense: Sense) -> Accepted
     Accepted::Replies(Reply::Check(sense.key, sense.code, sense.qualifier), next)
 }
 
-// MOVE MEDIUM; tape is whether the tape is open.
+// MOVE MEDIUM; tape is whether the tape is open. It stands beside the changer and the CDB, here and below, as the definitions
+// take it: only a move looks at it.
 #[tactic(auto, unfolding(rules::specs::ScsiService::moves))]
 fn move_medium(tape: bool, c: Changer, cdb: Cdb) -> Accepted
     ensures { Shows c (moves c (move_medium cdb.entry.bytes.now c.slots tape)) [] result }
@@ -158,6 +160,6 @@ pub fn serve(tape: bool, c: Changer, q: ScsiRequest, body: &[u8]) -> Result<Acce
         ScsiRequest::Cdb(cdb, room) => {
             let bytes = cdb.of(body);
             execute_cdb(tape, c, Cdb { bytes, room })
-        },
+        }
     }
 }

@@ -10,7 +10,7 @@ ghost use Rattle.wire_replies.specs.AuthReplies.{AuthReplies};
 ghost use Rattle.wire_replies.specs.EnvironmentReplies.{EnvironmentReplies};
 ghost use Rattle.wire_replies.specs.ScsiReplies.{ScsiReplies};
 
-// What get state tells of the data end.
+// What get state tells of the data end. States and reasons are the numbers that go onto the wire.
 #[repr(C)]
 #[derive(Clone, Copy)]
 pub struct DataView {
@@ -21,7 +21,7 @@ pub struct DataView {
     pub processed: u64,
 }
 
-// What get state tells of the mover.
+// What get state tells of the mover. Mode, state and reasons are the numbers that go onto the wire.
 #[repr(C)]
 #[derive(Clone, Copy)]
 pub struct MoverView {
@@ -72,7 +72,7 @@ pub enum Reply {
     MoverState(MoverView),
 }
 
-// What is sent unasked; a pause carries the kept seek position.
+// What is sent unasked, by the number of its reason on the wire; a pause carries the kept seek position.
 #[derive(Clone, Copy)]
 pub enum Notice {
     DataHalted(u32),

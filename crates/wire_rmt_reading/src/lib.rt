@@ -10,7 +10,7 @@ use wire_rmt::{Command, Number};
 
 const LAST_OPERATION: u32 = 5;
 
-// The digit at an offset.
+// The digit at an offset. `to_digit` would have to be given a `char` made of the byte, and is no shorter.
 #[tactic(auto, unfolding(xdr::specs::Choose::choose, wire_rmt::specs::Numbers::is_digit))]
 fn digit_at(s: &[u8], at: usize) -> Option<u32>
     ensures { MatchOption result (is_digit (get_or s.now at 0) ≡ false) (λ d. (is_digit (get_or s.now at 0) ≡ true) × (d ≡ get_or s.now at 0 - 48) × (at < length s.now)) }
@@ -36,13 +36,15 @@ fn ended(value: u32, s: &[u8], at: usize) -> Option<Number>
     })
 }
 
-// Up to ten digits.
+// Up to ten digits, and the line feed behind them. The library's `parse` takes a whole text, whose end is only found here by
+// reading, and takes a sign and any number of zeros before the digits.
 #[tactic(auto, using(wire_rmt::proofs::Laws::on_more), unfolding(xdr::specs::Choose::choose, wire_rmt::specs::Numbers::digits_on))]
 fn digits_at(s: &[u8], from: usize) -> Option<Number>
     ensures { result ≡ digits_on 10 0 s.now from }
 {
     let mut value: u32 = 0;
     let mut at = from;
+    // `i` is named by the invariant alone.
     for i in 0..10usize {
         let Some(digit) = digit_at(s, at) else {
             return ended(value, s, at);

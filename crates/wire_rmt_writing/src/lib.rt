@@ -38,7 +38,8 @@ fn digit_count(v: u32) -> usize
     v.max(1).ilog10() as usize + 1
 }
 
-// Writes a number in decimal, from its last digit on; returns the offset after it.
+// Writes a number in decimal, from its last digit on; returns the offset after it. The library prints by a `Formatter`,
+// not to a place of a buffer.
 fn put_decimal(out: &mut [u8], at: usize, v: u32) -> usize
     requires { at + most_digits ≤ length out.old }
     ensures { Put at (decimal v) out.old result out.new }
@@ -63,7 +64,7 @@ pub fn put_accepted(out: &mut [u8], at: usize, n: u32) -> usize
     next + 1
 }
 
-// The error that a number of NDMP is.
+// The error that a number of NDMP is. A number, since a reply's outcome is one too.
 #[tactic(auto, unfolding(xdr::specs::Choose::choose, wire_rmt::specs::Replies::error_of))]
 pub fn error_of(code: u32) -> UnixError
     ensures { number_of result ≡ error_of code }
