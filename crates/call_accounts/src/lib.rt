@@ -42,6 +42,7 @@ fn put_lines(out: &mut [u8], accounts: Accounts<'_>) -> usize
     ensures { Put 0 (lines_from 0 (to_come accounts.entry)) out.old result out.new }
 {
     let mut next: usize = 0;
+    // A byte, of which the line's digit is made: `enumerate` counts as `usize`, which would have to be narrowed at each line.
     let mut number: u8 = 0;
     for account in accounts {
         next = put_line(out, next, number, account.kind);
