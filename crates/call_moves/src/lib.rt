@@ -90,7 +90,8 @@ fn report(s: Session, mv: Move, time: u32, out: &mut [u8]) -> Moved
     }
 }
 
-// One move to tape: the session, the cartridge, a part of the stream and whether it is the last, the time stamp and the output.
+// One move to tape: the session, the cartridge, a part of the stream and whether it is the last, the time stamp and the output. It and the move
+// from tape lend the cartridge and the stream in different ways, so a function for both would take the move as a closure, and be no shorter.
 pub fn move_to_tape(
     s: Session,
     image: &mut [u8],

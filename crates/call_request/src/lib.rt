@@ -70,6 +70,8 @@ fn shown_of<'a>(q: DataRequest, list: &'a [u8], variables: &'a [u8]) -> &'a [u8]
     }
 }
 
+// The calls of data, tape, mover and both ends are of one shape, but each has its own service, its own part of the session and its own bytes that the
+// reply shows: a closure for each of the three would be longer than the match. None is inlined: the frames of all would add up on the stack.
 #[inline(never)]
 fn data_call(
     s: Session,

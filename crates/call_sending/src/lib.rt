@@ -37,6 +37,7 @@ pub fn finish(
 }
 
 // A refused request, of any message: its number among zero words, as the row of the message says, and the session as it was but counted.
+// Any number may be handed on, so it is no NdmpError: a public function asks no less.
 pub fn refuse(s: Session, error: u32, input: &[u8], time: u32, out: &mut [u8]) -> Answer
     requires { Ready input.now out.old }
     ensures { (image variables : List ℕ) → CallTold (replying input.now time (refused_in input.now error) [] (held s image variables)) result image variables out.old out.new }

@@ -10,7 +10,6 @@ use Rattle.codes.specs.Errors.{number_of}
 use Rattle.codes.specs.declared.NdmpError.{NdmpError}
 use Rattle.xdr.specs.Choose.{choose}
 use Rattle.rules.specs.Judge.{Test, test, first, Outcome, refuse, judge}
-use Rattle.rules.specs.Served.{told}
 use Rattle.rules.proofs.JudgeLaws.{numbered, judge_first}
 
 -- no error has the number 0

@@ -23,7 +23,6 @@ use Rattle.rules_parts.specs.Names.{least_room}
 use Rattle.rules.specs.Judge.{refuse, Accepts, Refuses}
 use Rattle.rules_parts.specs.Parts.{new_session}
 use Rattle.tape_ops.specs.Answers.{is_refusal}
-use Rattle.rules.specs.TapeService.{}
 use Rattle.rules.specs.Connection.{right_digest}
 use Rattle.rules.specs.Relation.{keeps}
 use Rattle.rules.specs.Answer.{Kept, Lent, held, Answered, answered, silent, closing, replying, message_in, request_in, verdict, refusing, refused_in}

@@ -16,7 +16,7 @@ use Rattle.wire_rmt.specs.Replies.{error_of, accepted, refused}
 use Rattle.rules.specs.Judge.{Outcome, refuse, accept}
 use Rattle.rules.specs.Answer.{Kept, Lent, Answered, Done, silent, guarded, verdict}
 
--- the tape request that a command is; what does not read is one whose body does not decode: "E22 for what does not read so .. in 18's place"
+-- the tape request that a command is
 unfoldable pub tape_request : Command → TapeRequest
 tape_request (Command.Open name mode) = TapeRequest.Open name (tape_mode mode)
 tape_request Command.Close = TapeRequest.Close
@@ -24,6 +24,7 @@ tape_request (Command.Read count) = TapeRequest.Read count
 tape_request (Command.Write bytes) = TapeRequest.Write bytes
 tape_request (Command.Operate op count) = TapeRequest.Mtio (mtio_of op) count
 
+-- what does not read is a request whose body does not decode: "E22 for what does not read so .. in 18's place"
 unfoldable pub rmt_request : Option Command → Request
 rmt_request (Some q) = Request.Tape (tape_request q)
 rmt_request None = Request.Bad

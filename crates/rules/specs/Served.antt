@@ -10,9 +10,9 @@ abbrev pub Served : Type 0 → Type 0
 Served A = Result (Accepted A) NdmpError
 
 -- the number of a refusal, or 0
-abbrev pub told : {A : Type 0} → Result A NdmpError → ℕ
-told (Ok x) = 0
-told (Err e) = number_of e
+abbrev pub error_told : {A : Type 0} → Result A NdmpError → ℕ
+error_told (Ok x) = 0
+error_told (Err e) = number_of e
 
 abbrev pub outcome_of : {A : Type 0} → Served A → Outcome A
 outcome_of (Err e) = refuse (number_of e)

@@ -24,7 +24,7 @@ pub struct Accepted<T> {
 pub type Served<T> = Result<Accepted<T>, NdmpError>;
 
 // Both ends after a joint request, and why each halted in it, or 0. The reasons are NDMP's, in which 0 is none, as in the session that C hands in.
-#[derive(Clone, Copy)]
+#[derive(Clone, Copy, Debug, PartialEq, Eq)]
 pub struct Ends {
     pub source: Data,
     pub mover: Mover,

@@ -38,10 +38,8 @@ fn is_digest_right(g: Login, accounts: &[u8], body: &[u8], id: Text, digest: Tex
     requires { Within body.now id × Within body.now digest }
     ensures { result ≡ right_digest g accounts.now (bytes_at body.now id) (bytes_at body.now digest) }
 {
-    if !g.challenged {
-        return false;
-    }
-    wire_accounts::lets_in_by_md5(accounts, id.of(body), &g.challenge, digest.of(body))
+    g.challenged
+        && wire_accounts::lets_in_by_md5(accounts, id.of(body), &g.challenge, digest.of(body))
 }
 
 // A login, right or wrong.

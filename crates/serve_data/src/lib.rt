@@ -121,7 +121,8 @@ fn stop(d: Data, variables: &mut [u8]) -> Served<Data>
     })
 }
 
-// A request of the data interface, the list that a listen by TCP is lent, and the store.
+// A request of the data interface, the list that a listen by TCP is lent, and the store. C lends a store of any length, and a request answers for a wrong
+// one: so the length is said by contracts, and the store is a slice.
 #[tactic(auto, unfolding(rules::specs::DataService::data_step, rules::specs::DataService::variables_after, wire_requests::specs::Within::texts_within))]
 pub fn serve(
     d: Data,

@@ -29,7 +29,7 @@ fn go_on(source: Data, mover: Mover) -> Ends
     }
 }
 
-// Both ends joined, with the tape at a position.
+// Both ends joined, with the tape at a position. The ends stand apart here and below, as the definitions have them: a struct of both would be taken apart at once.
 fn join(d: Data, m: Mover, mode: u32, position: usize) -> Ends
     ensures { result ≡ joined d m mode position }
 {
@@ -58,7 +58,7 @@ fn is_awaiting(address: u32, state: u32, listening: u32) -> bool
     address == codes::LOCAL_ADDRESS && state == listening
 }
 
-// Data joined: by TCP alone, by LOCAL with the mover.
+// Data joined: by TCP alone, by LOCAL with the mover. The mover's twin below joins another end, in a mode that is asked for: one function would test which.
 #[tactic(auto, unfolding(xdr::specs::Choose::choose))]
 fn data_connected(d: Data, m: Mover, address: u32, position: usize) -> Ends
     ensures { result ≡ choose (eqb address tcp_address) (source_joined d m) (joined d m m.mode position) }

@@ -5,7 +5,7 @@ ghost use Rattle.std.specs.Prelude.{◌≡◌, ℕ, List};
 ghost use Rattle.wire_requests.specs.Within.{texts_within};
 ghost use Rattle.wire_requests.specs.declared.Request.TheVariants as Request;
 ghost use Rattle.rules.specs.Judge.{first};
-ghost use Rattle.rules.specs.Served.{told};
+ghost use Rattle.rules.specs.Served.{error_told};
 ghost use Rattle.rules.specs.TapeService.{moved_to, after_mtio, protects, tape_open, tape_close, tape_state, tape_mtio, tape_write, tape_read, device_step};
 ghost use Rattle.serve_tape.specs.Done.{Tells, held_tests};
 
@@ -54,7 +54,7 @@ fn after_mtio(op: u32, t: Tape, position: usize) -> Tape
 // What all but open and get state ask: that the device is open, and that the mover does not hold the tape.
 #[tactic(auto, unfolding(xdr::specs::Choose::choose, rules::specs::Judge::first))]
 fn judge_held(mover: u32, t: Tape) -> Result<(), NdmpError>
-    ensures { told result ≡ first (held_tests mover t) }
+    ensures { error_told result ≡ first (held_tests mover t) }
 {
     if !t.opened {
         return Err(NdmpError::NotOpen);
@@ -119,6 +119,7 @@ fn get_state(t: Tape, image: &[u8]) -> Served<Tape>
     })
 }
 
+// The mover's state, the device and the image are no struct: of the mover only the state is looked at, and each request lends the image in its own way.
 fn mtio(mover: u32, t: Tape, image: &mut [u8], op: u32, times: u32) -> Served<Tape>
     ensures { Tells (tape_mtio mover t image.old op times) result image.old image.new }
 {

@@ -3,7 +3,7 @@
 
 ghost use Rattle.std.specs.Prelude.{◌≡◌};
 ghost use Rattle.rules.specs.Judge.{first};
-ghost use Rattle.rules.specs.Served.{told};
+ghost use Rattle.rules.specs.Served.{error_told};
 ghost use Rattle.rules.specs.MoverService.{offset_wrong, join_tests, busy, elsewhere};
 
 use codes::NdmpError;
@@ -20,7 +20,7 @@ pub fn is_offset_wrong(mode: u32, offset: u64) -> bool
 // What listen and connect both ask of the mover, with whether the address is wrong: the error of the first test that applies.
 #[tactic(auto, unfolding(xdr::specs::Choose::choose, rules::specs::Judge::first))]
 pub fn judge_join(m: Mover, t: Tape, mode: u32, wrong: bool) -> Result<(), NdmpError>
-    ensures { told result ≡ first (join_tests m t mode wrong) }
+    ensures { error_told result ≡ first (join_tests m t mode wrong) }
 {
     if !t.opened {
         return Err(NdmpError::NotOpen);
