@@ -12,7 +12,7 @@ pub enum HexError {
     NoRoom,
 }
 
-// The value of a digit.
+// The value of a digit, by hand: `to_digit` would take capitals too.
 #[tactic(auto, using(crate::proofs::Laws::digits))]
 fn digit(c: u8) -> Option<u8>
     ensures value { result ≡ digit_of c }
@@ -48,6 +48,8 @@ pub fn decode(text: &[u8], out: &mut [u8]) -> Result<usize, HexError>
     ensures { Reads text.now (length out.old) out.new result }
 {
     let mut rest = text;
+    // `let .. else` twice: with `ok_or(..)?` the proof of what a text holds did not close.
+    // Counted here: not every turn of the walk writes a byte.
     let mut n = 0;
     while let Some((&first, behind)) = rest.split_first() {
         rest = behind;

@@ -87,7 +87,7 @@ pub struct Registers {
     pub d: u32,
 }
 
-// The word at an offset, its low byte first.
+// The word at an offset, its low byte first. xdr::read_word has the other order; a parameter for it would be the same at every call.
 fn read_le(s: &[u8], at: usize) -> u32
     requires { at + 4 ≤ length s.now }
     ensures { result ≡ le_word s.now at }
@@ -97,6 +97,7 @@ fn read_le(s: &[u8], at: usize) -> u32
 
 // The 16 operations of a round, by what the round has of its own: how far each rotates its sum, again with every four, its auxiliary
 // function, and which word of the block operation i takes.
+// A block stays a slice, as read_le takes it: `&[u8; 64]` would only move the clause on its length into the cut in `process`.
 fn one_round<M: Fn(u32, u32, u32) -> u32, W: Fn(usize) -> usize>(
     round: usize,
     shifts: [u32; 4],
@@ -183,6 +184,7 @@ fn compress(block: &[u8], p: Registers) -> Registers
 }
 
 // The blocks at the front of a message.
+// By the block's number, as the contract counts them: `chunks_exact(64)` would need a `take(count)`, and the proof the number again.
 fn process(m: &[u8], count: usize, start: Registers) -> Registers
     requires { count * 64 ≤ length m.now }
     ensures { result ≡ processed count m.now start }

@@ -1,4 +1,4 @@
-// The parts of a line.
+// The parts of a line. Labels are byte strings, written as they stand: `write!` prints none.
 use std::io;
 use std::io::Write;
 
@@ -14,6 +14,7 @@ pub fn put_number(out: &mut impl Write, label: &[u8], n: u64) -> io::Result<()> 
 // The words from byte 28 up to an end, or up to the last: the body of a reply.
 pub fn put_body(out: &mut impl Write, s: &[u8], end: usize) -> io::Result<()> {
     let stop = end.min(s.len());
+    // By the place of each word, as read_word takes it: fewer than four bytes at the end are no word.
     let mut at: usize = 28;
     while at < stop {
         if stop - at < 4 {

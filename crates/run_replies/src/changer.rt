@@ -1,22 +1,16 @@
 // The replies to the changer's CDBs: each sense of a refused one, and the status of elements, whole and cut, of a slot list with the cartridge 9 in the
 // drive, 3 in slot 17 and 7 in slot 23.
-ghost use Rattle.std.specs.Prelude.{◌≤◌};
-
 use super::sending::{refuse, send};
 use changer_elements::Asked;
 use std::io;
 use std::io::Write;
 use wire_replies::Reply;
 
-fn check(out: &mut impl Write, name: &str, n: u32, code: u8, qualifier: u8) -> io::Result<()>
-    requires { n ≤ 100 }
-{
+fn check(out: &mut impl Write, name: &str, n: u32, code: u8, qualifier: u8) -> io::Result<()> {
     send(out, name, n, 0x206, Reply::Check(5, code, qualifier), b"")
 }
 
-fn status(out: &mut impl Write, name: &str, n: u32, asked: Asked) -> io::Result<()>
-    requires { n ≤ 100 }
-{
+fn status(out: &mut impl Write, name: &str, n: u32, asked: Asked) -> io::Result<()> {
     let mut bytes = [0xAAu8; codes::MOST_STATUS];
     let len = changer_status::write_status(&mut bytes, asked, [9, 0, 3, 0, 0, 0, 0, 0, 7]);
     send(out, name, n, 0x206, Reply::Elements, &bytes[..len])

@@ -45,10 +45,12 @@ pub fn send(
     reply: Reply,
     image: &[u8],
 ) -> io::Result<()>
-    requires { (n ≤ 100) × Sending reply image.now }
+    requires { Sending reply image.now }
 {
     let mut sent = [0xAAu8; codes::LARGEST_MESSAGE];
-    let end = put_reply(&mut sent, n, n + 1000, message, n + 500, reply, image);
+    let time = n.wrapping_add(1000);
+    let echo = n.wrapping_add(500);
+    let end = put_reply(&mut sent, n, time, message, echo, reply, image);
     put_sent(out, name, &sent, end)
 }
 
@@ -62,7 +64,7 @@ pub fn refuse(
     error: u32,
     after: u32,
 ) -> io::Result<()>
-    requires { (n ≤ 100) × (before + after ≤ 17) }
+    requires { before + after ≤ 17 }
 {
     send(
         out,

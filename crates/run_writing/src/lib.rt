@@ -3,7 +3,7 @@
 
 use std::fmt;
 
-// Bytes that are printed in hex, two digits each.
+// Bytes that are printed in hex, two digits each. No contract says so: what the programs print is compared with their stdout.
 #[derive(Clone, Copy, Debug)]
 pub struct Hex<'a>(pub &'a [u8]);
 
