@@ -29,7 +29,8 @@ fn go_on(source: Data, mover: Mover) -> Ends
     }
 }
 
-// Both ends joined, with the tape at a position. The ends stand apart here and below, as the definitions have them: a struct of both would be taken apart at once.
+// Both ends joined, with the tape at a position. The ends stand apart here and below, as the definitions have them: a struct of both would be
+// taken apart at once.
 fn join(d: Data, m: Mover, mode: u32, position: usize) -> Ends
     ensures { result ≡ joined d m mode position }
 {
