@@ -1,7 +1,7 @@
-// The calls of a case, each printed with what it gave. The session, the cartridge and the store are passed on.
+// The calls of a case, each printed with what it gave. The session, the cartridge and the store are passed on apart, as the calls lend them: some take no store.
 ghost use Rattle.std.specs.Prelude.{◌≡◌, ◌≤◌, length};
 
-use super::line::{put, put_body, put_number};
+use super::line::put_body;
 use rules_parts::types::Session;
 use std::io;
 use std::io::Write;
@@ -19,7 +19,7 @@ fn write_request(out: &mut [u8], message: u32, body: &[u32])
 // A request: its message number and the words of its body.
 pub fn ask(
     out: &mut impl Write,
-    label: &[u8],
+    label: &str,
     s: Session,
     image: &mut [u8],
     store: &mut [u8],
@@ -31,7 +31,7 @@ pub fn ask(
     let mut record = [0u8; 60];
     write_request(&mut record, message, body);
     let end = 28 + body.len() * 4;
-    put(out, label)?;
+    write!(out, "{label}")?;
     answer(out, s, image, store, &record[..end])
 }
 
@@ -83,7 +83,7 @@ fn answer(
     let a = call_request::request(
         s, &accounts, &challenge, &list, false, image, store, record, 0, &mut sent,
     );
-    put(out, b":")?;
+    write!(out, ":")?;
     put_body(out, &sent, a.len)?;
     Ok(a.session)
 }
@@ -95,8 +95,8 @@ const SLOTS: [u32; 9] = [1, 0, 0, 0, 0, 0, 0, 0, 0];
 fn begin(out: &mut impl Write, image: &mut [u8], store: &mut [u8]) -> io::Result<Session> {
     let mut sent = [0u8; codes::LARGEST_MESSAGE];
     let a = call_request::open(SLOTS, 0, &mut sent);
-    let s = ask(out, b"  connect open", a.session, image, store, 2304, &[4])?;
-    ask(out, b"  auth attributes", s, image, store, 259, &[2])
+    let s = ask(out, "  connect open", a.session, image, store, 2304, &[4])?;
+    ask(out, "  auth attributes", s, image, store, 259, &[2])
 }
 
 // A new session that has logged in by MD5: the digest is of pw, 60 zeros, the challenge and pw again.
@@ -104,7 +104,7 @@ pub fn login(out: &mut impl Write, image: &mut [u8], store: &mut [u8]) -> io::Re
     let s = begin(out, image, store)?;
     ask(
         out,
-        b"  client auth",
+        "  client auth",
         s,
         image,
         store,
@@ -135,7 +135,7 @@ pub fn set_size(
 ) -> io::Result<Session> {
     ask(
         out,
-        b"  set record size 1024",
+        "  set record size 1024",
         s,
         image,
         store,
@@ -152,15 +152,14 @@ pub fn set_window(
     offset: u64,
     length: u64,
 ) -> io::Result<Session> {
-    put_number(out, b"  set window ", offset)?;
-    put_number(out, b" ", length)?;
+    write!(out, "  set window {offset} {length}")?;
     let body = [
         (offset / 4294967296) as u32,
         (offset % 4294967296) as u32,
         (length / 4294967296) as u32,
         (length % 4294967296) as u32,
     ];
-    ask(out, b"", s, image, store, 2565, &body)
+    ask(out, "", s, image, store, 2565, &body)
 }
 
 // Tape open, of `tape0`, for writing.
@@ -172,7 +171,7 @@ pub fn open_tape(
 ) -> io::Result<Session> {
     ask(
         out,
-        b"  tape open",
+        "  tape open",
         s,
         image,
         store,
@@ -188,7 +187,7 @@ pub fn listen(
     image: &mut [u8],
     store: &mut [u8],
 ) -> io::Result<Session> {
-    ask(out, b"  mover listen", s, image, store, 2561, &[0, 0])
+    ask(out, "  mover listen", s, image, store, 2561, &[0, 0])
 }
 
 // Mover listen, in mode 0 by TCP.
@@ -198,26 +197,17 @@ pub fn listen_tcp(
     image: &mut [u8],
     store: &mut [u8],
 ) -> io::Result<Session> {
-    ask(
-        out,
-        b"  mover listen by TCP",
-        s,
-        image,
-        store,
-        2561,
-        &[0, 1],
-    )
+    ask(out, "  mover listen by TCP", s, image, store, 2561, &[0, 1])
 }
 
 // What a move or an event came to.
 fn show(out: &mut impl Write, s: &Session) -> io::Result<()> {
-    put_number(out, b", state ", s.mover.state as u64)?;
-    put_number(out, b", pause ", s.mover.pause as u64)?;
-    put_number(out, b", halt ", s.mover.halt as u64)?;
-    put_number(out, b", moved ", s.mover.moved)?;
-    put_number(out, b", processed ", s.source.processed)?;
-    put_number(out, b", position ", s.tape.position as u64)?;
-    put(out, b"\n")
+    write!(out, ", state {}", s.mover.state)?;
+    write!(out, ", pause {}", s.mover.pause)?;
+    write!(out, ", halt {}", s.mover.halt)?;
+    write!(out, ", moved {}", s.mover.moved)?;
+    write!(out, ", processed {}", s.source.processed)?;
+    writeln!(out, ", position {}", s.tape.position)
 }
 
 // A move to tape.
@@ -230,11 +220,11 @@ fn feed(
 ) -> io::Result<Session> {
     let mut sent = [0u8; codes::LARGEST_MESSAGE];
     let r = call_moves::move_to_tape(s, image, stream, last, 0, &mut sent);
-    put_number(out, b"  move of ", stream.len() as u64)?;
+    write!(out, "  move of {}", stream.len())?;
     if last {
-        put(out, b", the last")?;
+        write!(out, ", the last")?;
     }
-    put_number(out, b": taken ", r.count as u64)?;
+    write!(out, ": taken {}", r.count)?;
     show(out, &r.session)?;
     Ok(r.session)
 }
@@ -258,7 +248,7 @@ pub fn feed_from(
 pub fn make(out: &mut impl Write, s: Session) -> io::Result<Session> {
     let mut sent = [0u8; codes::LARGEST_MESSAGE];
     let a = call_moves::made(s, true, 0, &mut sent);
-    put(out, b"  made")?;
+    write!(out, "  made")?;
     show(out, &a.session)?;
     Ok(a.session)
 }
@@ -267,6 +257,6 @@ pub fn make(out: &mut impl Write, s: Session) -> io::Result<Session> {
 pub fn lose(out: &mut impl Write, s: Session) -> io::Result<()> {
     let mut sent = [0u8; codes::LARGEST_MESSAGE];
     let a = call_moves::lost(s, true, 0, &mut sent);
-    put(out, b"  lost")?;
+    write!(out, "  lost")?;
     show(out, &a.session)
 }

@@ -2,12 +2,9 @@
 // `rules_cases::examples_hold` proves the same cases of the definitions.
 #![tactic(auto)]
 
-ghost use Rattle.std.specs.Prelude.{◌≤◌};
-
 mod calls; // calls.rt: the calls of a case, each printed
-mod line; // line.rt: the parts of a line
+mod line; // line.rt: the body of a reply
 
-use line::{put, put_number};
 use rules_parts::types::Session;
 use std::io;
 use std::io::Write;
@@ -21,8 +18,8 @@ fn blank() -> [u8; 4144] {
 }
 
 // Cases a, b, d, e and f: one window.
-fn window_case(out: &mut impl Write, label: &[u8], offset: u64, length: u64) -> io::Result<()> {
-    put(out, label)?;
+fn window_case(out: &mut impl Write, label: &str, offset: u64, length: u64) -> io::Result<()> {
+    writeln!(out, "{label}")?;
     let mut image = blank();
     let mut store = [0u8; codes::STORE_LENGTH];
     let s = calls::prepare(out, &mut image, &mut store)?;
@@ -43,7 +40,7 @@ fn set_first(
 }
 
 fn case_c(out: &mut impl Write) -> io::Result<()> {
-    put(out, b"c\n")?;
+    writeln!(out, "c")?;
     let mut image = blank();
     let mut store = [0u8; codes::STORE_LENGTH];
     let windowed = set_first(out, &mut image, &mut store, 4096)?;
@@ -59,10 +56,10 @@ fn start(
     image: &mut [u8],
     store: &mut [u8],
 ) -> io::Result<Session> {
-    let joined = calls::ask(out, b"  data connect", s, image, store, 1034, &[0])?;
+    let joined = calls::ask(out, "  data connect", s, image, store, 1034, &[0])?;
     calls::ask(
         out,
-        b"  start backup",
+        "  start backup",
         joined,
         image,
         store,
@@ -84,7 +81,7 @@ fn case_g(
     store: &mut [u8],
     stream: &[u8],
 ) -> io::Result<Session> {
-    put(out, b"g\n")?;
+    writeln!(out, "g")?;
     let s = run(out, image, store)?;
     let one = calls::feed_from(out, s, image, stream, 0, false)?;
     let two = calls::feed_from(out, one, image, stream, 1024, false)?;
@@ -98,30 +95,12 @@ fn case_h(
     store: &mut [u8],
     stream: &[u8],
 ) -> io::Result<Session> {
-    put(out, b"h\n")?;
+    writeln!(out, "h")?;
     let windowed = calls::set_window(out, s, image, store, 2048, 1024)?;
-    let running = calls::ask(out, b"  mover continue", windowed, image, store, 2562, &[])?;
+    let running = calls::ask(out, "  mover continue", windowed, image, store, 2562, &[])?;
     let done = calls::feed_from(out, running, image, stream, 2048, true)?;
     show_body(out, image, stream)?;
     Ok(done)
-}
-
-// 1 for a zero byte.
-fn is_zero(b: u8) -> usize
-    ensures { result ≤ 1 }
-{
-    if b == 0 {
-        return 1;
-    }
-    0
-}
-
-fn zeros(s: &[u8]) -> usize {
-    let mut n: usize = 0;
-    for b in s {
-        n += is_zero(*b);
-    }
-    n
 }
 
 // Whether the body has the stream, and how many zeros the rest of its last record has.
@@ -130,11 +109,10 @@ fn show_body(out: &mut impl Write, image: &[u8], stream: &[u8]) -> io::Result<()
         return Ok(());
     }
     if xdr::same(&image[48..3048], stream) {
-        put(out, b"  on tape: the stream")?;
+        write!(out, "  on tape: the stream")?;
     }
-    let n = zeros(&image[3048..3120]);
-    put_number(out, b", then zeros: ", n as u64)?;
-    put(out, b"\n")
+    let zeros = image[3048..3120].iter().filter(|b| **b == 0).count();
+    writeln!(out, ", then zeros: {zeros}")
 }
 
 // Cases g, h and i, one after the other.
@@ -143,36 +121,27 @@ fn cases_g_to_i(out: &mut impl Write, stream: &[u8]) -> io::Result<()> {
     let mut store = [0u8; codes::STORE_LENGTH];
     let s = case_g(out, &mut image, &mut store, stream)?;
     let done = case_h(out, s, &mut image, &mut store, stream)?;
-    put(out, b"i\n")?;
+    writeln!(out, "i")?;
     calls::feed_from(out, done, &mut image, stream, 3000, true)?;
     Ok(())
 }
 
 // A cartridge with the entries record, mark, record: 4 entries at most, 64 bytes.
 fn case_j(out: &mut impl Write) -> io::Result<()> {
-    put(out, b"j\n")?;
+    writeln!(out, "j")?;
     let mut image = [0u8; 112];
     let words = [1, 4, 3, 3, 2, 0, 0, 2, 1, 2, 0, 0];
     xdr::write_words(&mut image, 0, &words);
     let mut store = [0u8; codes::STORE_LENGTH];
     let s = calls::login(out, &mut image, &mut store)?;
     let opened = calls::open_tape(out, s, &mut image, &mut store)?;
-    let spaced = calls::ask(
-        out,
-        b"  FSR 3",
-        opened,
-        &mut image,
-        &mut store,
-        771,
-        &[2, 3],
-    )?;
-    put_number(out, b"  position ", spaced.tape.position as u64)?;
-    put(out, b"\n")
+    let spaced = calls::ask(out, "  FSR 3", opened, &mut image, &mut store, 771, &[2, 3])?;
+    writeln!(out, "  position {}", spaced.tape.position)
 }
 
 // A mover by TCP: its connection is made, a record comes, and the connection is lost.
 fn case_tcp(out: &mut impl Write, stream: &[u8]) -> io::Result<()> {
-    put(out, b"by TCP\n")?;
+    writeln!(out, "by TCP")?;
     let mut image = blank();
     let mut store = [0u8; codes::STORE_LENGTH];
     let s = set_first(out, &mut image, &mut store, 2048)?;
@@ -184,13 +153,13 @@ fn case_tcp(out: &mut impl Write, stream: &[u8]) -> io::Result<()> {
 
 // The cases of one request or a few, on cartridges of their own.
 fn cases_a_to_f(out: &mut impl Write) -> io::Result<()> {
-    window_case(out, b"a\n", 0, 4096)?;
-    window_case(out, b"b\n", 512, 4096)?;
+    window_case(out, "a", 0, 4096)?;
+    window_case(out, "b", 512, 4096)?;
     case_c(out)?;
-    window_case(out, b"d\n", 0, 0)?;
-    window_case(out, b"d, the other\n", 0, 1536)?;
-    window_case(out, b"e\n", 18446744073709549568, 1024)?;
-    window_case(out, b"f\n", 18446744073709550592, 1024)
+    window_case(out, "d", 0, 0)?;
+    window_case(out, "d, the other", 0, 1536)?;
+    window_case(out, "e", 18446744073709549568, 1024)?;
+    window_case(out, "f", 18446744073709550592, 1024)
 }
 
 fn main(rt: HostRuntime) -> io::Result<()> {
