@@ -488,13 +488,6 @@ end_turn ok d m t k =
     (λ _. record { register = refl; kept = halts_keep d m t k why 1 }))
     (λ _. record { register = refl; kept = k })
 
--- where the data end is ACTIVE, both halt, or it alone
-pub end_halts : (ok : Bool) (d : Data) (m : Mover) (t : Tape) (r : Move) (why : ℕ) → r ≡ choose (eqb d.address 1) (halts_source why d m t) (halts why 1 d m t)
-    → why ≡ choose ok 1 3 → d.state ≡ 1 → r ≡ method_end ok d m t
-unfolding method_end choose
-end_halts ok d m t r why e w s =
-    rw (eq-eqb d.state 1 s) (e ∙ ap (λ (k : ℕ). choose (eqb d.address 1) (halts_source k d m t) (halts k 1 d m t)) w)
-
 -- ---- connections made and lost
 pub by_address : (address : ℕ) (there : Bool) → at_tcp address there ≡ true → (address ≡ 1) × (there ≡ true)
 unfolding at_tcp
