@@ -140,9 +140,6 @@ pub room_there : (k : Kept) (l : Lent) {n : ℕ} → n ≡ room_of k l → least
 room_there k l h g = let z : least_room ≤ room_of k l = rw h at g in (roomy k l z, stored k l z)
 
 -- ---- a reply by the bytes that it shows
-pub sends_as : (reply : Reply) {x y : List ℕ} → x ≡ y → Sendable reply y → Sendable reply x
-sends_as reply e t = rw e t
-
 pub shows_as : (r : List ℕ) (time : ℕ) (reply : Reply) (k : Kept) {a : Answer} {image variables l l' x y : List ℕ} → x ≡ y
     → CallTold (replying r time reply x k) a image variables l l' → CallTold (replying r time reply y k) a image variables l l'
 shows_as r time reply k e c = rw e at c
