@@ -180,24 +180,16 @@ pub fn open_tape(
     )
 }
 
-// Mover listen, in mode 0 at LOCAL.
+// Mover listen, in mode 0, by an address of a type.
 pub fn listen(
     out: &mut impl Write,
+    label: &str,
     s: Session,
     image: &mut [u8],
     store: &mut [u8],
+    address: u32,
 ) -> io::Result<Session> {
-    ask(out, "  mover listen", s, image, store, 2561, &[0, 0])
-}
-
-// Mover listen, in mode 0 by TCP.
-pub fn listen_tcp(
-    out: &mut impl Write,
-    s: Session,
-    image: &mut [u8],
-    store: &mut [u8],
-) -> io::Result<Session> {
-    ask(out, "  mover listen by TCP", s, image, store, 2561, &[0, 1])
+    ask(out, label, s, image, store, 2561, &[0, address])
 }
 
 // What a move or an event came to.

@@ -45,7 +45,14 @@ fn case_c(out: &mut impl Write) -> io::Result<()> {
     let mut store = [0u8; codes::STORE_LENGTH];
     let windowed = set_first(out, &mut image, &mut store, 4096)?;
     let sized = calls::set_size(out, windowed, &mut image, &mut store)?;
-    calls::listen(out, sized, &mut image, &mut store)?;
+    calls::listen(
+        out,
+        "  mover listen",
+        sized,
+        &mut image,
+        &mut store,
+        codes::LOCAL_ADDRESS,
+    )?;
     Ok(())
 }
 
@@ -71,7 +78,14 @@ fn start(
 // A backup under way, with a window of 2,048 bytes.
 fn run(out: &mut impl Write, image: &mut [u8], store: &mut [u8]) -> io::Result<Session> {
     let windowed = set_first(out, image, store, 2048)?;
-    let listening = calls::listen(out, windowed, image, store)?;
+    let listening = calls::listen(
+        out,
+        "  mover listen",
+        windowed,
+        image,
+        store,
+        codes::LOCAL_ADDRESS,
+    )?;
     start(out, listening, image, store)
 }
 
@@ -145,7 +159,14 @@ fn case_tcp(out: &mut impl Write, stream: &[u8]) -> io::Result<()> {
     let mut image = blank();
     let mut store = [0u8; codes::STORE_LENGTH];
     let s = set_first(out, &mut image, &mut store, 2048)?;
-    let listening = calls::listen_tcp(out, s, &mut image, &mut store)?;
+    let listening = calls::listen(
+        out,
+        "  mover listen by TCP",
+        s,
+        &mut image,
+        &mut store,
+        codes::TCP_ADDRESS,
+    )?;
     let joined = calls::make(out, listening)?;
     let fed = calls::feed_from(out, joined, &mut image, stream, 0, false)?;
     calls::lose(out, fed)
