@@ -32,7 +32,9 @@ fn open(fresh: bool, g: Login, version: u32) -> Served<Login>
     })
 }
 
-// Whether an MD5 login is right, judged by the challenge that the client was given last.
+// Whether an MD5 login is right, judged by the challenge that the client was given last. Not inlined: the digest's
+// frame is gone before the reply is written.
+#[inline(never)]
 #[tactic(auto, unfolding(xdr::specs::Choose::choose, rules::specs::Connection::right_digest))]
 fn is_digest_right(g: Login, accounts: &[u8], body: &[u8], id: Text, digest: Text) -> bool
     requires { Within body.now id × Within body.now digest }
