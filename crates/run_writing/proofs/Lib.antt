@@ -1,0 +1,2 @@
+-- `Turn` is what one byte adds
+pub mod Turn
