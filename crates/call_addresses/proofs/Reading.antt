@@ -15,6 +15,7 @@ use Rattle.wire_frame.specs.Frame.{well_framed, kind_of, message_word, body_of, 
 use Rattle.wire_frame.specs.Messages.{row_of, message_of}
 use Rattle.wire_frame.specs.declared.JointKind.{JointKind}
 use Rattle.wire_frame.specs.declared.Message.{Message}
+use Rattle.std.specs.Prelude.{Option, Some, None}
 use Rattle.std.specs.declared.result.Result.{Result}
 use Rattle.std.specs.declared.result.Result.TheVariants.{Err}
 use Rattle.wire_frame.specs.declared.Frame.{Frame}
@@ -31,17 +32,45 @@ use Rattle.wire_layouts.specs.declared.Addresses.{Addresses}
 use Rattle.wire_layouts.proofs.AddressLists.{addresses_given}
 use Rattle.wire_layouts.proofs.AddressTypes.{type_judged}
 use Rattle.wire_requests.specs.Bodies.{connect_fields, layout_of, joint_of, request_of, or_bad, decoded}
+use Rattle.wire_requests.specs.Bodies.{connect_body, config_body, scsi_body, tape_body, data_body, mover_body, joint_body}
 use Rattle.wire_requests.specs.RoundTrip.{Known}
-use Rattle.wire_requests.specs.declared.JointRequest.TheVariants as JointRequest
+use Rattle.wire_requests.specs.declared.JointRequest.{JointRequest}
 use Rattle.wire_requests.specs.declared.Request.{Request}
 use Rattle.wire_requests.specs.declared.Request.TheVariants.{Connect, Config, Scsi, Tape, Data, Mover, Joint, Unknown, Bad}
 use Rattle.wire_requests.proofs.Laws.{by_layout, decoded_has}
 use Rattle.call_addresses.specs.Reading.{by_type, of_joint, of_request, of_frame, addresses_in, request_in, Asks, ListGiven}
 
 -- ---- the code: the request of a number is that of the message that it names
-pub by_number : (number : ℕ) (b : List ℕ) {row : Row} {q : Request} {a : Addresses} → row ≡ row_of number → q ≡ decoded row.kind b → a ≡ of_request q b
+pub by_number : (number : ℕ) (b : List ℕ) {row : Row} {a : Addresses} → row ≡ row_of number → a ≡ of_request (decoded row.kind b) b
     → a ≡ of_request (decoded (message_of number) b) b
-by_number number b e d h = h ∙ ap (λ (q : Request). of_request q b) (d ∙ ap (λ (row : Row). decoded row.kind b) e)
+by_number number b e h = h ∙ ap (λ (row : Row). of_request (decoded row.kind b) b) e
+
+-- a joint message and its request; a body that is none
+pub by_joint : (k : JointKind) (b : List ℕ) {q : JointRequest} → Some q ≡ joint_body k b → of_joint q b ≡ of_request (decoded (Message.Joint k) b) b
+unfolding decoded of_request
+by_joint k b e = rw (← e) refl
+
+pub by_no_joint : (k : JointKind) (b : List ℕ) → None ≡ joint_body k b → empty_addresses 0 ≡ of_request (decoded (Message.Joint k) b) b
+unfolding decoded of_request
+by_no_joint k b e = rw (← e) refl
+
+-- a message that is none of the joint ones
+module _ {A : Type 0} (b : List ℕ) (f : A → Request) where
+  none_of : ((x : A) → empty_addresses 0 ≡ of_request (f x) b) → (o : Option A) → empty_addresses 0 ≡ of_request (or_bad f o) b
+  unfolding of_request
+  none_of h (Some x) = h x
+  none_of h None = refl
+
+pub by_other : (m : Message) (b : List ℕ) → ((k : JointKind) → m ≡ Message.Joint k → ⊥) → empty_addresses 0 ≡ of_request (decoded m b) b
+unfolding decoded of_request
+by_other (Message.Connect k) b h = none_of b Connect (λ x. refl) (connect_body k b)
+by_other (Message.Config k) b h = none_of b Config (λ x. refl) (config_body k b)
+by_other (Message.Scsi k) b h = none_of b Scsi (λ x. refl) (scsi_body k b)
+by_other (Message.Tape k) b h = none_of b Tape (λ x. refl) (tape_body k b)
+by_other (Message.Data k) b h = none_of b Data (λ x. refl) (data_body k b)
+by_other (Message.Mover k) b h = none_of b Mover (λ x. refl) (mover_body k b)
+by_other (Message.Joint k) b h = absurd (h k refl)
+by_other Message.Unknown b h = refl
 
 pub by_frame : (r : List ℕ) {f : Result Frame Unframed} {a : Addresses} → f ≡ framed r → a ≡ of_frame f (body_of r) → a ≡ addresses_in r
 unfolding addresses_in

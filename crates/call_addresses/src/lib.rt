@@ -6,8 +6,9 @@ ghost use Rattle.wire_frame.specs.Messages.{message_of};
 ghost use Rattle.wire_requests.specs.Bodies.{decoded};
 ghost use Rattle.call_addresses.specs.Reading.{by_type, of_joint, of_request, addresses_in, ReaderHolds};
 
+use wire_frame::Message;
 use wire_layouts::Addresses;
-use wire_requests::{JointRequest, Request};
+use wire_requests::JointRequest;
 
 // The list at an offset of a connect's body, where its address type is TCP.
 #[tactic(auto, unfolding(crate::specs::Reading::by_type, xdr::specs::Choose::choose))]
@@ -34,15 +35,24 @@ fn of_joint(q: JointRequest, body: &[u8]) -> Addresses
     }
 }
 
-#[tactic(auto, using(crate::proofs::Reading::by_number), unfolding(crate::specs::Reading::of_request))]
+// Only a body of the joint messages is decoded, as no other gives addresses.
+fn of_message(m: Message, body: &[u8]) -> Addresses
+    ensures { result ≡ of_request (decoded m body.now) body.now }
+{
+    let Message::Joint(kind) = m else {
+        return Addresses::empty(0);
+    };
+    match wire_decoding::decode_joint(kind, body) {
+        Some(q) => of_joint(q, body),
+        None => Addresses::empty(0),
+    }
+}
+
+#[tactic(auto, using(crate::proofs::Reading::by_number))]
 fn of_request(message: u32, body: &[u8]) -> Addresses
     ensures { result ≡ of_request (decoded (message_of message) body.now) body.now }
 {
-    let row = wire_frame::row_of(message);
-    match wire_decoding::decode(row.kind, body) {
-        Request::Joint(q) => of_joint(q, body),
-        _ => Addresses::empty(0),
-    }
+    of_message(wire_frame::row_of(message).kind, body)
 }
 
 // The addresses of any bytes: none where they are no well-framed request that is a connect by TCP. No state and no login is judged.

@@ -2,7 +2,7 @@
 // What a request of each service comes to is kept out of its callers: inlined, their frames add up on the stack.
 #![tactic(auto)]
 
-ghost use Rattle.std.specs.Prelude.{◌≡◌, false, List, [], ℕ, length, eqb};
+ghost use Rattle.std.specs.Prelude.{◌≡◌, ◌≤◌, false, List, [], ℕ, length, eqb};
 ghost use Rattle.codes.specs.Codes.{store_length};
 ghost use Rattle.codes.specs.Errors.{number_of};
 ghost use Rattle.xdr.specs.Choose.{choose};
@@ -19,8 +19,9 @@ ghost use Rattle.rules.specs.DataService.{data_step, data_shown};
 ghost use Rattle.rules.specs.TapeService.{tape_step, mover_part_step};
 ghost use Rattle.rules.specs.ScsiService.{scsi_step, scsi_shown};
 ghost use Rattle.rules.specs.Joint.{joint_step};
-ghost use Rattle.rules.specs.Connection.{connect_step};
-ghost use Rattle.rules.specs.Answer.{held, closing, replying, tape_part, with_data, with_part, with_tape, with_changer, with_login, with_ends, request_in, outcome, is_unread, settled, is_close, judged, answered};
+ghost use Rattle.rules.specs.Connection.{connect_step, config_step};
+ghost use Rattle.rules_parts.specs.Names.{least_room};
+ghost use Rattle.rules.specs.Answer.{held, Answered, halting, closing, replying, tape_part, with_data, with_part, with_tape, with_changer, with_login, with_ends, request_in, outcome, is_unread, settled, is_close, judged, answered};
 ghost use Rattle.rules.specs.Calls.{opening};
 ghost use Rattle.rules.specs.Served.{outcome_of};
 ghost use Rattle.call_sending.specs.Call.{CallTold, Ready};
@@ -34,7 +35,8 @@ use serve_changer::Accepted;
 use wire_frame::Unframed;
 use wire_replies::Reply;
 use wire_requests::{
-    ConnectRequest, DataRequest, JointRequest, MoverRequest, Request, ScsiRequest, TapeRequest,
+    ConfigRequest, ConnectRequest, DataRequest, JointRequest, MoverRequest, Request, ScsiRequest,
+    TapeRequest,
 };
 
 // What is lent with a request for its answer: the accounts, the challenge to give a client that asks for one, the list that a listen by TCP answers,
@@ -162,6 +164,18 @@ fn mover_call(
     }
 }
 
+// The notices of what halted behind a reply. Most requests halt nothing: then the answer goes back without a copy.
+#[inline(always)]
+fn with_halts(sent: Answer, time: u32, dwhy: u32, mwhy: u32, out: &mut [u8]) -> Answer
+    requires { (sent.len ≤ 35000) × (least_room ≤ length out.old) }
+    ensures { (a : Answered) (image variables l : List ℕ) → CallTold a sent image variables l out.old → CallTold (halting time dwhy mwhy a) result image variables l out.new }
+{
+    if dwhy == 0 && mwhy == 0 {
+        return sent;
+    }
+    call_sending::halts(sent, time, dwhy, mwhy, out)
+}
+
 // A joint request, and the notices of what halted: data first, mover second.
 #[inline(never)]
 fn joint_call(
@@ -180,7 +194,7 @@ fn joint_call(
             let ends = accepted.next;
             let session = s.with_source(ends.source).with_mover(ends.mover);
             let sent = call_sending::finish(session, input, time, accepted.reply, b"", out);
-            call_sending::halts(sent, time, ends.dwhy, ends.mwhy, out)
+            with_halts(sent, time, ends.dwhy, ends.mwhy, out)
         }
         Err(e) => call_sending::refuse(s, e.number(), input, time, out),
     }
@@ -228,6 +242,24 @@ fn connect_call(
     login_call(s, done, b"", input, time, out)
 }
 
+// CONFIG, whose reply may show the challenge that is given.
+#[inline(never)]
+fn config_call(
+    s: Session,
+    q: ConfigRequest,
+    challenge: &[u8; 64],
+    input: &[u8],
+    time: u32,
+    out: &mut [u8],
+) -> Answer
+    requires { Ready input.now out.old }
+    ensures { (image variables : List ℕ) → CallTold (settled (held s image variables) time input.now (Request.Config q) (onto (with_login (held s image variables) challenge.now) (config_step s.login challenge.now q))) result image variables out.old out.new }
+{
+    let judged = serve_connect::config(s.login, q);
+    let done = serve_connect::with_challenge(s.login, challenge, judged);
+    login_call(s, done, challenge, input, time, out)
+}
+
 // A record that is no request of any service, refused in the header.
 #[inline(never)]
 fn header_call(s: Session, error: NdmpError, input: &[u8], time: u32, out: &mut [u8]) -> Answer
@@ -260,10 +292,7 @@ fn serve_call(
     } = l;
     match q {
         Request::Connect(x) => connect_call(s, x, accounts, input, time, out),
-        Request::Config(x) => {
-            let done = serve_connect::config(s.login, challenge, x);
-            login_call(s, done, challenge, input, time, out)
-        }
+        Request::Config(x) => config_call(s, x, challenge, input, time, out),
         Request::Scsi(x) => scsi_call(s, x, input, time, out),
         Request::Tape(x) => tape_call(s, x, image, input, time, out),
         Request::Data(x) => data_call(s, x, addresses, variables, input, time, out),

@@ -1,12 +1,13 @@
 // The requests of CONNECT and CONFIG, and what asks for a login.
 #![tactic(auto)]
 
-ghost use Rattle.std.specs.Prelude.{◌≡◌};
+ghost use Rattle.std.specs.Prelude.{◌≡◌, List, ℕ};
 ghost use Rattle.wire_requests.specs.Within.{bytes_at, Within, texts_within};
 ghost use Rattle.wire_requests.specs.declared.Request.TheVariants as Request;
 ghost use Rattle.rules.specs.Connection.{connect_open, right_digest, client_auth, connect_step, auth_attributes, config_step};
 ghost use Rattle.rules.specs.Answer.{needs_login, is_locked, is_close};
 ghost use Rattle.rules.specs.Served.{outcome_of};
+ghost use Rattle.serve_connect.specs.Done.{changed, outcome_with};
 
 use codes::NdmpError;
 use rules::{Accepted, Served};
@@ -14,6 +15,25 @@ use rules_parts::types::Login;
 use wire_layouts::Text;
 use wire_replies::Reply;
 use wire_requests::{ConfigRequest, ConnectRequest, Request};
+
+// What a request of CONFIG changes of the login: nothing, or the challenge that it keeps. It holds none, so that a request can be judged with none at hand.
+#[derive(Clone, Copy, Debug, PartialEq, Eq)]
+pub enum LoginChange {
+    Nothing,
+    Challenged,
+}
+
+impl LoginChange {
+    // The login after it, with the challenge that was given.
+    pub fn of(self, g: Login, challenge: &[u8; 64]) -> Login
+        ensures { result ≡ changed g challenge.now self }
+    {
+        match self {
+            LoginChange::Nothing => g,
+            LoginChange::Challenged => g.challenged_by(challenge),
+        }
+    }
+}
 
 // CONNECT open, in a session that has answered no request yet, or has.
 #[tactic(auto, unfolding(xdr::specs::Choose::choose, rules::specs::Judge::judge, rules::specs::Connection::connect_open))]
@@ -84,35 +104,47 @@ pub fn serve(
 }
 
 // The attributes of an auth type: those of MD5 are the challenge, and every other type is refused.
-#[tactic(auto, unfolding(xdr::specs::Choose::choose, rules::specs::Connection::auth_attributes))]
-fn attributes(g: Login, challenge: &[u8; 64], auth: u32) -> Served<Login>
-    ensures { outcome_of result ≡ auth_attributes g challenge.now auth }
+#[tactic(auto, unfolding(xdr::specs::Choose::choose, rules::specs::Connection::auth_attributes, rules::specs::Judge::onto))]
+fn attributes(auth: u32) -> Served<LoginChange>
+    ensures { (g : Login) (challenge : List ℕ) → outcome_with g challenge result ≡ auth_attributes g challenge auth }
 {
     if auth != codes::MD5_AUTH {
         return Err(NdmpError::IllegalArguments);
     }
     Ok(Accepted {
         reply: Reply::Challenge,
-        next: g.challenged_by(challenge),
+        next: LoginChange::Challenged,
     })
 }
 
-// A request of CONFIG, with the challenge to give.
-#[tactic(auto, unfolding(rules::specs::Connection::config_step))]
-pub fn config(g: Login, challenge: &[u8; 64], q: ConfigRequest) -> Served<Login>
-    ensures { outcome_of result ≡ config_step g challenge.now q }
+// A request of CONFIG. It does not look at the challenge that it gives.
+#[tactic(auto, unfolding(rules::specs::Connection::config_step, rules::specs::Judge::onto))]
+pub fn config(g: Login, q: ConfigRequest) -> Served<LoginChange>
+    ensures { (challenge : List ℕ) → outcome_with g challenge result ≡ config_step g challenge q }
 {
     match q {
         ConfigRequest::ConnectionType => Ok(Accepted {
             reply: Reply::ConnectionTypes,
-            next: g,
+            next: LoginChange::Nothing,
         }),
-        ConfigRequest::AuthAttributes(auth) => attributes(g, challenge, auth),
+        ConfigRequest::AuthAttributes(auth) => attributes(auth),
         ConfigRequest::ServerInfo => Ok(Accepted {
             reply: Reply::ServerInfo(g.authorized),
-            next: g,
+            next: LoginChange::Nothing,
         }),
     }
+}
+
+// What a request of CONFIG came to, with the challenge that was lent.
+#[tactic(auto, unfolding(rules::specs::Judge::onto))]
+pub fn with_challenge(g: Login, challenge: &[u8; 64], done: Served<LoginChange>) -> Served<Login>
+    ensures { outcome_of result ≡ outcome_with g challenge.now done }
+{
+    let accepted = done?;
+    Ok(Accepted {
+        reply: accepted.reply,
+        next: accepted.next.of(g, challenge),
+    })
 }
 
 // Whether a request of CONNECT closes the session, and so gets no reply.

@@ -8,7 +8,7 @@ ghost use Rattle.rules_parts.specs.Names.{data_connect_error};
 ghost use Rattle.rules_parts.specs.Parts.{mover_partnered};
 ghost use Rattle.rules.specs.Judge.{test, accept, judge};
 ghost use Rattle.wire_replies.specs.declared.Reply.TheVariants.{Plain};
-ghost use Rattle.rules.specs.Joint.{joined, source_joined, mover_joins, halted, mover_alone, data_connect, mover_connect, at_rest, data_aborted, joint_step};
+ghost use Rattle.rules.specs.Joint.{joined, source_joined, mover_joins, halted, mover_alone, data_connect, mover_connect, at_rest, data_aborted, data_abort, mover_abort, mover_close, joint_step};
 ghost use Rattle.rules.specs.Served.{outcome_of};
 
 use codes::NdmpError;
@@ -155,6 +155,28 @@ fn data_aborted(d: Data, m: Mover) -> Ends
     }
 }
 
+// An abort or a close, which the state of its end may forbid.
+#[tactic(auto, unfolding(xdr::specs::Choose::choose, rules::specs::Judge::judge))]
+fn halt_unless(forbidden: bool, next: Ends) -> Served<Ends>
+    ensures { outcome_of result ≡ judge (test forbidden illegal_state ∷ []) (accept Plain next) }
+{
+    if forbidden {
+        return Err(NdmpError::IllegalState);
+    }
+    Ok(Accepted {
+        reply: Reply::Plain,
+        next,
+    })
+}
+
+#[tactic(auto, unfolding(rules::specs::Joint::data_abort))]
+fn data_abort(d: Data, m: Mover) -> Served<Ends>
+    ensures { outcome_of result ≡ data_abort d m }
+{
+    let resting = is_at_rest(d.state, Data::IDLE, Data::HALTED);
+    halt_unless(resting, data_aborted(d, m))
+}
+
 // The mover halted for a reason, and data with it where they are joined with each other.
 #[tactic(auto, unfolding(xdr::specs::Choose::choose))]
 fn mover_halted(why: u32, d: Data, m: Mover) -> Ends
@@ -171,39 +193,32 @@ fn mover_halted(why: u32, d: Data, m: Mover) -> Ends
     }
 }
 
-// An abort or a close, which the state of its end may forbid.
-#[tactic(auto, unfolding(xdr::specs::Choose::choose, rules::specs::Judge::judge))]
-fn halt_unless(forbidden: bool, next: Ends) -> Served<Ends>
-    ensures { outcome_of result ≡ judge (test forbidden illegal_state ∷ []) (accept Plain next) }
+#[tactic(auto, unfolding(rules::specs::Joint::mover_abort, rules::specs::Joint::mover_aborted))]
+fn mover_abort(d: Data, m: Mover) -> Served<Ends>
+    ensures { outcome_of result ≡ mover_abort d m }
 {
-    if forbidden {
-        return Err(NdmpError::IllegalState);
-    }
-    Ok(Accepted {
-        reply: Reply::Plain,
-        next,
-    })
+    let resting = is_at_rest(m.state, Mover::IDLE, Mover::HALTED);
+    halt_unless(resting, mover_halted(Mover::ABORTED, d, m))
+}
+
+#[tactic(auto, unfolding(rules::specs::Joint::mover_close, rules::specs::Joint::mover_closed))]
+fn mover_close(d: Data, m: Mover) -> Served<Ends>
+    ensures { outcome_of result ≡ mover_close d m }
+{
+    let unpaused = m.state != Mover::PAUSED;
+    halt_unless(unpaused, mover_halted(Mover::CONNECT_CLOSED, d, m))
 }
 
 // A joint request, and whether the connection of a connect by TCP was made.
-#[tactic(auto, unfolding(rules::specs::Joint::joint_step, rules::specs::Joint::data_abort, rules::specs::Joint::mover_abort, rules::specs::Joint::mover_aborted, rules::specs::Joint::mover_close, rules::specs::Joint::mover_closed))]
+#[tactic(auto, unfolding(rules::specs::Joint::joint_step))]
 pub fn serve(d: Data, m: Mover, t: Tape, q: JointRequest, made: bool) -> Served<Ends>
     ensures { outcome_of result ≡ joint_step d m t q made }
 {
     match q {
-        JointRequest::DataAbort => {
-            let resting = is_at_rest(d.state, Data::IDLE, Data::HALTED);
-            halt_unless(resting, data_aborted(d, m))
-        }
+        JointRequest::DataAbort => data_abort(d, m),
         JointRequest::DataConnect(address, count) => data_connect(d, m, t, address, count, made),
-        JointRequest::MoverAbort => {
-            let resting = is_at_rest(m.state, Mover::IDLE, Mover::HALTED);
-            halt_unless(resting, mover_halted(Mover::ABORTED, d, m))
-        }
-        JointRequest::MoverClose => {
-            let unpaused = m.state != Mover::PAUSED;
-            halt_unless(unpaused, mover_halted(Mover::CONNECT_CLOSED, d, m))
-        }
+        JointRequest::MoverAbort => mover_abort(d, m),
+        JointRequest::MoverClose => mover_close(d, m),
         JointRequest::MoverConnect(mode, address, count) => {
             mover_connect(d, m, t, mode, address, count, made)
         }

@@ -102,7 +102,8 @@ fn one_digest(body: &[u8], at: usize) -> Option<Seen>
     Some(Seen::Place(text, at + codes::DIGEST_LENGTH))
 }
 
-// A field of one part.
+// A field of one part. Inlined: where a part is only passed over, what it holds is then not made.
+#[inline(always)]
 fn one_part(part: Part, body: &[u8], at: usize) -> Option<Seen>
     ensures { result ≡ field_seen (field_at (one part) body.now at) }
 {
@@ -116,6 +117,7 @@ fn one_part(part: Part, body: &[u8], at: usize) -> Option<Seen>
 }
 
 // The offset after a field.
+#[inline(always)]
 #[tactic(auto, unfolding(wire_layouts::specs::Scans::after_seen))]
 fn past_field(seen: Seen) -> Option<usize>
     ensures { result ≡ after_seen seen }
@@ -133,7 +135,8 @@ fn part_at(part: Part, body: &[u8], at: usize) -> Option<usize>
     past_field(one_part(part, body, at)?)
 }
 
-// Passes over the parts of an element.
+// Passes over the parts of an element. Inlined, as the parts are constants where it is called.
+#[inline(always)]
 fn parts_at(parts: &[Part], body: &[u8], at: usize) -> Option<usize>
     ensures { result ≡ forget (parts_at parts.now body.now at) }
 {
@@ -174,7 +177,8 @@ fn list_at<F: Fn(usize) -> Option<usize>>(
     Some(Seen::Word(count, next))
 }
 
-// A counted list of at most so many elements of the same parts.
+// A counted list of at most so many elements of the same parts. Inlined, for the same reason.
+#[inline(always)]
 fn many_at(most: u32, parts: &[Part], body: &[u8], at: usize) -> Option<Seen>
     ensures { result ≡ field_seen (field_at (many most parts.now) body.now at) }
 {

@@ -17,8 +17,8 @@ finish-sent-requires c =
       accepted_says (λ (r : Reply) _. Sendable r []) _ _ _ c.in-Ok.ensures (joint_sends _ _ _ _ _),
     )
 
-pub halts-requires : goal.halts-requires
-halts-requires c = (omega (arith, c.finish-sent.ensures.0), omega (arith, c.requires.room))
+pub with_halts-requires : goal.with_halts-requires
+with_halts-requires c = (omega (arith, c.finish-sent.ensures.0), omega (arith, c.requires.room))
 
 pub returns-in-Err : goal.returns-in-Err
 unfolding is_unread
@@ -36,4 +36,4 @@ returns-in-Ok c =
     let k = held a.s image variables in
     let sent = rw (c.with_mover-session.ensures, c.with_source.ensures) at (c.finish-sent.ensures.1 image variables) in
     call_ended k a.time a.input.now (Request.Joint a.q) (with_ends k) (joint_step a.s.source a.s.mover a.s.tape a.q a.made) _ _
-    c.in-Ok.ensures (c.halts.ensures.1 _ image variables _ sent)
+    c.in-Ok.ensures (c.with_halts.ensures _ image variables _ sent)

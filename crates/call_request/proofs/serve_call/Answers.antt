@@ -1,23 +1,13 @@
-use Prim.Native.Nat.{◌≤◌}
-use lib.ListN.{length}
-use mathlib.Core.Path.{refl}
-use Rattle.codes.specs.Codes.{challenge_length}
 use Rattle.xdr.specs.Choose.{choose}
-use Rattle.wire_requests.specs.declared.Request.TheVariants as Request
 use Rattle.rules.specs.Answer.{outcome, is_close, settled, refusing, is_unread}
-use Rattle.rules.proofs.Sending.{config_sends}
-use borrow.Author.Rules.{rules}
 use Rattle.call_request.proofs.serve_call.Goals as goal
 
 pub connect_call-requires : goal.connect_call-requires
 connect_call-requires c = let c8 = c in
     (c8.requires.0, rw c.in-Connect.is at c8.requires.1)
 
-pub login_call-requires : goal.login_call-requires
-login_call-requires c = let st = c in
-    let challenge = st.args.l.challenge.now in
-    let whole : length challenge ≤ challenge_length = search rules in
-    (st.requires.0, rw c.config-done.ensures (config_sends _ challenge _ whole))
+pub config_call-requires : goal.config_call-requires
+config_call-requires c = c.requires.0
 
 pub scsi_call-requires : goal.scsi_call-requires
 scsi_call-requires c = let c8 = c in
@@ -59,12 +49,8 @@ unfolding outcome is_close choose
 returns-in-Connect c = rw c.in-Connect.is (c.connect_call.ensures _ _)
 
 pub returns-in-Config : goal.returns-in-Config
-unfolding outcome is_close is_unread choose
-returns-in-Config c = let c8 = c in
-    let a = c8.args in
-    rw c8.in-Config.is
-    (rw c.config-done.ensures at
-    (c.login_call.ensures a.image.now a.variables.now (Request.Config c8.in-Config.x) refl))
+unfolding outcome is_close choose
+returns-in-Config c = rw c.in-Config.is (c.config_call.ensures _ _)
 
 pub returns-in-Scsi : goal.returns-in-Scsi
 unfolding outcome is_close choose
