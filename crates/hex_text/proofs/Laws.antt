@@ -5,8 +5,8 @@ use native.Mathlib.Omega.{arith}
 use mathlib.Core.Bool.{true, false}
 use mathlib.Core.List.{List, [], ◌∷◌, ◌++◌, append_assoc, append-nil}
 use mathlib.Core.Path.{◌≡◌, refl, sym, ap, ◌∙◌}
-use lib.ListN.{length, take, set, length-set}
-use lib.Seq.{take-suc-set}
+use lib.ListN.{length, take, drop, get_or, set, length-set, drop_of_length-le}
+use lib.Seq.{drop-cons, take-suc-set}
 use borrow.Author.Tests.{eq-eqb, ne_eqb}
 use Rattle.std.specs.Prelude.{Some, None, Result, Ok, Err}
 use Rattle.xdr.specs.Choose.{choose}
@@ -168,6 +168,18 @@ module _ {text out left : List ℕ} {n room : ℕ} (r : Reading text room out le
                   r.so ∙ ap (put_before (take n out)) (ap (hex_held (room - n)) is ∙ at_two _ (byte_first (room - n) a b m e v p o))
                   ∙ after_both (take n out) (v ∷ []) (hex_held (room - n - 1) m) ∙ rw (z, add-one, take-suc-set out n v h);
             }
+
+-- ---- what is left of a text from a place on
+pub at_place : (text : List ℕ) (i : ℕ) → i < length text → drop i text ≡ get_or text i 0 ∷ drop (i + 1) text
+at_place text i h = rw add-one (drop-cons text i 0 h)
+
+pub at_next : (text : List ℕ) (i : ℕ) → i + 1 < length text → drop (i + 1) text ≡ get_or text (i + 1) 0 ∷ drop (i + 2) text
+at_next text i h =
+    let e : i + 2 ≡ i + 1 + 1 = omega arith in
+    rw e (at_place text (i + 1) h)
+
+pub none_left : (text : List ℕ) (i : ℕ) → length text ≤ i → length (drop i text) ≡ 0
+none_left text i h = rw (drop_of_length-le text h)
 
 -- the bytes that are handed on lie in the output
 pub reads_within : {text out : List ℕ} {room : ℕ} {r : Result ℕ HexError} (n : ℕ) → Reads text room out r → r ≡ Ok n → n ≤ room

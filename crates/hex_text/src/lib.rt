@@ -47,27 +47,26 @@ fn is_blank(c: u8) -> bool
 pub fn decode(text: &[u8], out: &mut [u8]) -> Result<usize, HexError>
     ensures { Reads text.now (length out.old) out.new result }
 {
-    let mut rest = text;
-    // `let .. else` twice: with `ok_or(..)?` the proof of what a text holds did not close.
-    // Counted here: not every turn of the walk writes a byte.
+    // An index, by hand: with `split_first`, or the text's iterator, a pair of digits takes up to twice as long.
+    let mut i = 0;
     let mut n = 0;
-    while let Some((&first, behind)) = rest.split_first() {
-        rest = behind;
-        if is_blank(first) {
-            continue;
+    while i < text.len() {
+        if is_blank(text[i]) {
+            i += 1;
+        } else {
+            if text.len() - i < 2 {
+                return Err(HexError::NotHex);
+            }
+            let Some(byte) = pair(text[i], text[i + 1]) else {
+                return Err(HexError::NotHex);
+            };
+            if n == out.len() {
+                return Err(HexError::NoRoom);
+            }
+            out[n] = byte;
+            n += 1;
+            i += 2;
         }
-        let Some((&second, behind)) = rest.split_first() else {
-            return Err(HexError::NotHex);
-        };
-        let Some(byte) = pair(first, second) else {
-            return Err(HexError::NotHex);
-        };
-        if n == out.len() {
-            return Err(HexError::NoRoom);
-        }
-        out[n] = byte;
-        n += 1;
-        rest = behind;
     }
     Ok(n)
 }
