@@ -47,7 +47,8 @@ fn is_blank(c: u8) -> bool
 pub fn decode(text: &[u8], out: &mut [u8]) -> Result<usize, HexError>
     ensures { Reads text.now (length out.old) out.new result }
 {
-    // An index, by hand: with `split_first`, or the text's iterator, a pair of digits takes up to twice as long.
+    // By an index: with `split_first`, or the text's iterator, run_requests takes 6 to 13 percent longer on a mebibyte of digits.
+    // `let .. else`: with `ok_or(..)?` the proof of what a text holds did not close.
     let mut i = 0;
     let mut n = 0;
     while i < text.len() {

@@ -16,7 +16,8 @@ use wire_layouts::Text;
 use wire_replies::Reply;
 use wire_requests::{ConfigRequest, ConnectRequest, Request};
 
-// What a request of CONFIG changes of the login: nothing, or the challenge that it keeps. It holds none, so that a request can be judged with none at hand.
+// What a request of CONFIG changes of the login: nothing, or the challenge that it keeps. It holds none, so that a request
+// can be judged with none at hand.
 #[derive(Clone, Copy, Debug, PartialEq, Eq)]
 pub enum LoginChange {
     Nothing,

@@ -13,7 +13,8 @@ loop-i-preserved-then-is_blank c =
 
 pub returns-then-text-i-lt2 : goal.returns-then-text-i-lt2
 returns-then-text-i-lt2 c =
-    half_read c.loop-i.invariant _ _ (at_place _ _ c.loop-i-test.true) (asked c.is_blank.ensures c.if-is_blank.false) (none_left c.args.text.now (c.loop-i.i + 1) (omega arith))
+    half_read c.loop-i.invariant _ _ (at_place _ _ c.loop-i-test.true) (asked c.is_blank.ensures c.if-is_blank.false)
+    (none_left c.args.text.now (c.loop-i.i + 1) (omega arith))
 
 pub returns-in_default : goal.returns-in_default
 returns-in_default c =
